@@ -125,6 +125,7 @@ class Trial(Checks):
             ("one byte", "not a till's book", b"x"),
             ("a note behind an empty line", "not a till's book", b"\nmilk, bread and cheese"),
             ("an opening of another program", "not a till's book", b"\n zvt journal 1, password"),
+            ("a first line without its end", "not a till's book", b"# zvt journal 1, currency 978"),
             ("an order of an entry that is none", "", journal().file()[:-1] + again + b"\n"),
             ("a line that is none", "", journal().file()[:-1] + b"pay 1\n\n"),
             ("a message that is none", "", journal().file()[:-1] + b"< 06D0\n\n"),

@@ -99,6 +99,7 @@ fn what_is_no_journal_is_left_as_it_is(rt: HostRuntime) -> Result<(), Fail> {
         b"\nmilk and bread".as_slice(),
         b"x",
         b"\n zvt journal 1, currency 12345",
+        b"# zvt journal 1, currency 978",
     ] {
         fs::write(&rt, path, note)?;
         let begun = open_file(alloc, path.as_bytes()).answer;

@@ -6,7 +6,9 @@ ghost use Rattle.zvt_journal.specs.Text.{IsSettled};
 use crate::assertions::assert_equal;
 use std::alloc::Global;
 use std::test::Fail;
-use zvt_journal::{Journal, Memory, Tear, is_record, lines_are_recovered, open, torn};
+use zvt_journal::{
+    Journal, Memory, Tear, is_record, lines_are_recovered, no_crash_is_refused, open, torn,
+};
 
 /// A file that a crash left while a second record was written after the closed gate.
 const STAGED: [u8; 9] = *b"!\n\n 0600\n";
@@ -123,6 +125,7 @@ fn each_tear_leaves_whole_records(rt: HostRuntime) -> Result<(), Fail> {
 #[test]
 fn records_are_recognised(rt: HostRuntime) -> Result<(), Fail> {
     lines_are_recovered();
+    no_crash_is_refused();
     assert!(rt; is_record(b"# pay 1234\n> 0601\n"));
     assert!(rt; !is_record(b""));
     assert!(rt; !is_record(b"\n"));

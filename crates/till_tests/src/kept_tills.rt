@@ -45,9 +45,15 @@ fn records_are_read_back(rt: HostRuntime) -> Result<(), Fail> {
     );
     let entries = read_records(alloc, text.bytes())?;
     let [
-        Entry::Order(Order::Register),
+        Entry::Order {
+            order: Order::Register,
+            ..
+        },
         Entry::Heard(message),
-        Entry::Order(Order::Reverse(2)),
+        Entry::Order {
+            order: Order::Reverse(2),
+            ..
+        },
         Entry::Lost,
     ] = entries.as_slice()
     else {
@@ -76,7 +82,14 @@ fn the_greatest_amount_and_a_long_message_are_read_back(rt: HostRuntime) -> Resu
     )?;
     put_heard(&mut text, &message, b"\x80\x00\x00")?;
     let entries = read_records(alloc, text.bytes())?;
-    let [Entry::Order(Order::Pay(paid)), Entry::Heard(heard)] = entries.as_slice() else {
+    let [
+        Entry::Order {
+            order: Order::Pay(paid),
+            ..
+        },
+        Entry::Heard(heard),
+    ] = entries.as_slice()
+    else {
         assert!(rt; false, "other entries");
         return Ok(());
     };
@@ -86,7 +99,7 @@ fn the_greatest_amount_and_a_long_message_are_read_back(rt: HostRuntime) -> Resu
 }
 
 #[test]
-fn notes_are_written_and_read_over(rt: HostRuntime) -> Result<(), Fail> {
+fn notes_are_written_and_read_back(rt: HostRuntime) -> Result<(), Fail> {
     let alloc = rt.alloc();
     let longest = [b'~'; MAX_REFERENCE_LEN];
     let notes = [
@@ -101,7 +114,17 @@ fn notes_are_written_and_read_over(rt: HostRuntime) -> Result<(), Fail> {
         let mut text = Text::new(alloc);
         put_order(&mut text, &Order::CloseDay, &note, b"")?;
         let entries = read_records(alloc, text.bytes())?;
-        assert!(rt; matches!(entries.as_slice(), [Entry::Order(Order::CloseDay)]));
+        let [
+            Entry::Order {
+                order: Order::CloseDay,
+                note: read,
+            },
+        ] = entries.as_slice()
+        else {
+            assert!(rt; false, "other entries");
+            return Ok(());
+        };
+        assert_equal(&rt, &read.words(), &note.words());
     }
     Ok(())
 }
@@ -234,9 +257,11 @@ fn a_book_is_recovered(rt: HostRuntime) -> Result<(), Fail> {
     let alloc = rt.alloc();
     let text =
         b"# zvt journal 1, currency 978\n!\n# register\n> 060006000000BE0978\n< 800000\n< 060F00\n> 800000\n\
-# pay 1234\n> 06010A04000000001234490978\n< 800000\n< 040F102700040000000012340B000017870005\n> 800000\n< 060F00\n> 800000\n\
+# pay 1234 at 2026-11-28T09:14:03Z ref A-1009\n> 06010A04000000001234490978\n< 800000\n\
+# cancel ref 2\n< 040F102700040000000012340B000017870005\n> 800000\n< 060F00\n> 800000\n\
 # pay 500\n> 06010A04000000000500490978\n< 800000\n";
-    let till = recover(alloc, &TillSettings::default(), text.as_slice())?;
+    let recovered = recover(alloc, &TillSettings::default(), text.as_slice())?;
+    let till = recovered.till;
     let [entry] = till.book() else {
         assert!(rt; false, "another book");
         return Ok(());
@@ -251,6 +276,14 @@ fn a_book_is_recovered(rt: HostRuntime) -> Result<(), Fail> {
     assert_equal(&rt, &amount.get(), &500);
     assert_equal(&rt, cause, &Cause::Line);
     assert!(rt; !till.line_up());
+    let ([booked], [unclear]) = (recovered.booked.as_slice(), recovered.unclear.as_slice()) else {
+        assert!(rt; false, "other notes");
+        return Ok(());
+    };
+    assert_equal(&rt, &booked.at(), &Some(b"2026-11-28T09:14:03Z".as_slice()));
+    assert_equal(&rt, &booked.reference(), &Some(b"A-1009".as_slice()));
+    assert_equal(&rt, &unclear.at(), &None);
+    assert_equal(&rt, &unclear.reference(), &None);
     Ok(())
 }
 

@@ -194,7 +194,8 @@ fn till_of(rt: &HostRuntime, text: &[u8]) -> Result<Till, RecoveryError> {
         currency,
         ..TillSettings::default()
     };
-    recover(rt.alloc(), &settings, text)
+    let recovered = recover(rt.alloc(), &settings, text)?;
+    Ok(recovered.till)
 }
 
 /// The currency that the first line of a book names. [`recover`] checks that line.

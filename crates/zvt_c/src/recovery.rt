@@ -37,8 +37,8 @@ fn recover_end(alloc: Global, end: &mut Session, text: &[u8]) -> ZvtAnswer
     ensures { RecoversEnd end.old text.now end.new result }
 {
     match recover(alloc, &settings(&end.till), text) {
-        Ok(till) => {
-            end.till = till;
+        Ok(recovered) => {
+            end.till = recovered.till;
             end.stream = Stream::new(alloc);
             bare(0)
         }

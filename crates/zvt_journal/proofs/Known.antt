@@ -1,11 +1,18 @@
 -- What a crash of an append leaves is a journal's file still.
-use Rattle.std.proofs.Common.{◌≡◌, ◌⊎◌, inl, inr, ⊎_elim, ℕ, zero, suc, ◌+◌, ◌≤◌, ◌<◌, Bool, true, false, ◌&&◌, ◌||◌, List, [], ◌∷◌, ◌++◌, length, get_or, take, drop, refl, ◌∙◌, ap, arith, length-drop}
+use Rattle.std.proofs.Common.{◌≡◌, ◌⊎◌, inl, inr, ⊎_elim, ℕ, zero, suc, ◌+◌, ◌≤◌, ◌<◌, Bool, true, false, ◌&&◌, ◌||◌, List, [], ◌∷◌, ◌++◌, length, get_or, take, drop, refl, sym, subst, ◌∙◌, ap, arith, length-drop, Vec}
+use Rattle.std.specs.Prelude.{◌==◌, if◌then◌else◌}
 use Rattle.std.proofs.lemmas.Bool.{false≢true}
+use Rattle.std.proofs.lemmas.Bool.Decides.{nat_tests}
 use Rattle.std.proofs.lemmas.List.{take-append-le, drop_all}
-use Rattle.zvt_journal.specs.Device.{Torn, Swapped}
-use Rattle.zvt_journal.specs.Files.{GoesOn, IsBegun, is_begun, IsKnown, IsNamed, is_opening_part, is_part, may_stand, opening_behind}
-use Rattle.zvt_journal.specs.Text.{at_rest, whole, IsRecord}
+use Rattle.std.specs.declared.alloc.Global.{Global}
+use Rattle.zvt_journal.specs.Device.{Cut, Torn, Swapped}
+use Rattle.zvt_journal.specs.Files.{BeginWithOpening, GoesOn, GoOn, IsBegun, is_begun, IsKnown, IsNamed, IsOpening, is_opening_part, is_part, may_stand, opening_behind}
+use Rattle.zvt_journal.specs.Opening.{NoneIsRefused}
+use Rattle.zvt_journal.specs.declared.error.JournalFileError.TheVariants.{InUse, Displaced, Folder, NotAFile, NotAJournal, RecordsBehind, TooMuchAfter, CutNotKept, FolderNotSynced, Io, Memory}
+use Rattle.zvt_journal.specs.Text.{at_rest, joined, recovered, whole, IsRecord}
 use Rattle.zvt_journal.proofs.Append.{following, staged}
+use Rattle.zvt_journal.proofs.Lines.{recovered_closed, recovered_whole}
+use Rattle.zvt_journal.proofs.Repair.{cut_keeps, torn_end}
 use Rattle.zvt_journal.proofs.Append as append
 
 long : (n : ℕ) (l : List ℕ) → length (take n l) ≡ n → n ≤ length l
@@ -22,6 +29,9 @@ named_then text rest named =
 both : (x y : Bool) → (x && y) ≡ true → (x ≡ true) × (y ≡ true)
 both true y is = (refl, is)
 both false y is = absurd (false≢true is)
+
+equal : (n m : ℕ) → (n == m) ≡ true → n ≡ m
+equal n m is = grind (arith, nat_tests)
 
 either : (x x' y y' : Bool) → (x ≡ true → x' ≡ true) → (y ≡ true → y' ≡ true) → (x || y) ≡ true → (x' || y') ≡ true
 either true x' y y' f g is = ap (λ (b : Bool). b || y') (f refl)
@@ -56,17 +66,19 @@ torn_opening part all le left is =
     (torn_part part all (opening_behind 3) le left))
     (torn_part part all (opening_behind 4) le left) is
 
-module _ (text entry : List ℕ) (on : GoesOn text entry) where
+-- ---- an append
+
+module _ (text entry : List ℕ) (on : GoesOn text entry) (is : whole 0 text ≡ length text) where
   pub known_at_rest : (file : List ℕ) → file ≡ at_rest text → IsKnown file
   known_at_rest file same = ⊎_elim
-      (λ named. inl (ap (take 15) same ∙ named_then text (10 ∷ []) named))
+      (λ named. inl (subst IsNamed (sym (ap recovered same ∙ recovered_closed text [] is)) named))
       (λ begins. inr (begun (same ∙ ap at_rest begins.0)))
       on
     where
       begun : file ≡ 10 ∷ [] → IsBegun file
       begun is = ap is_begun is
 
-  module _ (is : whole 0 text ≡ length text) (gate : ℕ) (at_gate : gate ≡ length text) where
+  module _ (gate : ℕ) (at_gate : gate ≡ length text) where
     pub known_torn : (bytes file : List ℕ) → bytes ≡ following entry → Torn (gate + 1) bytes (at_rest text) file → IsKnown file
     known_torn bytes file bytes_are torn =
         let rest = append.length-at_rest text is gate at_gate in
@@ -76,19 +88,123 @@ module _ (text entry : List ℕ) (on : GoesOn text entry) where
         let none : drop (gate + 1) (at_rest text) ≡ [] = drop_all (gate + 1) (at_rest text) (omega (arith, rest)) in
         let left : Left tail bytes = λ i lt. ⊎_elim (λ new. inl new) (λ old. inr (old ∙ ap (λ (l : List ℕ). get_or l i 0) none)) (torn.each i lt) in
         ⊎_elim
-        (λ named. inl (ap (take 15) parted ∙ named_then text (10 ∷ tail) named))
+        (λ named. inl (subst IsNamed (sym (append.torn_after text is gate at_gate bytes file torn)) named))
         (λ begins. inr (ap is_begun (parted ∙ ap (λ (l : List ℕ). l ++ 10 ∷ tail) begins.0) ∙ torn_opening tail bytes short left (ap is_opening_part bytes_are ∙ begins.1.part)))
         on
 
     pub known_swapped : IsRecord entry → (file : List ℕ) → Swapped gate (get_or entry 0 0) (staged text entry) file → IsKnown file
     known_swapped good file swapped = ⊎_elim
         (λ same. ⊎_elim
-        (λ named. inl (ap (take 15) same ∙ named_then text (10 ∷ following entry) named))
+        (λ named. inl (subst IsNamed (sym (ap recovered same ∙ append.staged_whole text is gate at_gate entry)) named))
         (λ begins. inr (ap is_begun (same ∙ ap (λ (l : List ℕ). l ++ 10 ∷ following entry) begins.0) ∙ begins.1.part))
         on)
         (λ over. let is_open = append.opened text is gate at_gate entry good file over in
+        let more : recovered file ≡ text ++ entry = append.stands_for_more text is gate at_gate entry good file is_open in
         ⊎_elim
-        (λ named. inl (ap (take 15) is_open ∙ named_then (text ++ entry) (10 ∷ []) (named_then text entry named)))
-        (λ begins. inl (ap (take 15) (is_open ∙ ap (λ (l : List ℕ). at_rest (l ++ entry)) begins.0) ∙ named_then entry (10 ∷ []) begins.1.named))
+        (λ named. inl (subst IsNamed (sym more) (named_then text entry named)))
+        (λ begins. inl (subst IsNamed (sym (more ∙ ap (λ (l : List ℕ). l ++ entry) begins.0)) begins.1.named))
         on)
         swapped
+
+-- ---- records one after another
+
+pub known_before : (text : List ℕ) (entries : List (Vec ℕ Global)) → GoOn text entries → whole 0 text ≡ length text → (file : List ℕ) → file ≡ at_rest text → IsKnown file
+known_before text entries on is file same = ⊎_elim
+    (λ named. inl (subst IsNamed (sym (ap recovered same ∙ recovered_closed text [] is)) named))
+    (λ begins. inr (begun (same ∙ ap at_rest begins.0)))
+    on
+  where
+    begun : file ≡ 10 ∷ [] → IsBegun file
+    begun is = ap is_begun is
+
+-- what is there when the next record comes
+pub next_goes_on : (text now : List ℕ) (entries : List (Vec ℕ Global)) (i : ℕ) (item : List ℕ) (d : Vec ℕ Global) → now ≡ text ++ joined (take i entries) → i < length entries → item ≡ (get_or entries i d).items → GoOn text entries → GoesOn now item
+next_goes_on text now entries i item d now_is lt item_is on = ⊎_elim
+    (λ named. inl (subst IsNamed (sym now_is) (named_then text (joined (take i entries)) named)))
+    (λ begins. by_place entries i lt (now_is ∙ ap (λ (l : List ℕ). l ++ joined (take i entries)) begins.0) item_is begins.1)
+    on
+  where
+    by_place : (all : List (Vec ℕ Global)) (at : ℕ) → at < length all → now ≡ joined (take at all) → item ≡ (get_or all at d).items → BeginWithOpening all → GoesOn now item
+    by_place [] at lt is entry opens = absurd (omega (arith, lt))
+    by_place (first ∷ more) zero lt is entry opens = inr (is, subst IsOpening (sym entry) opens)
+    by_place (first ∷ more) (suc at) lt is entry opens = inl (subst IsNamed (sym is) (named_then first.items (joined (take at more)) opens.named))
+
+-- ---- opening
+
+first_part : (part wanted : List ℕ) (n : ℕ) → is_part part wanted ≡ true → is_part (take n part) wanted ≡ true
+first_part part wanted zero is = refl
+first_part [] wanted (suc n) is = refl
+first_part (byte ∷ part) [] (suc n) is = absurd (false≢true is)
+first_part (byte ∷ part) (first ∷ wanted) (suc n) is =
+    let parts = both (may_stand byte first) (is_part part wanted) is in
+    ap (λ (b : Bool). b && is_part (take n part) wanted) parts.0 ∙ first_part part wanted n parts.1
+
+first_opening : (all : List ℕ) (n : ℕ) → is_opening_part all ≡ true → is_opening_part (take n all) ≡ true
+first_opening all n is =
+    let Part = λ (digits : ℕ). is_part (take n all) (opening_behind digits) in
+    let All = λ (digits : ℕ). is_part all (opening_behind digits) in
+    let each = λ (digits : ℕ). first_part all (opening_behind digits) n in
+    either (All 1 || All 2 || All 3) (Part 1 || Part 2 || Part 3) (All 4) (Part 4)
+    (either (All 1 || All 2) (Part 1 || Part 2) (All 3) (Part 3)
+    (either (All 1) (Part 1) (All 2) (Part 2) (each 1) (each 2))
+    (each 3))
+    (each 4) is
+
+-- a file that begins with another byte than a gate is one byte 0
+alone : (byte next : ℕ) (rest : List ℕ) → (byte == 0 && length (next ∷ rest) == 0) ≡ true → ⊥
+alone byte next rest is = let none : length (next ∷ rest) ≡ 0 = equal (length (next ∷ rest)) 0 (both (byte == 0) (length (next ∷ rest) == 0) is).1 in absurd (omega (arith, none))
+
+abbrev begun_by : (gate : Bool) → (byte : ℕ) → (rest : List ℕ) → Bool
+begun_by gate byte rest = if gate then is_opening_part rest else byte == 0 && length rest == 0
+
+part_first : (gate : Bool) (byte : ℕ) (rest : List ℕ) (n : ℕ) → begun_by gate byte rest ≡ true → begun_by gate byte (take n rest) ≡ true
+part_first true byte rest n is = first_opening rest n is
+part_first false byte [] zero is = is
+part_first false byte [] (suc n) is = is
+part_first false byte (next ∷ rest) n is = absurd (alone byte next rest is)
+
+begun_first : (file : List ℕ) (n : ℕ) → is_begun file ≡ true → is_begun (take n file) ≡ true
+begun_first file zero is = refl
+begun_first [] (suc n) is = refl
+begun_first (byte ∷ rest) (suc n) is = part_first (byte == 10) byte rest n is
+
+whole_by : (gate : Bool) (byte : ℕ) (rest : List ℕ) → begun_by gate byte rest ≡ true → (if gate then 0 else whole 1 rest) ≡ 0
+whole_by true byte rest is = refl
+whole_by false byte [] is = refl
+whole_by false byte (next ∷ rest) is = absurd (alone byte next rest is)
+
+begun_text : (file : List ℕ) → is_begun file ≡ true → recovered file ≡ []
+begun_text [] is = refl
+begun_text (byte ∷ rest) is = ap (λ (n : ℕ). take n (byte ∷ rest)) (whole_by (byte == 10) byte rest is)
+
+pub known_cut : (file left : List ℕ) → IsKnown file → Cut (whole 0 file) file left → IsKnown left
+known_cut file left known cut = ⊎_elim
+    (λ named. inl (subst IsNamed (sym (cut_keeps file left cut)) named))
+    (λ begun. inr (subst (λ (l : List ℕ). is_begun l ≡ true) cut.prefix (begun_first file (length left) begun)))
+    known
+
+one_byte : (left : List ℕ) → Torn 0 (10 ∷ []) [] left → is_begun left ≡ true
+one_byte [] torn = refl
+one_byte (byte ∷ []) torn = ⊎_elim (λ (new : byte ≡ 10). ap (λ (b : ℕ). is_begun (b ∷ [])) new) (λ (old : byte ≡ 0). ap (λ (b : ℕ). is_begun (b ∷ [])) old) (torn.each 0 (omega arith))
+one_byte (byte ∷ next ∷ left) torn = absurd (omega (arith, torn.no_longer))
+
+pub known_gate : (file left : List ℕ) → IsKnown file → Torn (length (recovered file)) (10 ∷ []) (recovered file) left → IsKnown left
+known_gate file left known torn = ⊎_elim
+    (λ named. inl (subst IsNamed (sym (torn_end (recovered file) (recovered_whole file) left torn)) named))
+    (λ begun. inr (one_byte left (subst (λ (l : List ℕ). Torn (length l) (10 ∷ []) l left) (begun_text file begun) torn)))
+    known
+
+-- ---- what a crash leaves is opened
+
+pub none_is_refused : NoneIsRefused
+none_is_refused file NotAJournal known repairable refused = refused known
+none_is_refused file (RecordsBehind line records) known repairable refused = refused.2 repairable.no_line
+none_is_refused file (TooMuchAfter count) known repairable refused = refused.1 repairable.few
+none_is_refused file InUse known repairable refused = refused
+none_is_refused file Displaced known repairable refused = refused
+none_is_refused file Folder known repairable refused = refused
+none_is_refused file NotAFile known repairable refused = refused
+none_is_refused file (CutNotKept error) known repairable refused = refused
+none_is_refused file (FolderNotSynced error) known repairable refused = refused
+none_is_refused file (Io error) known repairable refused = refused
+none_is_refused file Memory known repairable refused = refused

@@ -1,5 +1,6 @@
 -- What a journal's file may hold.
-use Rattle.std.specs.Prelude.{◌≡◌, ◌⊎◌, ◌≤◌, ◌+◌, ◌-◌, ◌^◌, ℕ, List, [], ◌∷◌, length, take, drop, codes, ◌==◌, ◌&&◌, ◌||◌, ◌++◌, nat_le, replicate, not, Bool, true, false, if◌then◌else◌}
+use Rattle.std.specs.Prelude.{◌≡◌, ◌⊎◌, ◌≤◌, ◌+◌, ◌-◌, ◌^◌, ℕ, List, [], ◌∷◌, length, take, drop, codes, ◌==◌, ◌&&◌, ◌||◌, ◌++◌, nat_le, replicate, not, Bool, true, false, if◌then◌else◌, Vec}
+use Rattle.std.specs.declared.alloc.Global.{Global}
 use Rattle.zvt_journal.specs.declared.file.FileDevice.{FileDevice}
 use Rattle.zvt_journal.specs.Calls.{seen_after, may_leave_after}
 use Rattle.zvt_journal.specs.Text.{begins_marked, is_mark, recovered, whole}
@@ -42,9 +43,13 @@ is_begun (byte ∷ rest) = if byte == 10 then is_opening_part rest else byte == 
 abbrev pub IsBegun : List ℕ → Type 0
 IsBegun file = is_begun file ≡ true
 
--- opening takes the file for a journal's
+-- Opening takes the file for a journal's: its first whole line names the format, or it has no record yet.
 abbrev pub IsKnown : List ℕ → Type 0
-IsKnown file = IsNamed file ⊎ IsBegun file
+IsKnown file = IsNamed (recovered file) ⊎ IsBegun file
+
+-- the file is one that might have been left before, or it is known
+abbrev pub IsKnownAsBefore : (List ℕ → Type 0) → List ℕ → Type 0
+IsKnownAsBefore might_leave file = might_leave file ⊎ IsKnown file
 
 -- the first record: a line that names the format and a currency
 pub record IsOpening (entry : List ℕ) : Type 0 where
@@ -54,6 +59,15 @@ pub record IsOpening (entry : List ℕ) : Type 0 where
 -- the record goes behind others of a journal, or it is the opening of a new one
 abbrev pub GoesOn : (text entry : List ℕ) → Type 0
 GoesOn text entry = IsNamed text ⊎ ((text ≡ []) × IsOpening entry)
+
+-- the first of these records, if there is one, is the opening of a journal
+abbrev pub BeginWithOpening : List (Vec ℕ Global) → Type 0
+BeginWithOpening [] = Unit {0}
+BeginWithOpening (entry ∷ entries) = IsOpening entry.items
+
+-- the records go behind others of a journal, or the first of them is the opening of a new one
+abbrev pub GoOn : (text : List ℕ) → List (Vec ℕ Global) → Type 0
+GoOn text entries = IsNamed text ⊎ ((text ≡ []) × BeginWithOpening entries)
 
 -- the bytes after a closed gate, or all of them where they begin with none
 abbrev pub after_gate : List ℕ → List ℕ

@@ -6,7 +6,7 @@ use Rattle.zvt_journal.specs.declared.call.Step.TheVariants.{Made, Found, Locked
 use Rattle.zvt_journal.specs.declared.error.JournalFileError.{JournalFileError}
 use Rattle.zvt_journal.specs.declared.error.JournalFileError.TheVariants.{InUse, Folder, NotAFile, NotAJournal, RecordsBehind, TooMuchAfter, CutNotKept, FolderNotSynced, Io, Memory}
 use Rattle.zvt_journal.specs.Calls.{Event, failed_among}
-use Rattle.zvt_journal.specs.Files.{IsNamed, IsBegun, IsRepairable, HasFewAfter, HasNoLineBehind, behind_gate, gate_line, records_behind}
+use Rattle.zvt_journal.specs.Files.{IsKnown, IsRepairable, HasFewAfter, HasNoLineBehind, behind_gate, gate_line, records_behind}
 use Rattle.zvt_journal.specs.Text.{recovered, whole}
 
 -- the call that opened the file: it was made, or found
@@ -27,7 +27,7 @@ calls_to_open path created bytes =
 
 -- a journal's file may hold these bytes
 pub record IsAccepted (bytes : List ℕ) : Type 0 where
-  pub known : IsNamed bytes ⊎ IsBegun bytes
+  pub known : IsKnown bytes
   pub repairable : IsRepairable bytes
 
 -- the journal's file of this name was opened by these calls, whose records are the text
@@ -80,10 +80,14 @@ IsOfFolder other = ⊥
 
 -- these bytes are refused for that: they are of no journal, or a crash leaves no such file
 abbrev pub IsRefusedFor : JournalFileError → List ℕ → Type 0
-IsRefusedFor NotAJournal bytes = IsNamed bytes ⊎ IsBegun bytes → ⊥
+IsRefusedFor NotAJournal bytes = IsKnown bytes → ⊥
 IsRefusedFor (RecordsBehind line records) bytes = (line ≡ gate_line bytes) × (records ≡ records_behind bytes) × (HasNoLineBehind bytes → ⊥)
 IsRefusedFor (TooMuchAfter count) bytes = (count ≡ length bytes - whole 0 bytes) × (HasFewAfter bytes → ⊥)
 IsRefusedFor other bytes = ⊥
+
+-- A file that is known and repairable is refused for nothing that it holds.
+abbrev pub NoneIsRefused : Type 0
+NoneIsRefused = (file : List ℕ) (error : JournalFileError) → IsKnown file → IsRepairable file → IsRefusedFor error file → ⊥
 
 -- The cause of an error. Nothing is said of memory, which may always be refused.
 abbrev pub WhyRefused : JournalFileError → List Event → Type 0

@@ -10,7 +10,7 @@ use crate::journal::{LINE_FEED, MAX_RECORD_LEN, begins_marked, whole_lines};
 /// The beginning of a journal's first line.
 const FORMAT: [u8; 15] = *b"# zvt journal 1";
 
-/// Whether the first line names the format.
+/// Whether the text begins with a line that names the format.
 fn is_named(bytes: &[u8]) -> bool
     ensures { IsTrue result ↔ IsNamed bytes.now }
 {
@@ -67,10 +67,10 @@ pub(crate) fn accepted_lines(bytes: &[u8]) -> Result<usize, JournalFileError>
     ensures accepted { IfOk result (λ _. IsAccepted bytes.now) }
     ensures refused { IfErr result (λ error. IsRefusedFor error bytes.now) }
 {
-    if !is_named(bytes) && !is_begun(bytes) {
+    let end = whole_lines(bytes);
+    if !is_named(&bytes[..end]) && !is_begun(bytes) {
         return Err(JournalFileError::NotAJournal);
     }
-    let end = whole_lines(bytes);
     let left = to_cut(bytes, end);
     if begins_marked(left) {
         return Err(JournalFileError::RecordsBehind {

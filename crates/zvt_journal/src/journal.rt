@@ -1,7 +1,8 @@
 //! Records of text lines, and the gate that makes each of them count at once.
 ghost use Rattle.std.specs.Prelude.{◌≡◌, true, All, ◌↔◌, ◌⊎◌, ◌+◌, ◌<◌, ◌≤◌, ◌^◌, ◌++◌, [], ◌∷◌, List, ℕ, get_or, length, drop, IfOk, OnErr, OnOk, IsErrOf, IsTrue};
 ghost use Rattle.zvt_journal.specs.Device.{Only, LeavesOnly};
-ghost use Rattle.zvt_journal.specs.Files.{GoesOn, IsKnown, IsRepairable, IsRepairableAsBefore};
+ghost use Rattle.zvt_journal.specs.Files.{GoOn, GoesOn, IsKnown, IsKnownAsBefore, IsRepairable, IsRepairableAsBefore};
+ghost use Rattle.zvt_journal.specs.Opening.{NoneIsRefused};
 ghost use Rattle.zvt_journal.specs.Text.{whole, begins_marked, recovered, IsRecord, IsSettled, IsWithOrWithout, IsAsBefore, joined, HasFirst, LinesAreRecovered, RecoveredIsLines};
 
 use crate::durable::{cut_synced, reserve_for, set_synced, write_synced};
@@ -107,6 +108,7 @@ impl<D: Device> Journal<D> {
         ensures any_moment { LeavesOnly D.moment D.left_since self.old.device self.new.device
             (HasFirst (recovered (D.seen self.old.device)) entries.now) }
         ensures repairable { LeavesOnly D.moment D.left_since self.old.device self.new.device IsRepairable }
+        ensures known { GoOn (recovered (D.seen self.old.device)) entries.now → LeavesOnly D.moment D.left_since self.old.device self.new.device IsKnown }
 
         ensures failed { IsErrOf result DeviceError.Failed → D.faults self.old.device < D.faults self.new.device }
         ensures full { IsErrOf result DeviceError.Full → (2 ^ 60 ≤ self.new.gate) ⊎ (All (λ entry. length entry.items ≤ 2 ^ 18) entries.now → ⊥) }
@@ -147,6 +149,8 @@ pub fn open<D: Device>(device: &mut D, mut bytes: Vec<u8>) -> Result<Vec<u8>, De
     // Nor does it leave a file that opening refuses, if it was given none.
     ensures repairable { IsRepairable (D.seen device.old) → LeavesOnly D.moment D.left_since device.old device.new
         (IsRepairableAsBefore (D.may_leave device.old)) }
+    ensures known { IsKnown (D.seen device.old) → LeavesOnly D.moment D.left_since device.old device.new
+        (IsKnownAsBefore (D.may_leave device.old)) }
 
     ensures failed { IsErrOf result DeviceError.Failed → D.faults device.old < D.faults device.new }
     ensures full { IsErrOf result DeviceError.Full → ⊥ }
@@ -186,6 +190,12 @@ pub fn lines_are_recovered()
     ensures lines { LinesAreRecovered }
     ensures converse { RecoveredIsLines }
     ensures again { (file : List ℕ) → recovered (recovered file) ≡ recovered file }
+{}
+
+/// No crash of an append, of several, or of [`open`] leaves a file that opening refuses. By the clauses `known` and
+/// `repairable` of these calls a file that a crash leaves is known and repairable.
+pub fn no_crash_is_refused()
+    ensures { NoneIsRefused }
 {}
 
 /// Whether the text begins as a line of a till's record does.

@@ -25,6 +25,8 @@ pub use create::{Noted, Opened, open_file, read_book};
 pub use device::{Device, DeviceError};
 pub use error::JournalFileError;
 pub use file::{FileDevice, FileFailure, a_read_may_be_left};
-pub use journal::{Journal, MAX_RECORD_LEN, is_record, lines_are_recovered, open};
+pub use journal::{
+    Journal, MAX_RECORD_LEN, is_record, lines_are_recovered, no_crash_is_refused, open,
+};
 pub use memory::Memory;
 pub use tears::{Tear, torn};

@@ -17,6 +17,7 @@ use Rattle.zvt_kept.proofs.LineLemmas.{IsPlain, lines_append, lines_plain, plain
 use Rattle.zvt_kept.proofs.Numbers.{decimal_plain}
 use Rattle.zvt_kept.specs.Checks.{are_right, check_of, check_sign, checked, is_right, last_record, right_after, then_line, is_sent}
 use Rattle.zvt_kept.proofs.CheckLemmas.{and_true, check_plain, right_append, same_bytes, texts_append}
+use Rattle.zvt_kept.proofs.OpeningLemmas.{opens}
 use Rattle.zvt_kept.proofs.ReadLines.{kept_right, meanings_append, right_kept}
 use Rattle.zvt_kept.proofs.WordLemmas.{both_plain, order_back, order_reserved, word_plain, words_plain}
 
@@ -130,16 +131,16 @@ made_checked kept line pieces text plain all unsent plainly means unchecked begi
 order_plainly : (order : Order) (note : List ℕ) → is_note note ≡ true → is_remark (order_body order note) ≡ false
 order_plainly order note noted = rw (order_reserved order note noted) refl
 
-order_means : (order : Order) (note : List ℕ) → IsSpelledOrder order → is_note note ≡ true → meaning (order_body order note) ≡ Some (ordered order ∷ [])
-order_means order note spelled noted = rw (order_reserved order note noted) (ap (λ (o : Option Order). ordered_by o (noted_words order note)) (order_back order note spelled noted))
+order_means : (order : Order) (note : List ℕ) → IsSpelledOrder order → is_note note ≡ true → meaning (order_body order note) ≡ Some (ordered order note ∷ [])
+order_means order note spelled noted = rw (order_reserved order note noted) (ap (λ (o : Option Kept). ordered_by o (noted_words order note)) (order_back order note spelled noted))
 
-made_order : (order : Order) (text : List ℕ) → IsOrderRecord order text → IsMade (ordered order ∷ []) text
-made_order order text is =
+made_order : (order : Order) (note text : List ℕ) → IsOrderRecord order note text → IsMade (ordered order note ∷ []) text
+made_order order note text is =
     let pieces = one_piece is.sent is.bytes in
-    let line : IsPlain (order_body order is.note) = record { some = omega arith; plain = both_plain (codes "# ") (noted_words order is.note) (word_plain (codes "# ") refl) (words_plain order is.note is.spelled is.noted) } in
-    made_checked (ordered order ∷ []) (order_body order is.note) (one_or_none is.sent) text line pieces
-    refl (order_plainly order is.note is.noted) (order_means order is.note is.spelled is.noted) (λ before. refl) (λ before. refl)
-    (is.is ∙ ap checked (first_text (order_body order is.note) (one_or_none is.sent))) refl
+    let line : IsPlain (order_body order note) = record { some = omega arith; plain = both_plain (codes "# ") (noted_words order note) (word_plain (codes "# ") refl) (words_plain order note is.spelled is.noted) } in
+    made_checked (ordered order note ∷ []) (order_body order note) (one_or_none is.sent) text line pieces
+    refl (order_plainly order note is.noted) (order_means order note is.spelled is.noted) (λ before. refl) (λ before. refl)
+    (is.is ∙ ap checked (first_text (order_body order note) (one_or_none is.sent))) refl
 
 made_heard : (message text : List ℕ) → IsHeardRecord message text → IsMade (heard message ∷ []) text
 made_heard message text is =
@@ -153,7 +154,7 @@ made_lost text is =
     made_checked (lost ∷ []) (codes "!") [] text line (All-nil IsPiece) refl refl refl (λ before. refl) (λ before. refl) is refl
 
 made : (one : Kept) (text : List ℕ) → IsRecordOf one text → IsMade (one ∷ []) text
-made (ordered order) text is = made_order order text is
+made (ordered order note) text is = made_order order note text is
 made (heard message) text is = made_heard message text is
 made lost text is = made_lost text is
 
@@ -227,4 +228,4 @@ records_are_taken one added m = made_record (one ∷ []) added (made one added m
 pub opening_is_taken : OpeningIsTaken
 opening_is_taken currency fits =
     let m = opening_made currency fits in
-    (made_kept [] (opening currency) m, made_record [] (opening currency) m)
+    (made_kept [] (opening currency) m, made_record [] (opening currency) m, opens currency fits)

@@ -1,22 +1,22 @@
 -- Notes: their words, and how they are read.
-use Rattle.std.proofs.Common.{◌≡◌, ◌⊎◌, ⊎_elim, inl, inr, ℕ, ◌<◌, ◌≤◌, ◌&&◌, Bool, true, false, cond, suc, nat_lt, nat_le, List, [], ◌∷◌, ◌++◌, All, length, take, drop, Option, Some, None, refl, ap, sym, subst, ◌∙◌, arith, length-append}
+use Rattle.std.proofs.Common.{◌≡◌, ◌⊎◌, ⊎_elim, inl, inr, ℕ, ◌<◌, ◌≤◌, ◌&&◌, Bool, true, false, cond, suc, nat_lt, nat_le, List, [], ◌∷◌, ◌++◌, All, length, take, drop, Option, Some, None, Result, Ok, Err, IsOk, OnOk, refl, ap, sym, subst, ◌∙◌, arith, length-append, length-take}
 use Rattle.std.specs.Prelude.{codes, ◌==◌}
 use Rattle.std.specs.Char.{is_ascii_digit, is_ascii_graphic}
 use Rattle.std.specs.List.{list_all}
 use Rattle.std.specs.Str.{bytes_eq}
 use Rattle.std.proofs.Math.Seq.{take-append_seam}
-use Rattle.std.proofs.lemmas.Bool.{leb-true}
+use Rattle.std.proofs.lemmas.Bool.{false≢true, leb-true}
 use Rattle.std.proofs.lemmas.Bool.Decides.{nat_tests}
 use Rattle.std.proofs.lemmas.List.{take-append-drop}
 use Rattle.std.proofs.lemmas.List.Elements.{All-append, All-cons, All-nil, All-weaker}
 use Rattle.std.proofs.lemmas.List.Sums.{AllPass-from_list_all}
 use Rattle.std.proofs.lemmas.Slice.Eq.{bytes_eq-Decides}
 use Rattle.zvt_text.specs.Words.{is_count, trailing}
-use Rattle.zvt_kept.specs.Notes.{NoteRows, ends_so, fits, fits_if_some, fits_place, is_moment, is_note, is_note_behind, is_reference, is_reference_part, moment_form, keyed, note_words}
+use Rattle.zvt_kept.specs.Notes.{NoteRows, ends_so, fits, fits_if_some, fits_place, is_moment, is_note, is_note_behind, is_reference, is_reference_part, moment_form, keyed, note_words, at_in, reference_in}
 use Rattle.zvt_kept.specs.Records.{ends_word, word_size}
 
 rows : NoteRows
-rows = (refl, refl, refl, refl, refl, refl, refl, refl, refl, refl, refl)
+rows = (refl, refl, refl, refl, refl, refl, refl, refl, refl, refl, refl, refl, refl, refl, refl)
 
 pub both : (a b : Bool) → (a && b) ≡ true → (a ≡ true) × (b ≡ true)
 both true b is = (refl, is)
@@ -231,3 +231,39 @@ first_added at start one none added = added ∙ ap (λ l. l ++ keyed (codes " at
 
 pub both_added : (at reference : Option (List ℕ)) (start one two : List ℕ) → start ≡ [] → one ≡ start ++ keyed (codes " at ") at → two ≡ one ++ keyed (codes " ref ") reference → two ≡ note_words at reference
 both_added at reference start one two none first next = next ∙ ap (λ l. l ++ keyed (codes " ref ") reference) (first_added at start one none first)
+
+-- ---- the parts of a note
+
+-- behind the word for the time comes a whole time
+pub time_there : (words rest : List ℕ) → is_note words ≡ true → trailing (codes " at ") words ≡ Some rest → 20 ≤ length rest
+time_there words rest noted is =
+    let behind : is_note_behind words (Some rest) ≡ true = ap (is_note_behind words) (sym is) ∙ noted in
+    let fit = moment (take 20 rest) (both (is_moment (take 20 rest)) (is_reference_part (drop 20 rest)) behind).0 in
+    omega (arith, fit.size, length-take 20 rest)
+
+-- a note that is made has the time and the reference that it is made of
+pub time_back : (at reference : Option (List ℕ)) → (fits_if_some is_moment at && fits_if_some is_reference reference) ≡ true → at_in (note_words at reference) ≡ at
+time_back None None is = refl
+time_back None (Some text) is = refl
+time_back (Some text) reference is =
+    let fit = moment text (both (is_moment text) (fits_if_some is_reference reference) is).0 in
+    ap (λ n. Some (take n (text ++ keyed (codes " ref ") reference))) (sym fit.size) ∙ ap (λ t. Some t) (take-append_seam text (keyed (codes " ref ") reference))
+
+alone_back : (reference : Option (List ℕ)) → trailing (codes " ref ") (keyed (codes " ref ") reference) ≡ reference
+alone_back None = refl
+alone_back (Some text) = refl
+
+pub reference_back : (at reference : Option (List ℕ)) → (fits_if_some is_moment at && fits_if_some is_reference reference) ≡ true → reference_in (note_words at reference) ≡ reference
+reference_back None None is = refl
+reference_back None (Some text) is = refl
+reference_back (Some text) reference is =
+    let fit = moment text (both (is_moment text) (fits_if_some is_reference reference) is).0 in
+    let tail = keyed (codes " ref ") reference in
+    ap (λ n. trailing (codes " ref ") (drop n (text ++ tail))) (sym fit.size) ∙ ap (trailing (codes " ref ")) (drop_seam text tail) ∙ alone_back reference
+
+-- ---- a note that is read
+
+-- words that were added to none, for which there was room
+pub extended : {E : Type 0} (result : Result Unit E) (words before other : List ℕ) → IsOk result → OnOk result (words ≡ before ++ other) → before ≡ [] → words ≡ other
+extended (Ok done) words before other ok is none = is ∙ ap (λ (l : List ℕ). l ++ other) none
+extended (Err why) words before other ok is none = absurd (false≢true ok)

@@ -15,7 +15,7 @@ use Rattle.zvt_kept.specs.Records.{not_zero, number_of}
 digit_shown : (c : ℕ) → digit_value c < 10 → is_ascii_digit c ≡ true
 digit_shown c h = grind (arith, nat_tests)
 
-all_shown : (ds : List ℕ) → AllDigits 10 ds → list_all is_ascii_digit ds ≡ true
+pub all_shown : (ds : List ℕ) → AllDigits 10 ds → list_all is_ascii_digit ds ≡ true
 all_shown [] h = refl
 all_shown (c ∷ cs) h = rw (digit_shown c h.0, all_shown cs h.1) refl
 

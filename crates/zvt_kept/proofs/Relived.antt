@@ -54,14 +54,14 @@ some_is_none : (why : OrderRefusal) (found : Option OrderRefusal) → found ≡ 
 some_is_none why None is none = absurd cc
 some_is_none why (Some other) is none = absurd cc
 
-pub order_refused : (order : Order) (old new : TillState) (why : OrderRefusal) → refusal (facts_of old) order ≡ Some why → Relives false (ordered order) old new
-order_refused order old new why is settings log happened t happens k =
+pub order_refused : (order : Order) (note : List ℕ) (old new : TillState) (why : OrderRefusal) → refusal (facts_of old) order ≡ Some why → Relives false (ordered order note) old new
+order_refused order note old new why is settings log happened t happens k =
     let sent : IsLog settings (log ++ SentOut (sent_as settings.currency order) ∷ []) = subst (λ l. IsLog settings (log ++ l)) happens k in
     let none : refusal (facts_in log) order ≡ None = not_refused settings (facts_in log) order (last_follows settings [] log (SentOut (sent_as settings.currency order)) sent) in
     some_is_none why (refusal (facts_in log) order) (ap (λ f. refusal f order) (sym (ap facts_of t.1 ∙ steps_meet_log settings log t.0)) ∙ is) none
 
-pub order_taken : (order : Order) (old new : TillState) → refusal (facts_of old) order ≡ None → new ≡ accept old order → Relives true (ordered order) old new
-order_taken order old new none is settings log t up =
+pub order_taken : (order : Order) (note : List ℕ) (old new : TillState) → refusal (facts_of old) order ≡ None → new ≡ accept old order → Relives true (ordered order note) old new
+order_taken order note old new none is settings log t up =
     let sent = SentOut (sent_as settings.currency order) in
     let more = stands-more settings log old sent t (order_follows order old none settings log t) in
     (sent ∷ [], refl, subst (λ s. Stands settings (log ++ sent ∷ []) s) (step-order settings.currency old order ∙ sym is) more, ap (λ s. s.line_up) is ∙ stays order)

@@ -41,25 +41,27 @@ heard_alone_text = refl
 empty : kept_in [] ≡ Some []
 empty = refl
 
-payment : kept_in (codes "# pay 1234\n> 060100\n< 800000\n< 060F00\n> 800000\n") ≡ Some (ordered (Pay 1234) ∷ heard (128 ∷ 0 ∷ 0 ∷ []) ∷ heard (6 ∷ 15 ∷ 0 ∷ []) ∷ [])
+payment : kept_in (codes "# pay 1234\n> 060100\n< 800000\n< 060F00\n> 800000\n") ≡ Some (ordered (Pay 1234) [] ∷ heard (128 ∷ 0 ∷ 0 ∷ []) ∷ heard (6 ∷ 15 ∷ 0 ∷ []) ∷ [])
 unfolding hex_on_literals
 payment = refl
 
-reversal : kept_in (codes "# reverse 3\n> 063000\n< 800000\n") ≡ Some (ordered (Reverse 2) ∷ heard (128 ∷ 0 ∷ 0 ∷ []) ∷ [])
+reversal : kept_in (codes "# reverse 3\n> 063000\n< 800000\n") ≡ Some (ordered (Reverse 2) [] ∷ heard (128 ∷ 0 ∷ 0 ∷ []) ∷ [])
 unfolding hex_on_literals
 reversal = refl
 
 -- the connection is lost while an order runs, and the till registers again
-restart : kept_in (codes "# zvt journal 1, currency 978\n# register\n> 060000\n!\n# register\n> 060000\n# cancel\n# close\n") ≡ Some (ordered Register ∷ lost ∷ ordered Register ∷ ordered Cancel ∷ ordered CloseDay ∷ [])
+restart : kept_in (codes "# zvt journal 1, currency 978\n# register\n> 060000\n!\n# register\n> 060000\n# cancel\n# close\n") ≡ Some (ordered Register [] ∷ lost ∷ ordered Register [] ∷ ordered Cancel [] ∷ ordered CloseDay [] ∷ [])
 unfolding hex_on_literals
 restart = refl
 
 -- one carriage return before a line feed is no part of the line
-carriage_return : kept_in (codes "# pay 1234\r\n!\r\n") ≡ Some (ordered (Pay 1234) ∷ lost ∷ [])
+carriage_return : kept_in (codes "# pay 1234\r\n!\r\n") ≡ Some (ordered (Pay 1234) [] ∷ lost ∷ [])
 carriage_return = refl
 
--- notes mean nothing
-noted : kept_in (codes "# register at 2026-11-28T09:14:03Z\n# pay 1234 ref A-1009\n# reverse 3 at 2026-11-28T09:14:03Z ref 7\n# close ref x\n") ≡ Some (ordered Register ∷ ordered (Pay 1234) ∷ ordered (Reverse 2) ∷ ordered CloseDay ∷ [])
+-- an order has its note
+noted :
+    kept_in (codes "# register at 2026-11-28T09:14:03Z\n# pay 1234 ref A-1009\n# reverse 3 at 2026-11-28T09:14:03Z ref 7\n# close\n")
+    ≡ Some (ordered Register (codes " at 2026-11-28T09:14:03Z") ∷ ordered (Pay 1234) (codes " ref A-1009") ∷ ordered (Reverse 2) (codes " at 2026-11-28T09:14:03Z ref 7") ∷ ordered CloseDay [] ∷ [])
 noted = refl
 
 wrong_note : kept_in (codes "# pay 1234 ref two words\n") ≡ None
@@ -69,7 +71,7 @@ wrong_time : kept_in (codes "# pay 1234 at 2026-11-28\n") ≡ None
 wrong_time = refl
 
 -- a person's remarks mean nothing
-remarks : kept_in (codes "# cash drawer 2\n# pay 1234\n> 060100\n# payment by card\n!\n# \n") ≡ Some (ordered (Pay 1234) ∷ lost ∷ [])
+remarks : kept_in (codes "# cash drawer 2\n# pay 1234\n> 060100\n# payment by card\n!\n# \n") ≡ Some (ordered (Pay 1234) [] ∷ lost ∷ [])
 unfolding hex_on_literals
 remarks = refl
 

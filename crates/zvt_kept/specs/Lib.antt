@@ -9,4 +9,5 @@ pub mod Reading
 pub mod Records
 pub mod Recovery
 pub mod Remarks
+pub mod RowNotes
 pub mod Runs

@@ -11,7 +11,7 @@ use Rattle.zvt_kept.specs.Records.{Kept, ordered, heard, lost, kept_in, opening}
 
 -- What happened by one record. After a lost line a new one is up.
 abbrev pub Happens : (currency : ℕ) → Kept → List Happening → Type 0
-Happens currency (ordered order) happened = happened ≡ SentOut (sent_as currency order) ∷ []
+Happens currency (ordered order note) happened = happened ≡ SentOut (sent_as currency order) ∷ []
 Happens currency (heard bytes) happened = (message : Message) × ∥ Spells padded message bytes ∥₁ × (happened ≡ HeardIn (heard_as message) ∷ [])
 Happens currency lost happened = happened ≡ Lost ∷ Connected ∷ []
 

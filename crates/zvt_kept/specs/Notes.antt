@@ -1,5 +1,5 @@
 -- Notes: what the record of an order says beside the order. They mean nothing to a book.
-use Rattle.std.specs.Prelude.{◌≡◌, ◌==◌, ◌&&◌, true, Bool, false, ℕ, if◌then◌else◌, List, [], ◌∷◌, ◌++◌, codes, length, take, drop, Option, Some, None}
+use Rattle.std.specs.Prelude.{◌≡◌, ◌==◌, ◌&&◌, true, Bool, false, ℕ, if◌then◌else◌, List, [], ◌∷◌, ◌++◌, codes, length, take, drop, Option, Some, None, option_map}
 use Rattle.std.specs.Char.{is_ascii_digit, is_ascii_graphic}
 use Rattle.std.specs.List.{list_all}
 use Rattle.zvt_text.specs.Words.{is_count, trailing}
@@ -63,6 +63,20 @@ is_note_behind words (Some rest) = is_moment (take 20 rest) && is_reference_part
 abbrev pub is_note : List ℕ → Bool
 is_note words = is_note_behind words (trailing (codes " at ") words)
 
+-- ---- the parts of a note
+
+-- the time
+abbrev pub at_in : (note : List ℕ) → Option (List ℕ)
+at_in note = option_map (take 20) (trailing (codes " at ") note)
+
+abbrev pub behind_time : (note : List ℕ) → (behind_at : Option (List ℕ)) → List ℕ
+behind_time note None = note
+behind_time note (Some rest) = drop 20 rest
+
+-- the reference
+abbrev pub reference_in : (note : List ℕ) → Option (List ℕ)
+reference_in note = trailing (codes " ref ") (behind_time note (trailing (codes " at ") note))
+
 -- ---- worked rows
 
 abbrev pub NoteRows : Type 0
@@ -77,4 +91,8 @@ NoteRows =
     (is_note (codes " at 2026-11-28") ≡ false) ×
     (is_note (codes " ref A-1009 at 2026-11-28T09:14:03Z") ≡ false) ×
     (note_of (Some (codes "2026-11-28T09:14:03Z")) (Some (codes "A-1009")) ≡ Some (codes " at 2026-11-28T09:14:03Z ref A-1009")) ×
-    (note_of (Some (codes "today")) None ≡ None)
+    (note_of (Some (codes "today")) None ≡ None) ×
+    (at_in (codes " at 2026-11-28T09:14:03Z ref A-1009") ≡ Some (codes "2026-11-28T09:14:03Z")) ×
+    (reference_in (codes " at 2026-11-28T09:14:03Z ref A-1009") ≡ Some (codes "A-1009")) ×
+    (at_in (codes " ref A-1009") ≡ None) ×
+    (reference_in (codes " at 2026-11-28T09:14:03Z") ≡ None)

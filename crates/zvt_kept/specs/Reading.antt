@@ -14,7 +14,7 @@ use Rattle.zvt_kept.specs.declared.lines.RecordError.TheVariants.{Check, Line, M
 
 -- what an entry of the code stands for
 abbrev pub kept_of : Entry → Kept
-kept_of (entry.Order order) = ordered order
+kept_of (entry.Order order note) = ordered order note
 kept_of (entry.Heard message) = heard message.items
 kept_of entry.Lost = lost
 

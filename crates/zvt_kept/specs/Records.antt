@@ -9,12 +9,13 @@ use Rattle.zvt_text.specs.Words.{number_in, trailing}
 use Rattle.zvt_kept.specs.Notes.{is_note}
 use Rattle.zvt_till.specs.declared.orders.Order.{Order}
 use Rattle.zvt_till.specs.declared.orders.Order.TheVariants.{Register, Pay, Reverse, CloseDay, Cancel}
+use Rattle.zvt_journal.specs.Files.{IsOpening}
 use Rattle.zvt_journal.specs.Text.{recovered, IsRecord}
 use Rattle.zvt_kept.specs.Checks.{are_right, checked, is_sent}
 
 -- what a journal records
 pub data Kept : Type 0 where
-  ordered : (order : Order) → Kept
+  ordered : (order : Order) → (note : List ℕ) → Kept
   heard : (message : List ℕ) → Kept
   lost : Kept
 
@@ -90,9 +91,8 @@ pub record IsPiece (piece : List ℕ) : Type 0 where
   pub some : 0 < length piece
   pub bytes : IsBytes piece
 
--- a text is the record of an order
-pub record IsOrderRecord (order : Order) (text : List ℕ) : Type 0 where
-  pub note : List ℕ
+-- a text is the record of an order with this note
+pub record IsOrderRecord (order : Order) (note text : List ℕ) : Type 0 where
   pub sent : List ℕ
   pub bytes : IsBytes sent
   pub spelled : IsSpelledOrder order
@@ -108,7 +108,7 @@ pub record IsHeardRecord (message text : List ℕ) : Type 0 where
 
 -- a text is what is written for this
 abbrev pub IsRecordOf : Kept → List ℕ → Type 0
-IsRecordOf (ordered order) text = IsOrderRecord order text
+IsRecordOf (ordered order note) text = IsOrderRecord order note text
 IsRecordOf (heard message) text = IsHeardRecord message text
 IsRecordOf lost text = text ≡ lost_record
 
@@ -125,24 +125,31 @@ number_of digits = option_and_then not_zero (number_in 12 digits)
 abbrev pub word_size : List ℕ → ℕ
 word_size words = position_or_len (λ byte. byte == 32) words
 
--- an order, before a note
-abbrev pub plain : Order → (rest : List ℕ) → Option Order
-plain order rest = if is_note rest then Some order else None
+-- the first word and the note behind it
+abbrev pub noted_digits : (tail : List ℕ) → Option (List ℕ × List ℕ)
+noted_digits tail = if is_note (drop (word_size tail) tail) then Some (take (word_size tail) tail, drop (word_size tail) tail) else None
 
--- an order that has a number, before a note
-abbrev pub with_number : (ℕ → Order) → (tail : List ℕ) → Option Order
-with_number order tail = if is_note (drop (word_size tail) tail) then option_map order (number_of (take (word_size tail) tail)) else None
+-- an order, before its note
+abbrev pub plain : Order → (rest : List ℕ) → Option Kept
+plain order rest = if is_note rest then Some (ordered order rest) else None
 
-abbrev pub by_rest : Option (List ℕ) → (List ℕ → Option Order) → Option Order → Option Order
+-- an order that has a number, before its note
+abbrev pub with_number : (ℕ → Order) → (tail : List ℕ) → Option Kept
+with_number order tail =
+    if is_note (drop (word_size tail) tail)
+    then option_map (λ n. ordered (order n) (drop (word_size tail) tail)) (number_of (take (word_size tail) tail))
+    else None
+
+abbrev pub by_rest : Option (List ℕ) → (List ℕ → Option Kept) → Option Kept → Option Kept
 by_rest None found other = other
 by_rest (Some rest) found other = found rest
 
 -- by what comes behind this word, where the words begin with it
-abbrev pub by_word : (word words : List ℕ) → (List ℕ → Option Order) → (other : Option Order) → Option Order
+abbrev pub by_word : (word words : List ℕ) → (List ℕ → Option Kept) → (other : Option Kept) → Option Kept
 by_word word words found other = by_rest (trailing word words) found other
 
--- the order that words name, with a note behind it
-abbrev pub order_of : List ℕ → Option Order
+-- the order that words name, with the note behind it
+abbrev pub order_of : List ℕ → Option Kept
 order_of words =
     by_word (codes "register") words (plain Register)
     (by_word (codes "close") words (plain CloseDay)
@@ -154,9 +161,9 @@ order_of words =
 abbrev pub format_name : List ℕ
 format_name = codes "zvt journal 1"
 
-abbrev pub ordered_by : Option Order → (words : List ℕ) → Option (List Kept)
+abbrev pub ordered_by : Option Kept → (words : List ℕ) → Option (List Kept)
 ordered_by None words = option_map (λ rest. []) (trailing format_name words)
-ordered_by (Some order) words = Some (ordered order ∷ [])
+ordered_by (Some one) words = Some (one ∷ [])
 
 -- a check means nothing
 abbrev pub check : (after_sign : List ℕ) → Option (List Kept)
@@ -260,6 +267,6 @@ RecordsAreWhole = (text : List ℕ) (one : Kept) (added : List ℕ) → recovere
 abbrev pub RecordsAreTaken : Type 0
 RecordsAreTaken = (one : Kept) (added : List ℕ) → IsRecordOf one added → IsRecord added
 
--- The opening means nothing, and a journal takes it as a record.
+-- The opening means nothing, and a journal takes it as its first record: whenever a crash comes, it leaves a journal's file.
 abbrev pub OpeningIsTaken : Type 0
-OpeningIsTaken = (currency : ℕ) → currency ≤ 9999 → (kept_in (opening currency) ≡ Some []) × IsRecord (opening currency)
+OpeningIsTaken = (currency : ℕ) → currency ≤ 9999 → (kept_in (opening currency) ≡ Some []) × IsRecord (opening currency) × IsOpening (opening currency)

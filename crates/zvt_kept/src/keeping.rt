@@ -104,7 +104,7 @@ fn keep_order<D: Device>(
 ) -> Result<(), DeviceError>
     requires settled { IsSettled (D.seen journal.old.device) (D.may_leave journal.old.device) journal.old.gate }
     requires spelled { IsSpelledOrder order.now }
-    ensures recorded { Recorded D.seen D.may_leave D.moment D.left_since D.faults (ordered order.now) journal.old.device journal.new.device journal.old.gate journal.new.gate result }
+    ensures recorded { Recorded D.seen D.may_leave D.moment D.left_since D.faults (ordered order.now note.now) journal.old.device journal.new.device journal.old.gate journal.new.gate result }
     ensures noted { OnOk result (HasNoted D.seen order.now note.now journal.old.device journal.new.device) }
 {
     let mut buffer = [0; MAX_BRIEF_LEN];

@@ -3,7 +3,7 @@ ghost use Rattle.std.specs.Prelude.{◌≡◌};
 
 use crate::keeping::{keep_lost, keep_opening, take_message, take_order};
 use crate::note::Note;
-use crate::recovery::{RecoveryError, recover};
+use crate::recovery::{Recovered, RecoveryError, recover};
 use crate::refusal::KeptRefusal;
 use std::alloc::{AllocError, Global};
 use std::marker::Model;
@@ -107,7 +107,7 @@ impl<D: Device + Drop> KeptTill<D> {
         ensures whole { IfOk result (λ kept. kept.failure ≡ None) }
         ensures log { IfOk result (λ kept. (log : List Happening) → StandsFor settings.now.currency text.now log → Keeps (settings_of settings.now) log (D.seen device) (D.may_leave device) (length text.now) kept.standing.till.state) }
     {
-        let till = recover(alloc, settings, text)?;
+        let Recovered { till, .. } = recover(alloc, settings, text)?;
         let journal = Journal {
             alloc,
             device,

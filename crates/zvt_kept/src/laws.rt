@@ -15,7 +15,8 @@ pub fn records_are_kept()
     ensures taken { RecordsAreTaken }
 {}
 
-/// The opening of a journal means nothing, and a journal takes it as a record.
+/// The opening of a journal means nothing, and a journal takes it as its first record: a crash while it is appended leaves a
+/// file that opening takes.
 pub fn opening_is_taken()
     ensures { OpeningIsTaken }
 {}

@@ -127,8 +127,8 @@ fn comment(text: &[u8]) -> Meaning
     if !is_reserved(words) {
         return Meaning::Nothing;
     }
-    if let Some(order) = order_of(words) {
-        return Meaning::Kept(Entry::Order(order));
+    if let Some(entry) = order_of(words) {
+        return Meaning::Kept(entry);
     }
     match trailing(FORMAT_NAME, words) {
         Some(_) => Meaning::Nothing,

@@ -1,5 +1,5 @@
 //! Notes: what the record of an order says beside the order.
-ghost use Rattle.std.specs.Prelude.{◌≡◌, ◌≤◌, ◌+◌, ◌++◌, ◌&&◌, drop, length, option_map, take, true};
+ghost use Rattle.std.specs.Prelude.{◌≡◌, ◌≤◌, ◌+◌, ◌++◌, ◌&&◌, drop, if◌then◌else◌, length, option_map, take, true};
 ghost use Rattle.std.specs.Char.{is_ascii_graphic};
 ghost use Rattle.std.specs.List.{list_all};
 ghost use Rattle.zvt_kept.specs.Notes.{fits, fits_if_some, fits_place, is_moment, is_note, is_reference, is_reference_part, keyed};
@@ -32,8 +32,8 @@ impl Model for Note {
 }
 
 impl Note {
-    ghost use Rattle.std.specs.Prelude.{[]};
-    ghost use Rattle.zvt_kept.specs.Notes.{note_of};
+    ghost use Rattle.std.specs.Prelude.{[], IfSome, None, Some};
+    ghost use Rattle.zvt_kept.specs.Notes.{at_in, note_of, reference_in};
 
     /// A note that says nothing.
     pub fn none() -> Note
@@ -47,7 +47,9 @@ impl Note {
     /// The note with this time and this reference. It is `None` where the time is not of the form `2026-11-28T09:14:03Z`, or
     /// the reference is not 1 to 40 printable ASCII characters without a space.
     pub fn new(at: Option<&[u8]>, reference: Option<&[u8]>) -> Option<Note>
-        ensures { result ≡ note_of (option_map (λ text. text.now) at.entry) (option_map (λ text. text.now) reference.entry) }
+        ensures note { result ≡ note_of (option_map (λ text. text.now) at.entry) (option_map (λ text. text.now) reference.entry) }
+        ensures at { IfSome result (λ note. at_in note ≡ option_map (λ text. text.now) at.entry) }
+        ensures reference { IfSome result (λ note. reference_in note ≡ option_map (λ text. text.now) reference.entry) }
     {
         if !are_right(at, reference) {
             return None;
@@ -56,6 +58,52 @@ impl Note {
         add(&mut words, b" at ", at);
         add(&mut words, b" ref ", reference);
         Some(Note { words })
+    }
+
+    /// The note of these words, if they are one.
+    pub(crate) fn read(words: &[u8]) -> Option<Note>
+        ensures { result ≡ (if is_note words.now then Some words.now else None) }
+    {
+        if is_note(words) {
+            Some(Note::of(words))
+        } else {
+            None
+        }
+    }
+
+    /// The note of these words.
+    fn of(words: &[u8]) -> Note
+        requires { is_note words.now ≡ true }
+        ensures { result ≡ words.now }
+    {
+        let mut held = ArrayVec::new();
+        let _ = held.try_extend_from_slice(words);
+        Note { words: held }
+    }
+
+    /// The same note.
+    pub fn copied(&self) -> Note
+        ensures { result ≡ self.now }
+    {
+        Note::of(self.words())
+    }
+
+    /// Returns the time of the order, as in `2026-11-28T09:14:03Z`.
+    pub fn at(&self) -> Option<&[u8]>
+        ensures { option_map (λ text. text.now) result ≡ at_in self.now }
+    {
+        let rest = trailing(b" at ", self.words())?;
+        Some(&rest[..MOMENT_LEN])
+    }
+
+    /// Returns the caller's reference.
+    pub fn reference(&self) -> Option<&[u8]>
+        ensures { option_map (λ text. text.now) result ≡ reference_in self.now }
+    {
+        match trailing(b" at ", self.words()) {
+            Some(rest) => trailing(b" ref ", &rest[MOMENT_LEN..]),
+            None => trailing(b" ref ", self.words()),
+        }
     }
 
     /// Returns the words that follow the order's own in its record.

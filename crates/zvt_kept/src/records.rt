@@ -14,8 +14,8 @@ use zvt_till::Order;
 /// An entry of a journal.
 #[derive(Drop)]
 pub enum Entry {
-    /// An order of the till.
-    Order(Order),
+    /// An order of the till, and the note in its record.
+    Order { order: Order, note: Note },
     /// The bytes of one message of the terminal.
     Heard(Vec<u8>),
     /// The connection was lost.
@@ -37,7 +37,7 @@ pub fn put_opening(text: &mut Text, currency: Currency) -> Result<(), AllocError
 /// The bytes are written as they are given. So the caller puts 00 00 00 in the place of a password.
 pub fn put_order(text: &mut Text, order: &Order, note: &Note, sent: &[u8]) -> Result<(), AllocError>
     ensures written { Extends result text.old text.new (order_record order.now note.now sent.now) }
-    ensures kept { IsSpelledOrder order.now → IsRecordOf (ordered order.now) (order_record order.now note.now sent.now) }
+    ensures kept { IsSpelledOrder order.now → IsRecordOf (ordered order.now note.now) (order_record order.now note.now sent.now) }
     ensures few { length note.now ≤ 69 }
 {
     let start = text.size();

@@ -1,14 +1,17 @@
 //! The till of a journal's records.
-ghost use Rattle.std.specs.Prelude.{◌≡◌, ◌↔◌, IsTrue, IfOk};
+ghost use Rattle.std.specs.Prelude.{◌≡◌, ◌↔◌, ℕ, List, Err, IsTrue, IfOk, MatchResult, Ok};
 ghost use Rattle.zvt_kept.specs.Reading.{kept_of};
 ghost use Rattle.zvt_kept.specs.Logs.{HasOpening};
 ghost use Rattle.zvt_kept.specs.Records.{heard, ordered};
 ghost use Rattle.zvt_kept.specs.Recovery.{Recovers, Relives};
+ghost use Rattle.zvt_kept.specs.RowNotes.{HasNotes};
 ghost use Rattle.zvt_kept.specs.declared.recovery.RecoveryError.TheVariants.{Memory};
 ghost use Rattle.zvt_till.specs.Settings.{settings_of};
 
 use crate::lines::{RecordError, read_records};
+use crate::note::Note;
 use crate::records::{Entry, put_opening};
+use crate::row_notes::RowNotes;
 use std::alloc::{AllocError, Global};
 use thiserror::Error;
 use zvt_apdu::scan_loose;
@@ -47,13 +50,31 @@ impl From<AllocError> for RecoveryError {
     }
 }
 
+/// A till that was rebuilt from its journal, and the notes of its payments.
+#[derive(Drop)]
+pub struct Recovered {
+    /// The till, whose line is down.
+    pub till: Till,
+    /// The note of each payment of the till's book, in the order of the book.
+    pub booked: Vec<Note>,
+    /// The note of each unclear payment, in the order of [`Till::unclear`].
+    pub unclear: Vec<Note>,
+}
+
 /// Rebuilds a till from its journal by replaying the records and then losing the connection.
 ///
 /// Completed payments are in the book; a payment or reversal that was in progress is unclear. The till has to
 /// register on its next connection. `settings` must have the journal's currency, and supplies the password, which
 /// journals do not store.
-pub fn recover(alloc: Global, settings: &TillSettings, text: &[u8]) -> Result<Till, RecoveryError>
-    ensures { Recovers (settings_of settings.now) text.now result }
+///
+/// The note of a payment is that of its order's record. It says nothing where that record has none.
+pub fn recover(
+    alloc: Global,
+    settings: &TillSettings,
+    text: &[u8],
+) -> Result<Recovered, RecoveryError>
+    ensures till { MatchResult result (λ recovered. Recovers (settings_of settings.now) text.now (Ok recovered.till)) (λ why. Recovers (settings_of settings.now) text.now (Err why)) }
+    ensures notes { IfOk result (λ recovered. HasNotes (settings_of settings.now) text.now recovered.till.state recovered.booked.items recovered.unclear.items) }
 {
     if !has_opening(alloc, text, settings.currency)? {
         return Err(RecoveryError::Opening);
@@ -66,13 +87,21 @@ pub fn recover(alloc: Global, settings: &TillSettings, text: &[u8]) -> Result<Ti
     };
     let mut till = Till::new(alloc, settings.password, settings.config, settings.currency);
     till.connected();
+    let mut notes = RowNotes::new(alloc);
     for (at, entry) in entries.iter().enumerate() {
+        notes.hold(entry);
         if !relive(alloc, &mut till, entry)? {
             return Err(RecoveryError::Record { number: at + 1 });
         }
+        notes.follow(&till)?;
     }
     let _ = till.lost();
-    Ok(till)
+    notes.follow(&till)?;
+    Ok(Recovered {
+        till,
+        booked: notes.booked,
+        unclear: notes.unclear,
+    })
 }
 
 /// Whether the text begins with the first line of a journal of this currency.
@@ -89,7 +118,7 @@ fn relive(alloc: Global, till: &mut Till, entry: &Entry) -> Result<bool, AllocEr
     ensures { IfOk result (λ can. Relives can (kept_of entry.now) till.old.state till.new.state) }
 {
     match entry {
-        Entry::Order(order) => relive_order(till, order),
+        Entry::Order { order, .. } => relive_order(till, order),
         Entry::Heard(message) => relive_message(alloc, till, message),
         Entry::Lost => {
             let _ = till.lost();
@@ -101,7 +130,7 @@ fn relive(alloc: Global, till: &mut Till, entry: &Entry) -> Result<bool, AllocEr
 
 /// Replays an order. Returns whether the till accepts it.
 fn relive_order(till: &mut Till, order: &Order) -> Result<bool, AllocError>
-    ensures { IfOk result (λ can. Relives can (ordered order.now) till.old.state till.new.state) }
+    ensures { IfOk result (λ can. (note : List ℕ) → Relives can (ordered order.now note) till.old.state till.new.state) }
 {
     match till.order(*order) {
         Ok(_) => Ok(true),

@@ -1,10 +1,11 @@
 //! The words of a comment.
-ghost use Rattle.std.specs.Prelude.{◌≡◌, ◌≤◌, ◌-◌, ◌==◌, IfSome, None, Some, drop, if◌then◌else◌, length, option_map, take};
+ghost use Rattle.std.specs.Prelude.{◌≡◌, ◌≤◌, ◌-◌, ◌==◌, ℕ, IfSome, List, length, option_map};
 ghost use Rattle.std.specs.List.{position, position_or_len};
-ghost use Rattle.zvt_kept.specs.Notes.{is_note};
-ghost use Rattle.zvt_kept.specs.Records.{begins_with, ends_word, is_reserved, number_of, order_of, plain, with_number, word_size};
+ghost use Rattle.zvt_kept.specs.Reading.{kept_of};
+ghost use Rattle.zvt_kept.specs.Records.{begins_with, ends_word, is_reserved, noted_digits, number_of, order_of, plain, with_number};
 
-use crate::note::is_note;
+use crate::note::Note;
+use crate::records::Entry;
 use zvt_bcd::Amount;
 use zvt_text::words::{decimal_number, trailing};
 use zvt_till::Order;
@@ -44,9 +45,9 @@ fn ends_word(rest: &[u8]) -> bool
     }
 }
 
-/// The order that words name, with a note behind it.
-pub(crate) fn order_of(words: &[u8]) -> Option<Order>
-    ensures { result ≡ order_of words.now }
+/// The order that words name, with the note behind it.
+pub(crate) fn order_of(words: &[u8]) -> Option<Entry>
+    ensures { option_map kept_of result ≡ order_of words.now }
 {
     if let Some(rest) = trailing(b"register", words) {
         return plain(Order::Register, rest);
@@ -64,35 +65,39 @@ pub(crate) fn order_of(words: &[u8]) -> Option<Order>
 }
 
 /// A payment of this amount, before a note.
-fn payment(tail: &[u8]) -> Option<Order>
-    ensures { result ≡ with_number Order.Pay tail.now }
+fn payment(tail: &[u8]) -> Option<Entry>
+    ensures { option_map kept_of result ≡ with_number Order.Pay tail.now }
 {
-    let digits = noted_digits(tail)?;
-    Some(Order::Pay(amount(digits)?))
+    let (digits, note) = noted_digits(tail)?;
+    let order = Order::Pay(amount(digits)?);
+    Some(Entry::Order { order, note })
 }
 
 /// The reversal of this entry, before a note.
-fn reversal(tail: &[u8]) -> Option<Order>
-    ensures { result ≡ with_number (λ n. Order.Reverse (n - 1)) tail.now }
+fn reversal(tail: &[u8]) -> Option<Entry>
+    ensures { option_map kept_of result ≡ with_number (λ n. Order.Reverse (n - 1)) tail.now }
 {
-    let digits = noted_digits(tail)?;
+    let (digits, note) = noted_digits(tail)?;
     let number = number(digits)?;
-    Some(Order::Reverse(number as usize - 1))
+    let order = Order::Reverse(number as usize - 1);
+    Some(Entry::Order { order, note })
 }
 
 /// An order, before a note.
-fn plain(order: Order, rest: &[u8]) -> Option<Order>
-    ensures { result ≡ plain order rest.now }
+fn plain(order: Order, rest: &[u8]) -> Option<Entry>
+    ensures { option_map kept_of result ≡ plain order rest.now }
 {
-    if is_note(rest) { Some(order) } else { None }
+    let note = Note::read(rest)?;
+    Some(Entry::Order { order, note })
 }
 
-/// The first word, before a note.
-fn noted_digits(tail: &[u8]) -> Option<&[u8]>
-    ensures { option_map (λ digits. digits.now) result ≡ (if is_note (drop (word_size tail.now) tail.now) then Some (take (word_size tail.now) tail.now) else None) }
+/// The first word, and the note behind it.
+fn noted_digits(tail: &[u8]) -> Option<(&[u8], Note)>
+    ensures { option_map {U = List ℕ × List ℕ} (λ found. (found.0.now, found.1)) result ≡ noted_digits tail.now }
 {
     let (word, rest) = tail.split_at(size_before(b' ', tail));
-    if is_note(rest) { Some(word) } else { None }
+    let note = Note::read(rest)?;
+    Some((word, note))
 }
 
 /// How many bytes come before the first of this value, or how many there are.

@@ -9,18 +9,18 @@ use Rattle.zvt_kept.proofs.keeping.keep_order.Goals as goal
 pub returns-in_err-put_order-clause-recorded : goal.returns-in_err-put_order-clause-recorded
 returns-in_err-put_order-clause-recorded g c =
     let journal = c.args.journal.now in
-    unrecorded g.D.Device.seen g.D.Device.may_leave g.D.Device.moment g.D.Device.left_since g.D.Device.faults journal.device journal.gate (ordered c.args.order.now) _ c.from_residual.result c.from_residual.ensures.1
+    unrecorded g.D.Device.seen g.D.Device.may_leave g.D.Device.moment g.D.Device.left_since g.D.Device.faults journal.device journal.gate (ordered c.args.order.now c.args.note.now) _ c.from_residual.result c.from_residual.ensures.1
     (c.put_order.ensures.kept c.requires.spelled) (g.met.D.Device.only_now journal.device) c.requires.settled
 
 pub append-requires-clause-entry : goal.append-requires-clause-entry
 append-requires-clause-entry g c =
-    subst IsRecord (sym (text_is c.bytes.result.now c.new-text.result _ (c.bytes.ensures ∙ c.in_ok-put_order.ensures.written) c.new-text.ensures)) (records_are_taken (ordered c.args.order.now) _ (c.put_order.ensures.kept c.requires.spelled))
+    subst IsRecord (sym (text_is c.bytes.result.now c.new-text.result _ (c.bytes.ensures ∙ c.in_ok-put_order.ensures.written) c.new-text.ensures)) (records_are_taken (ordered c.args.order.now c.args.note.now) _ (c.put_order.ensures.kept c.requires.spelled))
 
 pub returns-clause-recorded : goal.returns-clause-recorded
 returns-clause-recorded g c =
     let old = c.args.journal.now in
     let new = c.append.new.self in
-    appended g.D.Device.seen g.D.Device.may_leave g.D.Device.moment g.D.Device.left_since g.D.Device.faults old.device new.device old.gate new.gate (ordered c.args.order.now) _ c.bytes.result.now c.append.result
+    appended g.D.Device.seen g.D.Device.may_leave g.D.Device.moment g.D.Device.left_since g.D.Device.faults old.device new.device old.gate new.gate (ordered c.args.order.now c.args.note.now) _ c.bytes.result.now c.append.result
     (text_is c.bytes.result.now c.new-text.result _ (c.bytes.ensures ∙ c.in_ok-put_order.ensures.written) c.new-text.ensures) (c.put_order.ensures.kept c.requires.spelled)
     (order_short c.args.order.now c.args.note.now _ c.requires.spelled c.put_order.ensures.few (few_taken c.put-size.result c.put-size.new.buffer c.put-size.ensures.fits))
     c.append.ensures.settled c.append.ensures.acknowledged c.append.ensures.any_moment c.append.ensures.repairable c.append.ensures.faults c.append.ensures.failed c.append.ensures.full c.append.ensures.gate

@@ -1,4 +1,4 @@
-use Rattle.zvt_kept.proofs.Recovered.{logs_are_one}
+use Rattle.zvt_kept.proofs.Recovering.{logs_are_one}
 use Rattle.zvt_kept.proofs.laws.logs_are_one.Goals as goal
 
 pub returns : goal.returns

@@ -1,4 +1,4 @@
-use Rattle.zvt_kept.proofs.Recovered.{tills_are_recovered}
+use Rattle.zvt_kept.proofs.Recovering.{tills_are_recovered}
 use Rattle.zvt_kept.proofs.laws.tills_are_recovered.Goals as goal
 
 pub returns : goal.returns

@@ -8,11 +8,11 @@ use Rattle.zvt_kept.proofs.Relived.{order_refused, order_taken}
 use Rattle.zvt_kept.proofs.recovery.relive_order.Goals as goal
 
 pub returns-in-Ok : goal.returns-in-Ok
-returns-in-Ok c = order_taken c.args.order.now c.args.till.now.state c.order.new.self.state c.in-Ok.ensures.taken c.in-Ok.ensures.runs
+returns-in-Ok c = λ note. order_taken c.args.order.now note c.args.till.now.state c.order.new.self.state c.in-Ok.ensures.taken c.in-Ok.ensures.runs
 
 pub returns-in-Err-2 : goal.returns-in-Err-2
-returns-in-Err-2 c =
+returns-in-Err-2 c = λ note.
     let state = c.args.till.now.state in
     let why = c.in-Err.why in
-    order_refused c.args.order.now state c.order.new.self.state why
+    order_refused c.args.order.now note state c.order.new.self.state why
     (refused-plainly (facts_of state) c.args.till.now.spare c.args.order.now why c.in-Err.ensures.refused (λ is. let both : false ≡ true = c.if-eq.ensures ∙ ap (λ w. sameb the_type w Memory) is in absurd cc))

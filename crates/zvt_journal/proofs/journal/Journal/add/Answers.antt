@@ -183,7 +183,7 @@ returns-then-self-ge-MAX_JOURNAL_LEN-clause-known g c on =
     let entry = c.args.entry.now in
     let gate = c.args.self.now.gate in
     let text = recovered (g.D.Device.seen device) in
-    let start = started g.D.Device.moment g.D.Device.left_since device IsKnown (λ file left. known_at_rest text entry on file (s.durable file (g.met.D.Device.only_now device file left) ∙ s.rest)) in
+    let start = started g.D.Device.moment g.D.Device.left_since device IsKnown (λ file left. known_at_rest text entry on (recovered_whole (g.D.Device.seen device)) file (s.durable file (g.met.D.Device.only_now device file left) ∙ s.rest)) in
     start
 
 pub returns-in_err-following-clause-known : goal.returns-in_err-following-clause-known
@@ -193,7 +193,7 @@ returns-in_err-following-clause-known g c on =
     let entry = c.args.entry.now in
     let gate = c.args.self.now.gate in
     let text = recovered (g.D.Device.seen device) in
-    let start = started g.D.Device.moment g.D.Device.left_since device IsKnown (λ file left. known_at_rest text entry on file (s.durable file (g.met.D.Device.only_now device file left) ∙ s.rest)) in
+    let start = started g.D.Device.moment g.D.Device.left_since device IsKnown (λ file left. known_at_rest text entry on (recovered_whole (g.D.Device.seen device)) file (s.durable file (g.met.D.Device.only_now device file left) ∙ s.rest)) in
     start
 
 pub returns-in_err-write_synced-clause-known : goal.returns-in_err-write_synced-clause-known
@@ -203,7 +203,7 @@ returns-in_err-write_synced-clause-known g c on =
     let entry = c.args.entry.now in
     let gate = c.args.self.now.gate in
     let text = recovered (g.D.Device.seen device) in
-    let start = started g.D.Device.moment g.D.Device.left_since device IsKnown (λ file left. known_at_rest text entry on file (s.durable file (g.met.D.Device.only_now device file left) ∙ s.rest)) in
+    let start = started g.D.Device.moment g.D.Device.left_since device IsKnown (λ file left. known_at_rest text entry on (recovered_whole (g.D.Device.seen device)) file (s.durable file (g.met.D.Device.only_now device file left) ∙ s.rest)) in
     let bytes = c.deref.result.now in
     let is = recovered_whole (g.D.Device.seen device) in
     let following_is = c.deref.ensures.value ∙ c.in_ok-following.ensures in
@@ -218,7 +218,7 @@ returns-in_err-set_synced-clause-known g c on =
     let entry = c.args.entry.now in
     let gate = c.args.self.now.gate in
     let text = recovered (g.D.Device.seen device) in
-    let start = started g.D.Device.moment g.D.Device.left_since device IsKnown (λ file left. known_at_rest text entry on file (s.durable file (g.met.D.Device.only_now device file left) ∙ s.rest)) in
+    let start = started g.D.Device.moment g.D.Device.left_since device IsKnown (λ file left. known_at_rest text entry on (recovered_whole (g.D.Device.seen device)) file (s.durable file (g.met.D.Device.only_now device file left) ∙ s.rest)) in
     let bytes = c.deref.result.now in
     let is = recovered_whole (g.D.Device.seen device) in
     let following_is = c.deref.ensures.value ∙ c.in_ok-following.ensures in
@@ -237,7 +237,7 @@ returns-clause-known g c on =
     let entry = c.args.entry.now in
     let gate = c.args.self.now.gate in
     let text = recovered (g.D.Device.seen device) in
-    let start = started g.D.Device.moment g.D.Device.left_since device IsKnown (λ file left. known_at_rest text entry on file (s.durable file (g.met.D.Device.only_now device file left) ∙ s.rest)) in
+    let start = started g.D.Device.moment g.D.Device.left_since device IsKnown (λ file left. known_at_rest text entry on (recovered_whole (g.D.Device.seen device)) file (s.durable file (g.met.D.Device.only_now device file left) ∙ s.rest)) in
     let bytes = c.deref.result.now in
     let is = recovered_whole (g.D.Device.seen device) in
     let following_is = c.deref.ensures.value ∙ c.in_ok-following.ensures in

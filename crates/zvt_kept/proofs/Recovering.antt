@@ -30,7 +30,7 @@ use Rattle.zvt_kept.proofs.Relived.{prefix_from}
 -- ---- what happened by records is one log
 
 once : (currency : ℕ) (one : Kept) (a b : List Happening) → Happens currency one a → Happens currency one b → a ≡ b
-once currency (ordered order) a b p q = p ∙ sym q
+once currency (ordered order note) a b p q = p ∙ sym q
 once currency (heard bytes) a b p q =
     let same = same_message p.0 bytes p.1 (q.0, q.1) in
     p.2 ∙ ap (λ m. HeardIn (heard_as m) ∷ []) (sym same) ∙ sym q.2
@@ -73,7 +73,7 @@ none_yet settings entries fresh state new is =
     let same : state ≡ step (new_till settings) Connected = is ∙ ap (λ s. step s Connected) new in
     record { happened = []; happens = refl; stands = ((tt, tt), same); up = ap (λ s. s.line_up) same }
 
-taken : (entries : List Entry) (i : ℕ) (entry : Entry) → i < length entries → entry ≡ get_or entries i entry → map kept_of (take (i + 1) entries) ≡ map kept_of (take i entries) ++ kept_of entry ∷ []
+pub taken : (entries : List Entry) (i : ℕ) (entry : Entry) → i < length entries → entry ≡ get_or entries i entry → map kept_of (take (i + 1) entries) ≡ map kept_of (take i entries) ++ kept_of entry ∷ []
 taken entries i entry below is =
     rw add-one (ap (map kept_of) (take-suc entries i entry below ∙ ap (λ y. take i entries ++ y ∷ []) (sym is)) ∙ map-append kept_of (take i entries) (entry ∷ []))
 
