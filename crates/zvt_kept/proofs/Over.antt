@@ -1,5 +1,5 @@
 -- What became of an order is known once the journal failed or the line broke.
-use Rattle.std.proofs.Common.{◌≡◌, ℕ, true, false, List, Option, Some, None, refl, arith}
+use Rattle.std.proofs.Common.{◌≡◌, ℕ, true, false, List, Option, Some, None, refl}
 use Rattle.zvt_stream.specs.LineRun.{Reported}
 use Rattle.zvt_stream.specs.declared.line.LineFault.{LineFault}
 use Rattle.zvt_stream.specs.declared.line.LineFault.TheVariants.{Read, Write, Ended, Turns, Malformed, Memory, Stopped}
@@ -8,15 +8,12 @@ use Rattle.zvt_till.specs.declared.statuses.Running.{Running}
 use Rattle.zvt_till.specs.Line.{is_idle}
 use Rattle.zvt_till.specs.Till.{TillState, step}
 use Rattle.zvt_till.specs.View.{TillValue}
-use Rattle.zvt_till.proofs.Accepted.{IsKnown, reported-over}
+use Rattle.zvt_till.proofs.Accepted.{IsKnown, lost-over, reported-over}
 use Rattle.zvt_kept.specs.KeptTill.{KeptValue, LosesLine}
 use Rattle.zvt_kept.specs.Runs.{IsEnded}
 
 pub lost_over : (till : TillValue) (old new : TillState) → new ≡ step old Lost → IsKnown old → IsEnded new
-lost_over till old new is known =
-    let before : TillValue = record till { state = old; spare = 0 } in
-    let after : TillValue = record till { state = new; spare = 0 } in
-    reported-over Read before after (is, omega arith, refl) known
+lost_over till old new is known = lost-over old new is known
 
 idle_none : (running : Option Running) → is_idle running ≡ true → running ≡ None
 idle_none None is = refl

@@ -13,7 +13,7 @@ use Rattle.zvt_till.specs.Refusals.{refusal, sent_as}
 use Rattle.zvt_till.specs.Sending.{Settings, message_of}
 use Rattle.zvt_till.specs.Till.{TillState, accept, facts_of, step}
 use Rattle.zvt_till.specs.TillHistory.{Stands}
-use Rattle.zvt_till.specs.View.{TillValue, IsRefusedAs}
+use Rattle.zvt_till.specs.View.{TillValue, IsRefusedAs, KeepsHeard}
 use Rattle.zvt_journal.specs.Text.{recovered, IsSettled, IsWithOrWithout}
 use Rattle.zvt_journal.specs.Device.{LeavesOnly}
 use Rattle.zvt_journal.specs.Files.{IsRepairable}
@@ -141,6 +141,7 @@ module _ {D : Type 0} (seen : D → List ℕ) (may_leave : D → List ℕ → Ty
     pub runs : new.till.state ≡ accept old.till.state order
     pub room : old.till.spare ≤ new.till.spare
     pub numbers : new.till.numbers ≡ numbers_begun old.till.numbers order
+    pub heard : new.till.heard ≡ old.till.heard
     pub logs : Logs (order_sent order) old new
     pub outlives : Outlives (order_sent order) old new
     pub later : faults old.device ≤ faults new.device
@@ -153,6 +154,7 @@ module _ {D : Type 0} (seen : D → List ℕ) (may_leave : D → List ℕ → Ty
     pub lost : new.till.state ≡ step (accept old.till.state order) Lost
     pub room : old.till.spare ≤ new.till.spare + 1
     pub numbers : new.till.numbers ≡ numbers_begun old.till.numbers order
+    pub heard : KeepsHeard old.till new.till
     pub outlives : Outlives (order_sent order) old new
 
   abbrev pub Orders : Order → (old new : Standing D) → Result Outgoing KeptRefusal → Type 0
@@ -198,6 +200,7 @@ module _ {D : Type 0} (seen : D → List ℕ) (may_leave : D → List ℕ → Ty
   pub record NewLine (old new : Standing D) : Type 0 where
     pub state : new.till.state ≡ step old.till.state Connected
     pub numbers : new.till.numbers ≡ old.till.numbers
+    pub heard : new.till.heard ≡ old.till.heard
     pub logs : Logs line_changed old new
     pub outlives : Outlives line_changed old new
     pub later : faults old.device ≤ faults new.device

@@ -17,4 +17,6 @@ mod write;
 pub use bytes::{is_plain, plain_first};
 pub use heads::kind_name;
 pub use text::{Says, Text};
-pub use write::{escaped_line, hexadecimal, line, meaning, message, numbers, result_words};
+pub use write::{
+    currency_digits, escaped_line, hexadecimal, line, meaning, message, numbers, result_words,
+};

@@ -4,7 +4,7 @@ ghost use Rattle.hex.specs.Hex.{encode_upper};
 ghost use Rattle.zvt_text.specs.Bytes.{escaped_text};
 ghost use Rattle.zvt_text.specs.Numbers.{numbers_text, trace_text};
 ghost use Rattle.zvt_text.specs.Results.{meaning_of, result_words};
-ghost use Rattle.zvt_text.specs.MessageTexts.{said};
+ghost use Rattle.zvt_text.specs.MessageTexts.{four_digits, said};
 ghost use Rattle.zvt_text.specs.Writing.{Adds, Puts};
 
 use crate::bytes::{bytes_or_dash, escape_all};
@@ -15,7 +15,7 @@ use crate::text::{Says, Text};
 use itoa::Buffer;
 use std::alloc::AllocError;
 use zvt_apdu::ApduView;
-use zvt_bcd::Trace;
+use zvt_bcd::{Currency, Trace};
 
 // Where memory is refused, the error of each, the text is as it was: so nothing of half a message is ever seen.
 
@@ -43,6 +43,13 @@ pub fn numbers(text: &mut Text, trace: Trace, receipt: Option<[u8; 2]>) -> Resul
     ensures { Adds result text.old text.new (numbers_text trace receipt) }
 {
     text.add(&PaymentNumbers { trace, receipt })
+}
+
+/// Writes the number of a currency in four digits, such as `0978`.
+pub fn currency_digits(text: &mut Text, currency: Currency) -> Result<(), AllocError>
+    ensures { Adds result text.old text.new (four_digits currency) }
+{
+    text.add(&FourDigits(currency))
 }
 
 /// Writes bytes and the end of the line. Printable ASCII (20 to 7E) stays as it is, except the quotation mark and the
@@ -188,6 +195,18 @@ fn trace_number(buffer: &mut [u8], at: usize, trace: Trace) -> Result<usize, Ful
     let at = fixed(buffer, at, *b"trace ")?;
     let at = repeat(buffer, at, b'0', 6usize.saturating_sub(digits.len()))?;
     word(buffer, at, digits.as_bytes())
+}
+
+/// The number of a currency in four digits.
+#[derive(Drop)]
+struct FourDigits(Currency);
+
+impl Says for FourDigits {
+    ghost said = { λ d. four_digits d.0 };
+
+    fn put(&self, buffer: &mut [u8]) -> Result<usize, Full> {
+        cursor::four_digits(buffer, 0, self.0.get())
+    }
 }
 
 /// A line of bytes with escapes.

@@ -80,7 +80,7 @@ known-broken faults.Memory before after read written old new b k = known-heard o
 known-broken faults.Write before after read written old new b k = known-heard old new _ _ b.heard k
 known-broken faults.Stopped before after read written old new b k = subst (λ (t : TillValue). IsKnown t.state) b.1 k
 
-abbrev Over : TillState → Type 0
+abbrev pub Over : TillState → Type 0
 Over s = (s.running ≡ None) × (s.line_up ≡ false) × IsSome s.last_outcome
 
 over-lost : (s : TillState) (run : Option Running) → s.running ≡ run → IsKnown s → ((elim run as (λ x. TillState) [ None ↦ s | Some r ↦ meet_running s r Lost ]).running ≡ None) × IsSome (elim run as (λ x. TillState) [ None ↦ s | Some r ↦ meet_running s r Lost ]).last_outcome
@@ -91,7 +91,8 @@ over-malformed : (s : TillState) (run : Option Running) → s.running ≡ run �
 over-malformed s None e k = (e, k e)
 over-malformed s (Some r) e k = (refl, refl)
 
-lost-over : (old new : TillState) → new ≡ step old Lost → IsKnown old → Over new
+-- a till that lost its line
+pub lost-over : (old new : TillState) → new ≡ step old Lost → IsKnown old → Over new
 lost-over old new e k = let o = over-lost old old.running refl k in subst Over (sym e) (o.0, refl, o.1)
 
 malformed-over : (old new : TillState) → new ≡ step old Malformed → IsKnown old → Over new

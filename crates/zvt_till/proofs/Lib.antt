@@ -28,3 +28,4 @@ pub mod Unclear
 mod Rows
 mod Room
 mod DistinctLemmas
+pub mod NumbersHeard

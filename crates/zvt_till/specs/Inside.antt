@@ -1,14 +1,16 @@
 -- The fields of a till, and what is true of them.
-use Rattle.std.specs.Prelude.{ℕ, cond, ◌-◌, ◌≤◌, min, length, vec_len, vec_capacity}
+use Rattle.std.specs.Prelude.{◌≡◌, ℕ, cond, ◌-◌, ◌≤◌, min, length, vec_len, vec_capacity}
 use Rattle.zvt_till.specs.Refusals.{most_rows}
 use Rattle.zvt_till.specs.Restoring.{OnceBelow}
 use Rattle.zvt_till.specs.UsedTraces.{has_capacity, AreTracesOf}
 use Rattle.zvt_till.specs.View.{TillValue, CanEndRunning}
 use Rattle.zvt_till.specs.declared.till.Till.TheInside.{Inside}
 
--- the rows for which there is a place in both lists
+-- the rows for which there is a place in each list
 abbrev pub rows_of : Inside → ℕ
-rows_of t = min (vec_capacity t.book - vec_len t.book) (vec_capacity t.unclear - vec_len t.unclear)
+rows_of t =
+    min (vec_capacity t.book - vec_len t.book)
+    (min (vec_capacity t.unclear - vec_len t.unclear) (vec_capacity t.heard - vec_len t.heard))
 
 -- none without room for their trace numbers
 abbrev pub spare_of : Inside → ℕ
@@ -29,6 +31,7 @@ value_of t =
           };
       spare = spare_of t;
       numbers = t.numbers;
+      heard = t.heard.items;
     }
 
 abbrev pub IsSound : Inside → Type 0
@@ -38,3 +41,4 @@ IsSound t =
     × (length t.unclear.items ≤ most_rows)
     × CanEndRunning t.running (length t.book.items) (length t.unclear.items) (spare_of t)
     × OnceBelow (length t.book.items) t.book.items
+    × (length t.heard.items ≡ length t.unclear.items)

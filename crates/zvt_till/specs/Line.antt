@@ -22,7 +22,7 @@ use Rattle.zvt_till.specs.Numbers.{numbers_after, numbers_begun}
 use Rattle.zvt_till.specs.Refusals.{refusal}
 use Rattle.zvt_till.specs.Sending.{message_of, reply_to}
 use Rattle.zvt_till.specs.Till.{TillState, step, accept, facts_of}
-use Rattle.zvt_till.specs.View.{TillValue, KeepsRoom, IsRefusedAs}
+use Rattle.zvt_till.specs.View.{TillValue, KeepsHeard, KeepsRoom, IsRefusedAs}
 use Rattle.zvt_till.specs.Events.{message_out}
 
 -- no message, or the spelling of one
@@ -35,12 +35,13 @@ abbrev pub till_hears : TillValue → Message → Answered → TillValue → Typ
 till_hears old message answered new =
     (new.state ≡ step old.state (HeardIn (heard_as message))) × Answers (cond old.state.line_up (reply_to (heard_as message)) None) answered × KeepsRoom old new
     × (new.numbers ≡ numbers_after old.state old.numbers (HeardIn (heard_as message)))
+    × KeepsHeard old new
 
 abbrev pub till_loses : TillValue → TillValue → Type 0
-till_loses old new = (new.state ≡ step old.state Lost) × KeepsRoom old new × (new.numbers ≡ old.numbers)
+till_loses old new = (new.state ≡ step old.state Lost) × KeepsRoom old new × (new.numbers ≡ old.numbers) × KeepsHeard old new
 
 abbrev pub till_malforms : TillValue → TillValue → Type 0
-till_malforms old new = (new.state ≡ step old.state Malformed) × KeepsRoom old new × (new.numbers ≡ old.numbers)
+till_malforms old new = (new.state ≡ step old.state Malformed) × KeepsRoom old new × (new.numbers ≡ old.numbers) × KeepsHeard old new
 
 abbrev pub is_idle : Option Running → Bool
 is_idle None = true
@@ -58,6 +59,7 @@ pub record Sends (order : Order) (old new : TillValue) (first last : Option (Lis
   pub runs : new.state ≡ accept old.state order
   pub room : old.spare ≤ new.spare
   pub numbers : new.numbers ≡ numbers_begun old.numbers order
+  pub heard : new.heard ≡ old.heard
   pub message : message_of old.state.settings old.state.book order ≡ Some outgoing
   pub spelled : Spells (message_out outgoing) bytes
   pub appended : Appends first last bytes
@@ -66,7 +68,7 @@ pub record Sends (order : Order) (old new : TillValue) (first last : Option (Lis
 -- a payment took one place then.
 abbrev pub NotSent : RunFault → Order → (old new : TillValue) → (first last : Option (List ℕ)) → Type 0
 NotSent (OrderFault why) order old new first last = IsRefusedAs (facts_of old.state) old.spare order why × (new ≡ old) × (last ≡ first)
-NotSent (Line fault) order old new first last = (fault ≡ Write) × (refusal (facts_of old.state) order ≡ None) × (new.state ≡ step (accept old.state order) Lost) × (old.spare ≤ new.spare + 1) × (new.numbers ≡ numbers_begun old.numbers order)
+NotSent (Line fault) order old new first last = (fault ≡ Write) × (refusal (facts_of old.state) order ≡ None) × (new.state ≡ step (accept old.state order) Lost) × (old.spare ≤ new.spare + 1) × (new.numbers ≡ numbers_begun old.numbers order) × KeepsHeard old new
 
 -- An order was sent, and the line went on until the till rested: this became of the order.
 pub record Runs (order : Order) (outcome : Outcome) (before after : StreamState) (old new : TillValue) (coming left first last : Option (List ℕ)) (turns reads_before reads_after : ℕ) : Type 0 where

@@ -1,11 +1,12 @@
 -- What contracts see of a till.
-use Rattle.std.specs.Prelude.{◌≡◌, ℕ, ◌-◌, ◌<◌, ◌≤◌, false, List, Option, Some, None}
+use Rattle.std.specs.Prelude.{◌≡◌, ◌⊎◌, ℕ, ◌-◌, ◌<◌, ◌≤◌, false, List, [], ◌∷◌, ◌++◌, Option, Some, None}
 use Rattle.zvt_till.specs.declared.entries.Entry.{Entry}
 use Rattle.zvt_till.specs.declared.numbers.Numbers.{Numbers}
 use Rattle.zvt_till.specs.declared.orders.Order.{Order}
 use Rattle.zvt_till.specs.declared.orders.Order.TheVariants.{Register, Pay, Reverse, CloseDay, Cancel}
 use Rattle.zvt_till.specs.declared.orders.OrderRefusal.{OrderRefusal}
 use Rattle.zvt_till.specs.declared.orders.OrderRefusal.TheVariants.{Memory}
+use Rattle.zvt_till.specs.declared.outcomes.Cause.{Cause}
 use Rattle.zvt_till.specs.declared.outcomes.Outcome.{Outcome}
 use Rattle.zvt_till.specs.declared.outcomes.Outcome.TheVariants.{Paid}
 use Rattle.zvt_till.specs.declared.statuses.Running.{Running}
@@ -13,12 +14,13 @@ use Rattle.zvt_till.specs.Outcomes.{trace_used}
 use Rattle.zvt_till.specs.Refusals.{Facts, refusal, most_rows}
 use Rattle.zvt_till.specs.Till.{TillState}
 
--- the state, how many payments can surely be written down without more memory, and the numbers that the terminal named of the
--- order that began last
+-- the state, how many payments can surely be written down without more memory, the numbers that the terminal named of the
+-- order that began last, and of each unclear payment, row by row
 pub record TillValue : Type 0 where
   pub state : TillState
   pub spare : ℕ
   pub numbers : Numbers
+  pub heard : List Numbers
 
 -- an order is refused for the first reason that holds; out of memory comes last, for a payment without a spare place
 abbrev pub IsRefusedAs : Facts → ℕ → Order → OrderRefusal → Type 0
@@ -65,3 +67,10 @@ unclaimed till = till.spare - claimed till.state.running
 -- no such place is lost: what is heard takes no more than the one that the running payment has
 abbrev pub KeepsRoom : TillValue → TillValue → Type 0
 KeepsRoom old new = unclaimed old ≤ unclaimed new
+
+-- No payment became unclear, and the till names what it named before of those that are. Or one did: it comes last, with the
+-- numbers of its order.
+abbrev pub KeepsHeard : TillValue → TillValue → Type 0
+KeepsHeard old new =
+    ((new.state.unclear ≡ old.state.unclear) × (new.heard ≡ old.heard))
+    ⊎ ((row : ℕ × Cause) × (new.state.unclear ≡ old.state.unclear ++ row ∷ []) × (new.heard ≡ old.heard ++ new.numbers ∷ []))

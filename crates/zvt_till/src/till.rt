@@ -1,5 +1,5 @@
 //! The till: its state, its book, and how it reacts to messages.
-ghost use Rattle.std.specs.Prelude.{◌≡◌, ◌+◌, ◌≤◌, length, if◌then◌else◌, option_map};
+ghost use Rattle.std.specs.Prelude.{◌≡◌, ◌+◌, ◌≤◌, length, if◌then◌else◌, option_map, []};
 
 mod capacity;
 mod ordering;
@@ -39,6 +39,8 @@ pub struct Till {
     last_outcome: Option<Outcome>,
     /// What the terminal named of the order that began last.
     numbers: Numbers,
+    /// What it named of each unclear payment.
+    heard: Vec<Numbers>,
 }
 
 impl Model for Till {
@@ -56,7 +58,7 @@ impl Model for Till {
 impl Till {
     ghost use Rattle.zvt_till.specs.Sending.{reply_to};
     ghost use Rattle.zvt_till.specs.Till.{new_till, meet, step, line_down, finish, payment_ended, outcome_at};
-    ghost use Rattle.zvt_till.specs.View.{CanEnd, CanBook, KeepsRoom, claimed_by};
+    ghost use Rattle.zvt_till.specs.View.{CanEnd, CanBook, KeepsHeard, KeepsRoom, claimed_by};
     ghost use Rattle.zvt_till.specs.Doubts.{unclear_reversals};
     ghost use Rattle.zvt_till.specs.Marks.{total};
     ghost use Rattle.zvt_till.specs.Events.{run_settings};
@@ -68,6 +70,7 @@ impl Till {
     pub fn new(alloc: Global, password: [u8; 3], config: u8, currency: Currency) -> Till
         ensures state { result.state ≡ new_till (record { password = password; config = config; currency = currency }) }
         ensures numbers { result.numbers ≡ no_numbers }
+        ensures heard { result.heard ≡ [] }
     {
         Till {
             password,
@@ -81,6 +84,7 @@ impl Till {
             unclear: Vec::new(alloc),
             last_outcome: None,
             numbers: Numbers::none(),
+            heard: Vec::new(alloc),
         }
     }
 
@@ -88,6 +92,7 @@ impl Till {
     pub fn with_defaults(alloc: Global) -> Till
         ensures state { result.state ≡ new_till run_settings }
         ensures numbers { result.numbers ≡ no_numbers }
+        ensures heard { result.heard ≡ [] }
     {
         let settings = TillSettings::default();
         Till::new(alloc, settings.password, settings.config, settings.currency)
@@ -98,6 +103,7 @@ impl Till {
         ensures state { self.new.state ≡ step self.old.state Happening.Connected }
         ensures room { KeepsRoom self.old self.new }
         ensures numbers { self.new.numbers ≡ self.old.numbers }
+        ensures heard { self.new.heard ≡ self.old.heard }
     {
         self.line_up = true;
     }
@@ -145,6 +151,15 @@ impl Till {
         ensures most { length result.now ≤ MAX_BOOK_ENTRIES }
     {
         self.unclear.as_slice()
+    }
+
+    /// Returns the numbers that the terminal named in each unclear payment, row by row of [`unclear`](Till::unclear).
+    /// Of payments that became unclear before the till was restored from a snapshot it names none.
+    pub fn heard(&self) -> &[Numbers]
+        ensures numbers { result.now ≡ self.now.heard }
+        ensures rows { length result.now ≡ length self.now.state.unclear }
+    {
+        self.heard.as_slice()
     }
 
     /// How many entries of the book have an unclear reversal: their `doubt` is `Unclear`.
@@ -214,6 +229,7 @@ impl Till {
         ensures state { self.new.state ≡ finish self.old.state order.now outcome.now }
         ensures room { self.old.spare ≤ self.new.spare + claimed_by order.now }
         ensures numbers { self.new.numbers ≡ self.old.numbers }
+        ensures heard { KeepsHeard self.old self.new }
     {
         self.running = None;
         self.last_outcome = Some(*outcome);
@@ -233,6 +249,7 @@ impl Till {
         ensures state { self.new.state ≡ payment_ended self.old.state amount outcome.now }
         ensures room { self.old.spare ≤ self.new.spare + 1 }
         ensures numbers { self.new.numbers ≡ self.old.numbers }
+        ensures heard { KeepsHeard self.old self.new }
     {
         match outcome {
             Outcome::Paid { trace, receipt } => {
@@ -245,7 +262,10 @@ impl Till {
                     doubt: Doubt::No,
                 });
             }
-            Outcome::Unclear(cause) => self.unclear.push_reserved((amount, *cause)),
+            Outcome::Unclear(cause) => {
+                self.unclear.push_reserved((amount, *cause));
+                self.heard.push_reserved(self.numbers);
+            }
             _ => {}
         }
     }
@@ -256,6 +276,7 @@ impl Till {
         ensures room { KeepsRoom self.old self.new }
         ensures outcome { result ≡ outcome_at self.old.state happening.now }
         ensures numbers { self.new.numbers ≡ with_status_of self.old.state.running self.old.numbers (status_of happening.now) }
+        ensures heard { KeepsHeard self.old self.new }
     {
         let running = self.running?;
         if ends(running.positive, happening) {
@@ -277,6 +298,7 @@ impl Till {
         ensures send { result.send ≡ (if self.old.state.line_up then reply_to heard else None) }
         ensures outcome { result.outcome ≡ (if self.old.state.line_up then outcome_at self.old.state (Happening.Heard heard) else None) }
         ensures numbers { self.new.numbers ≡ numbers_after self.old.state self.old.numbers (Happening.Heard heard) }
+        ensures heard { KeepsHeard self.old self.new }
     {
         if !self.line_up {
             return Reply {
@@ -295,6 +317,7 @@ impl Till {
         ensures state { self.new.state ≡ line_down self.old.state }
         ensures room { self.new.spare ≡ self.old.spare }
         ensures numbers { self.new.numbers ≡ self.old.numbers }
+        ensures heard { self.new.heard ≡ self.old.heard }
     {
         self.line_up = false;
         self.registered = false;
@@ -306,6 +329,7 @@ impl Till {
         ensures room { KeepsRoom self.old self.new }
         ensures outcome { result ≡ outcome_at self.old.state Happening.Lost }
         ensures numbers { self.new.numbers ≡ self.old.numbers }
+        ensures heard { KeepsHeard self.old self.new }
     {
         let outcome = self.meet(&Happening::Lost);
         self.line_down();
@@ -318,6 +342,7 @@ impl Till {
         ensures room { KeepsRoom self.old self.new }
         ensures outcome { result ≡ outcome_at self.old.state Happening.Malformed }
         ensures numbers { self.new.numbers ≡ self.old.numbers }
+        ensures heard { KeepsHeard self.old self.new }
     {
         let outcome = self.meet(&Happening::Malformed);
         self.line_down();

@@ -12,8 +12,9 @@ impl Till {
     {
         let booked = self.book.capacity() - self.book.len();
         let unclear = self.unclear.capacity() - self.unclear.len();
+        let heard = self.heard.capacity() - self.heard.len();
         if self.used.has_capacity() {
-            booked.min(unclear)
+            booked.min(unclear.min(heard))
         } else {
             0
         }
@@ -28,6 +29,7 @@ impl Till {
         ensures kept { self.old.spare ≤ self.new.spare }
         ensures state { self.new.state ≡ self.old.state }
         ensures numbers { self.new.numbers ≡ self.old.numbers }
+        ensures heard { self.new.heard ≡ self.old.heard }
     {
         if pays <= self.spare() {
             return Ok(());
@@ -35,6 +37,7 @@ impl Till {
         self.used.reserve_for()?;
         self.book.reserve(pays)?;
         self.unclear.reserve(pays)?;
+        self.heard.reserve(pays)?;
         Ok(())
     }
 }

@@ -110,6 +110,7 @@ impl Till {
         ensures state { self.new.state ≡ accept self.old.state order }
         ensures room { self.new.spare ≡ self.old.spare }
         ensures numbers { self.new.numbers ≡ numbers_begun self.old.numbers order }
+        ensures heard { self.new.heard ≡ self.old.heard }
     {
         if let Order::Cancel = &order {
             return;
@@ -133,6 +134,7 @@ impl Till {
         ensures runs { OnOk result (self.new.state ≡ accept self.old.state order) }
         ensures room { OnOk result (self.old.spare ≤ self.new.spare) }
         ensures numbers { OnOk result (self.new.numbers ≡ numbers_begun self.old.numbers order) }
+        ensures heard { OnOk result (self.new.heard ≡ self.old.heard) }
         ensures refused { IfErr result (λ why. IsRefusedAs (facts_of self.old.state) self.old.spare order why) }
         ensures unchanged { OnErr result (self.new ≡ self.old) }
     {

@@ -1,5 +1,5 @@
 //! A till that goes on with rows that were written down.
-ghost use Rattle.std.specs.Prelude.{◌≡◌, length, IfOk, IfErr, OnOk};
+ghost use Rattle.std.specs.Prelude.{◌≡◌, length, replicate, IfOk, IfErr, OnOk};
 ghost use Rattle.zvt_till.specs.UsedTraces.{AreTracesOf};
 ghost use Rattle.zvt_till.specs.Restoring.{OnceBelow};
 
@@ -56,12 +56,16 @@ impl Till {
     ) -> Result<Till, RestoreError>
         ensures state { IfOk result (λ till. till.state ≡ at_rest self.now.state.settings book.items unclear.items last) }
         ensures numbers { IfOk result (λ till. till.numbers ≡ no_numbers) }
+        ensures heard { IfOk result (λ till. till.heard ≡ replicate (length unclear.items) no_numbers) }
         ensures stands { OnOk result (CanStand book.items unclear.items) }
         ensures err { IfErr result (λ why. IsUnrestored why book.items unclear.items) }
     {
         if MAX_BOOK_ENTRIES < book.len() || MAX_BOOK_ENTRIES < unclear.len() {
             return Err(RestoreError::Impossible);
         }
+        let Ok(heard) = vec![in alloc; Numbers::none(); unclear.len()] else {
+            return Err(RestoreError::Memory);
+        };
         match traces_of(alloc, book.as_slice()) {
             Ok(used) => Ok(Till {
                 password: self.password,
@@ -75,6 +79,7 @@ impl Till {
                 unclear,
                 last_outcome: last,
                 numbers: Numbers::none(),
+                heard,
             }),
             Err(why) => Err(why),
         }

@@ -26,7 +26,7 @@ returns-in-Ok g c =
     let replied = ap reply_to c.heard_view-heard.ensures ∙ sym (ap (λ b. cond b (reply_to (heard_as m)) None) c.requires.up) in
     record {
       up = c.requires.up;
-      heard = (goes, subst (λ o. Answers o c.answers_to-answers.result) replied c.answers_to-answers.ensures.answers, c.hear.ensures.room, named);
+      heard = (goes, subst (λ o. Answers o c.answers_to-answers.result) replied c.answers_to-answers.ensures.answers, c.hear.ensures.room, named, c.hear.ensures.heard);
       logs = logs_one V.seen V.may_leave V.moment V.left_since V.faults old new (heard kept.0) kept.2.added (λ settings. hears m) c.requires.up (λ settings. refl) (heard_follows state c.requires.up) (λ settings. goes) kept.2.is (λ settings. (m, kept.1, refl)) kept.2.adds.durable.0 kept.2.adds.durable.1;
       outlives = outlives records_are_kept V.seen V.may_leave V.moment V.left_since V.faults old new (heard kept.0) kept.2.added (message_heard V.seen V.may_leave V.moment V.left_since V.faults m) kept.2.is (λ settings. (m, kept.1, refl)) kept.2.adds.leaves;
       later = kept.2.adds.later;
@@ -43,6 +43,6 @@ returns-in-Err g c =
       cause = kept.2.adds.cause;
       stays = kept.2.adds.stays;
       up = c.requires.up;
-      lost = (c.lost.ensures.state, c.lost.ensures.room, c.lost.ensures.numbers);
+      lost = (c.lost.ensures.state, c.lost.ensures.room, c.lost.ensures.numbers, c.lost.ensures.heard);
       outlives = outlives records_are_kept V.seen V.may_leave V.moment V.left_since V.faults old new (heard kept.0) kept.2.added (message_heard V.seen V.may_leave V.moment V.left_since V.faults m) kept.2.is (λ settings. (m, kept.1, refl)) kept.2.adds.leaves;
     }

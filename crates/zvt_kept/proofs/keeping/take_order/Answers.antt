@@ -2,6 +2,7 @@ use Rattle.std.proofs.Common.{refl, sym, ap, ◌∙◌}
 use Rattle.zvt_till.specs.declared.happenings.Happening.TheVariants.{Sent as SentOut, Lost}
 use Rattle.zvt_till.specs.Refusals.{sent_as}
 use Rattle.zvt_till.specs.Till.{step}
+use Rattle.zvt_till.proofs.NumbersHeard.{ordered-keeps}
 use Rattle.zvt_till.proofs.Runs.{step-order}
 use Rattle.zvt_kept.specs.Records.{ordered}
 use Rattle.zvt_kept.specs.KeptTill.{Standing, order_sent}
@@ -32,6 +33,7 @@ returns-in-Ok-keep_order-clause-orders g c =
       runs = took.runs;
       room = took.room;
       numbers = took.numbers;
+      heard = took.heard;
       logs = logs_one V.seen V.may_leave V.moment V.left_since V.faults old new (ordered order c.args.note.now) kept.added (λ settings. SentOut (sent_as settings.currency order)) (taken_up state order took.taken) (λ settings. refl) (order_follows order state took.taken)
           (λ settings. took.runs ∙ sym (step-order settings.currency state order)) kept.is (λ settings. refl) kept.adds.durable.0 kept.adds.durable.1;
       outlives = outlives records_are_kept V.seen V.may_leave V.moment V.left_since V.faults old new (ordered order c.args.note.now) kept.added (order_sent V.seen V.may_leave V.moment V.left_since V.faults order) kept.is (λ settings. refl) kept.adds.leaves;
@@ -52,5 +54,6 @@ returns-in-Err-keep_order-clause-orders g c =
       lost = c.lost.ensures.state ∙ ap (λ s. step s Lost) c.in-Ok.ensures.runs;
       room = takes_one c.args.till.now c.order.new.self c.lost.new.self c.in-Ok.ensures.room c.lost.ensures.room;
       numbers = c.lost.ensures.numbers ∙ c.in-Ok.ensures.numbers;
+      heard = ordered-keeps order c.args.till.now c.order.new.self c.lost.new.self c.in-Ok.ensures.runs c.in-Ok.ensures.heard c.lost.ensures.heard;
       outlives = outlives records_are_kept V.seen V.may_leave V.moment V.left_since V.faults old new (ordered order c.args.note.now) kept.added (order_sent V.seen V.may_leave V.moment V.left_since V.faults order) kept.is (λ settings. refl) kept.adds.leaves;
     }

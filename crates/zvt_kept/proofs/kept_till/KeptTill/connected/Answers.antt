@@ -39,6 +39,7 @@ returns g c =
     let made : NewLine V.seen V.may_leave V.moment V.left_since V.faults old new = record {
       state = c.connected.ensures.state;
       numbers = c.connected.ensures.numbers;
+      heard = c.connected.ensures.heard;
       logs = logs_line V.seen V.may_leave V.moment V.left_since V.faults old new lost kept.added down c.connected.ensures.state kept.is (λ settings. refl) kept.adds.durable.0 kept.adds.durable.1;
       outlives = outlives records_are_kept V.seen V.may_leave V.moment V.left_since V.faults old new lost kept.added (line_changed V.seen V.may_leave V.moment V.left_since V.faults) kept.is (λ settings. refl) kept.adds.leaves;
       later = kept.adds.later;

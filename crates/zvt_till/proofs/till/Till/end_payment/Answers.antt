@@ -16,4 +16,4 @@ invariant_of-self c =
     subst (λ (t : TillValue). trace_used c.in-Paid.trace t.state.book ≡ false) (sym c.self.view_is) (rw c.in-Paid.is at c.requires.books) in
     let pushed : c.push_reserved.new.self.items ≡ book ++ row ∷ [] = search rules in
     let once = subst (λ (b : List Entry). OnceBelow (length b) b) (sym pushed) (once-pushed book row unused c.self.invariant.4) in
-    (grind (arith, common_steps), grind (arith, common_steps), c.self.invariant.2, grind (arith, common_steps), once)
+    (grind (arith, common_steps), grind (arith, common_steps), c.self.invariant.2, grind (arith, common_steps), once, c.self.invariant.5)

@@ -15,7 +15,7 @@ invariant_of-self-in-Reverse c =
     let within : i < length book = grind (arith, common_steps) in
     let is = c.index_mut.ensures.value in
     let same : changed.trace ≡ row.trace = ap (λ e. e.trace) c.end_reversal.ensures ∙ ap (λ (b : Booked). b.trace) (same-row row c.args.outcome.now) in
-    (λ number. c.self.invariant.0 number ∙ sym (used-changed number book i row changed within is same), grind (arith, common_steps, c.self.invariant.1), c.self.invariant.2, grind (arith, common_steps), once-changed book i row changed within is same c.self.invariant.4)
+    (λ number. c.self.invariant.0 number ∙ sym (used-changed number book i row changed within is same), grind (arith, common_steps, c.self.invariant.1), c.self.invariant.2, grind (arith, common_steps), once-changed book i row changed within is same c.self.invariant.4, c.self.invariant.5)
 
 pub returns-in-Reverse-clause-state : goal.returns-in-Reverse-clause-state
 returns-in-Reverse-clause-state c =
