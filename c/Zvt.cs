@@ -10,6 +10,7 @@
 // Only one thread at a time may use a till. Like the library, this needs Linux on x86-64.
 using System;
 using System.Collections.Generic;
+using System.Globalization;
 using System.IO;
 using System.Net.Sockets;
 using System.Runtime.InteropServices;
@@ -94,9 +95,9 @@ namespace Zvt {
     /// <summary>A payment, either booked or unclear for a cause.</summary>
     public sealed class Entry {
         public long Amount { get; }
-        /// <summary>The trace number of a booked payment.</summary>
+        /// <summary>The trace number; of an unclear payment the one that the terminal named in it, if it named one.</summary>
         public int? Trace { get; }
-        /// <summary>The receipt number of a booked payment, if the terminal gave one.</summary>
+        /// <summary>The receipt number, if the terminal gave one.</summary>
         public int? Receipt { get; }
         /// <summary>Whether a reversal of it was completed.</summary>
         public bool Reversed { get; }
@@ -106,7 +107,7 @@ namespace Zvt {
 
         internal Entry(Native.Entry from, bool booked) {
             Amount = (long)from.amount;
-            if (booked) Trace = (int)from.trace;
+            if (booked || from.trace != 0) Trace = (int)from.trace;
             if (from.has_receipt == 1) Receipt = (int)from.receipt;
             Reversed = from.reversed == 1;
             if (from.cause != 0) Cause = (Cause)from.cause;
@@ -126,6 +127,15 @@ namespace Zvt {
             var text = new StringBuilder();
             foreach (char letter in name.ToString()) text.Append(char.IsUpper(letter) && text.Length > 0 ? " " : "").Append(char.ToLowerInvariant(letter));
             return text.ToString();
+        }
+
+        /// <summary>Returns the bytes of a reference, none if there is none.</summary>
+        public static byte[] Reference(string name, string reference) {
+            if (reference == null) return new byte[0];
+            bool right = reference.Length >= 1 && reference.Length <= 40;
+            foreach (char letter in reference) right = right && letter > ' ' && letter <= '~';
+            if (!right) throw new ArgumentException("1 to 40 printable ASCII characters without a space", name);
+            return Encoding.ASCII.GetBytes(reference);
         }
 
         public static string Of(Status status) {
@@ -328,20 +338,25 @@ namespace Zvt {
         public Outcome Register() { return Run(Native.Register, 0, CancellationToken.None); }
 
         /// <summary>Pays an amount. If the token requests it, the till asks the terminal to cancel the payment, and the terminal
-        /// decides.</summary>
-        public Outcome Pay(long amount, CancellationToken cancel = default(CancellationToken)) {
-            return Run(Native.Pay, Words.Whole(nameof(amount), amount, 1, 999999999999), cancel);
+        /// decides. The book keeps the time of the payment and the reference, 1 to 40 printable ASCII characters without a
+        /// space.</summary>
+        public Outcome Pay(long amount, CancellationToken cancel = default(CancellationToken), string reference = null) {
+            return Run(Native.Pay, Words.Whole(nameof(amount), amount, 1, 999999999999), cancel, reference);
         }
 
-        /// <summary>Reverses the payment at this index of the book, from 0.</summary>
-        public Outcome Reverse(int place) { return Run(Native.Reverse, Words.Whole(nameof(place), place, 0, int.MaxValue), CancellationToken.None); }
+        /// <summary>Reverses the payment at this index of the book, from 0. The book keeps the time of the reversal and the
+        /// reference.</summary>
+        public Outcome Reverse(int place, string reference = null) {
+            return Run(Native.Reverse, Words.Whole(nameof(place), place, 0, int.MaxValue), CancellationToken.None, reference);
+        }
 
         public Outcome CloseDay() { return Run(Native.CloseDay, 0, CancellationToken.None); }
 
         /// <summary>Runs an order to its end. Throws a LineException if the connection ended the order, a BookException if the book
         /// failed, a RefusedException if the library refused the order, and, once the order has ended, the exception of a
         /// callback.</summary>
-        Outcome Run(uint order, long number, CancellationToken cancel) {
+        Outcome Run(uint order, long number, CancellationToken cancel, string reference = null) {
+            var named = Words.Reference(nameof(reference), reference);
             RefuseWithin();
             var message = Order(order, number);
             raised = null;
@@ -349,7 +364,7 @@ namespace Zvt {
             running = true;
             Exception broken = null;
             try {
-                KeepAndSend(order, number, message);
+                KeepAndSend(order, number, message, named);
                 HearOut(cancel);
             } catch (BookException) {
                 GiveUp();
@@ -381,9 +396,11 @@ namespace Zvt {
         }
 
         /// <summary>Makes the order durable and then sends it.</summary>
-        void KeepAndSend(uint order, long number, byte[] message) {
+        void KeepAndSend(uint order, long number, byte[] message, byte[] reference) {
             if (journal != null) {
-                Native.zvt_record_order(order, (ulong)number, message, Native.Size(message), record, Native.Size(record), out var answer);
+                var at = Encoding.ASCII.GetBytes(DateTime.UtcNow.ToString("yyyy-MM-dd'T'HH:mm:ss'Z'", CultureInfo.InvariantCulture));
+                Native.zvt_record_order(order, (ulong)number, message, Native.Size(message), at, Native.Size(at), reference,
+                    Native.Size(reference), record, Native.Size(record), out var answer);
                 MakeDurable(answer);
             }
             line.Write(message, 0, message.Length);
@@ -424,7 +441,7 @@ namespace Zvt {
             } catch (RefusedException refused) when (refused.Status == Status.NothingToCancel) {
                 return false;
             }
-            KeepAndSend(Native.Cancel, 0, message);
+            KeepAndSend(Native.Cancel, 0, message, new byte[0]);
             return true;
         }
 
@@ -730,7 +747,7 @@ namespace Zvt {
     static class Native {
         public const string Library = "libzvt.so.0";
         /// <summary>The layouts and calls that this file is made for.</summary>
-        public const uint Abi = 1;
+        public const uint Abi = 2;
         public const uint More = 1;
         public const uint Register = 1, Pay = 2, Reverse = 3, CloseDay = 4, Cancel = 5;
 
@@ -788,8 +805,8 @@ namespace Zvt {
         [DllImport(Library)] public static extern uint zvt_till_load(TillHandle till, byte[] bytes, UIntPtr length);
         [DllImport(Library)] public static extern void zvt_till_recover(TillHandle till, byte[] text, UIntPtr length, out Answer answer);
         [DllImport(Library)] public static extern void zvt_record_opening(ushort currency, [Out] byte[] room, UIntPtr length, out Answer answer);
-        [DllImport(Library)] public static extern void zvt_record_order(uint order, ulong number, byte[] sent, UIntPtr sentLength, [Out] byte[] room,
-            UIntPtr length, out Answer answer);
+        [DllImport(Library)] public static extern void zvt_record_order(uint order, ulong number, byte[] sent, UIntPtr sentLength, byte[] at,
+            UIntPtr atLength, byte[] reference, UIntPtr referenceLength, [Out] byte[] room, UIntPtr length, out Answer answer);
         [DllImport(Library)] public static extern UIntPtr zvt_record_heard(byte[] bytes, UIntPtr length, [Out] byte[] room, UIntPtr roomLength, out Answer answer);
         [DllImport(Library)] public static extern void zvt_record_lost([Out] byte[] room, UIntPtr length, out Answer answer);
 

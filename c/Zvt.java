@@ -15,6 +15,8 @@ import java.nio.charset.StandardCharsets;
 import java.nio.file.Files;
 import java.nio.file.Path;
 import java.time.Duration;
+import java.time.Instant;
+import java.time.temporal.ChronoUnit;
 import java.util.ArrayList;
 import java.util.Arrays;
 import java.util.List;
@@ -40,7 +42,7 @@ public final class Zvt {
     private Zvt() {}
 
     /** Version of the struct layouts and calls that this file expects. */
-    static final int ABI = 1;
+    static final int ABI = 2;
     private static final int ROOM = 8 * 32, LINE_ROOM = 65534, RECORD_ROOM = 131200;
     private static final long MAX_AMOUNT = 999_999_999_999L;
 
@@ -150,7 +152,7 @@ public final class Zvt {
     /** A payment, either booked or unclear for a cause. */
     public static final class Entry {
         public final long amount;
-        /** The numbers of a booked payment; the receipt number only if the terminal gave one. */
+        /** The numbers of the payment, each only if the terminal gave it; an unclear payment has those that the terminal named in it. */
         public final Integer trace, receipt;
         /** Whether a reversal of it was completed. */
         public final boolean reversed;
@@ -160,7 +162,7 @@ public final class Zvt {
 
         Entry(EntryNumbers from, boolean booked) {
             amount = from.amount;
-            trace = booked ? from.trace : null;
+            trace = booked || from.trace != 0 ? Integer.valueOf(from.trace) : null;
             receipt = from.has_receipt == 1 ? from.receipt : null;
             reversed = from.reversed == 1;
             cause = from.cause == 0 ? null : Cause.values()[from.cause - 1];
@@ -187,6 +189,17 @@ public final class Zvt {
             throw new IllegalArgumentException(name + " is a number from " + least + " to " + most + ", and not " + number);
         }
         return number;
+    }
+
+    /** Returns the bytes of a reference, none if there is none. */
+    private static byte[] referenced(String reference) {
+        if (reference == null) {
+            return new byte[0];
+        }
+        if (!reference.matches("[!-~]{1,40}")) {
+            throw new IllegalArgumentException("reference is 1 to 40 printable ASCII characters without a space, and not " + reference);
+        }
+        return reference.getBytes(StandardCharsets.US_ASCII);
     }
 
     /** The settings of a till. */
@@ -413,25 +426,33 @@ public final class Zvt {
             ended(step);
         }
 
-        public Outcome register() throws IOException { return run(REGISTER, 0, null); }
+        public Outcome register() throws IOException { return run(REGISTER, 0, null, null); }
 
         public Outcome pay(long amount) throws IOException { return pay(amount, null); }
 
         /** Pays an amount. Five times a second the till asks whether to cancel the payment; the terminal decides. */
-        public Outcome pay(long amount, BooleanSupplier wantsCancel) throws IOException {
-            return run(PAY, whole("amount", amount, 1, MAX_AMOUNT), wantsCancel);
+        public Outcome pay(long amount, BooleanSupplier wantsCancel) throws IOException { return pay(amount, wantsCancel, null); }
+
+        /** Pays an amount. The book keeps the time of the payment and the reference, 1 to 40 printable ASCII characters without a
+         * space, or null. */
+        public Outcome pay(long amount, BooleanSupplier wantsCancel, String reference) throws IOException {
+            return run(PAY, whole("amount", amount, 1, MAX_AMOUNT), wantsCancel, reference);
         }
 
         /** Reverses the payment at this index of the book, from 0. */
-        public Outcome reverse(int place) throws IOException {
-            return run(REVERSE, whole("place", place, 0, Integer.MAX_VALUE), null);
+        public Outcome reverse(int place) throws IOException { return reverse(place, null); }
+
+        /** Reverses the payment at this index of the book, from 0. The book keeps the time of the reversal and the reference. */
+        public Outcome reverse(int place, String reference) throws IOException {
+            return run(REVERSE, whole("place", place, 0, Integer.MAX_VALUE), null, reference);
         }
 
-        public Outcome closeDay() throws IOException { return run(CLOSE_DAY, 0, null); }
+        public Outcome closeDay() throws IOException { return run(CLOSE_DAY, 0, null, null); }
 
         /** Runs an order to its end. Throws a LineException if the connection ended the order, a BookException if the book failed,
          * a RefusedException if the library refused the order, and, once the order has ended, the exception of a callback. */
-        private Outcome run(int order, long number, BooleanSupplier wantsCancel) throws IOException {
+        private Outcome run(int order, long number, BooleanSupplier wantsCancel, String reference) throws IOException {
+            byte[] named = referenced(reference);
             refuseWithin();
             byte[] message = order(order, number);
             raised = null;
@@ -439,7 +460,7 @@ public final class Zvt {
             running = true;
             IOException broken = null;
             try {
-                keepAndSend(order, number, message);
+                keepAndSend(order, number, message, named);
                 hearOut(wantsCancel);
             } catch (BookException error) {
                 giveUp();
@@ -473,10 +494,12 @@ public final class Zvt {
         }
 
         /** Makes the order durable and then sends it. */
-        private void keepAndSend(int order, long number, byte[] message) throws IOException {
+        private void keepAndSend(int order, long number, byte[] message, byte[] reference) throws IOException {
             if (book != null) {
                 Answer answer = new Answer();
-                calls.zvt_record_order(order, number, message, new NativeLong(message.length), record, new NativeLong(RECORD_ROOM), answer);
+                byte[] at = Instant.now().truncatedTo(ChronoUnit.SECONDS).toString().getBytes(StandardCharsets.US_ASCII);
+                calls.zvt_record_order(order, number, message, new NativeLong(message.length), at, new NativeLong(at.length), reference,
+                    new NativeLong(reference.length), record, new NativeLong(RECORD_ROOM), answer);
                 makeDurable(answer);
             }
             line.write(message);
@@ -540,7 +563,7 @@ public final class Zvt {
                 }
                 return false;
             }
-            keepAndSend(CANCEL, 0, message);
+            keepAndSend(CANCEL, 0, message, new byte[0]);
             return true;
         }
 
@@ -934,7 +957,8 @@ public final class Zvt {
         int zvt_till_load(Pointer till, byte[] bytes, NativeLong length);
         void zvt_till_recover(Pointer till, byte[] text, NativeLong length, Answer answer);
         void zvt_record_opening(short currency, byte[] room, NativeLong length, Answer answer);
-        void zvt_record_order(int order, long number, byte[] sent, NativeLong sentLength, byte[] room, NativeLong length, Answer answer);
+        void zvt_record_order(int order, long number, byte[] sent, NativeLong sentLength, byte[] at, NativeLong atLength, byte[] reference,
+            NativeLong referenceLength, byte[] room, NativeLong length, Answer answer);
         NativeLong zvt_record_heard(byte[] bytes, NativeLong length, byte[] room, NativeLong roomLength, Answer answer);
         void zvt_record_lost(byte[] room, NativeLong length, Answer answer);
     }

@@ -18,8 +18,9 @@ def checked(lines):
 
 OPENING = "# zvt journal 1, currency 978\n"
 ACKNOWLEDGED, COMPLETION = checked("< 800000\n"), checked("< 060F00\n> 800000\n")
-REGISTER = checked("!\n") + checked("# register\n> 060006000000BE0978\n") + ACKNOWLEDGED + COMPLETION
-PAY = checked("# pay 1234\n> 06010A04000000001234490978\n")
+AT = "2026-11-28T09:14:03Z"
+REGISTER = checked("!\n") + checked(f"# register at {AT}\n> 060006000000BE0978\n") + ACKNOWLEDGED + COMPLETION
+PAY = checked(f"# pay 1234 at {AT}\n> 06010A04000000001234490978\n")
 APPROVAL = checked(f"< {APPROVED}\n> 800000\n")
 PAYMENT = PAY + ACKNOWLEDGED + APPROVAL + COMPLETION
 BOOKED, UNCLEAR = zvt.Entry(1234, 17, 5), zvt.Entry(1234, cause=zvt.Cause.LINE)
@@ -77,6 +78,22 @@ def a_book_has_the_text_of_the_format():
     assert oct(os.stat(shop.path).st_mode & 0o777) == "0o600"
 
 
+def a_reference_is_in_the_book():
+    shop, terminal = Shop(), Terminal()
+    with shop.till_at(terminal) as till:
+        for reference in ("", "two words", "x" * 41, "caf\u00e9", "line\n"):
+            try:
+                till.pay(1234, reference=reference)
+                assert False, reference
+            except ValueError:
+                pass
+        assert till.state().running is None and shop.reads() == OPENING + REGISTER + "\n", shop.reads()
+        terminal.says(PAID)
+        till.pay(1234, reference='"A\\1009~')
+        named = checked(f"# pay 1234 at {AT} ref \"A\\1009~\n> 06010A04000000001234490978\n")
+        assert shop.reads() == OPENING + REGISTER + named + PAYMENT.removeprefix(PAY) + "\n", shop.reads()
+
+
 def a_book_outlives_its_till():
     shop, terminal = Shop(), Terminal()
     with shop.till_at(terminal) as till:
@@ -86,8 +103,8 @@ def a_book_outlives_its_till():
     with shop.till_at(terminal) as till:
         assert till.book() == [BOOKED] and till.unclear() == [] and till.journal.cut == b"" and not till.journal.created
         terminal.says(ACK + REVERSED + DONE)
-        assert till.reverse(0).ending == zvt.Ending.REVERSED
-    text = OPENING + REGISTER + PAYMENT + REGISTER + checked("# reverse 1\n> 0630060000008700" + "05\n") + ACKNOWLEDGED + checked(f"< {REVERSED}\n> 800000\n") + COMPLETION
+        assert till.reverse(0, reference="B-7").ending == zvt.Ending.REVERSED
+    text = OPENING + REGISTER + PAYMENT + REGISTER + checked(f"# reverse 1 at {AT} ref B-7\n> 0630060000008700" + "05\n") + ACKNOWLEDGED + checked(f"< {REVERSED}\n> 800000\n") + COMPLETION
     assert shop.reads() == text + "\n", shop.reads()
     assert is_recovered(text, [BOOKED._replace(reversed=True)], [])
 
@@ -95,8 +112,10 @@ def a_book_outlives_its_till():
 def each_beginning_of_a_payment_is_unclear():
     before = OPENING + REGISTER
     assert is_recovered(before, [], [])
-    for text in (PAY, PAY + ACKNOWLEDGED, PAY + ACKNOWLEDGED + APPROVAL):
+    for text in (PAY, PAY + ACKNOWLEDGED):
         assert is_recovered(before + text, [], [UNCLEAR]), text
+    # the numbers of the approval are known
+    assert is_recovered(before + PAY + ACKNOWLEDGED + APPROVAL, [], [UNCLEAR._replace(trace=17, receipt=5)])
     assert is_recovered(before + PAYMENT, [BOOKED], [])
     # after the gate nothing counts
     assert is_recovered(before + PAYMENT + "\n" + PAYMENT, [BOOKED], [])
@@ -142,7 +161,7 @@ def a_password_is_not_in_the_book():
     terminal.says(ACK + DONE)
     till.close_day()
     assert terminal.was_sent().startswith("0650031234" + "56")
-    assert "123456" not in shop.reads() and "# close\n> 065003000000\n" in shop.reads(), shop.reads()
+    assert "123456" not in shop.reads() and f"# close at {AT}\n> 065003000000\n" in shop.reads(), shop.reads()
 
 
 def a_cancel_is_in_the_book():
@@ -154,7 +173,7 @@ def a_cancel_is_in_the_book():
         terminal.says("061E016C")
         return True
     assert till.pay(1234, wants_cancel=cancels).code == 0x6C
-    assert shop.reads().endswith(PAY + ACKNOWLEDGED + checked("# cancel\n> 06B000\n") + checked("< 061E016C\n> 800000\n") + "\n"), shop.reads()
+    assert shop.reads().endswith(PAY + ACKNOWLEDGED + checked(f"# cancel at {AT}\n> 06B000\n") + checked("< 061E016C\n> 800000\n") + "\n"), shop.reads()
     till.close()
     assert is_recovered(shop.reads(), [], [])
 
@@ -231,7 +250,8 @@ def an_interrupt_in_a_write_ends_the_book():
             pass
         till.close()
         # A record counts once its first byte is over the gate, whether that was synced or not.
-        assert is_recovered(shop.reads(), [BOOKED] if place == 7 else [], [UNCLEAR] if 0 < place < 7 else []), place
+        unclear = [] if place in (0, 7) else [UNCLEAR._replace(trace=17, receipt=5)] if place > 4 else [UNCLEAR]
+        assert is_recovered(shop.reads(), [BOOKED] if place == 7 else [], unclear), place
 
 
 def a_callback_that_raises_hides_nothing_from_the_book():
@@ -309,6 +329,7 @@ def a_till_with_a_book_takes_no_save():
 
 
 if __name__ == "__main__":
+    zvt.now = lambda: AT
     holds("book_check", [it for name, it in list(globals().items()) if callable(it) and getattr(it, "__module__", "") == "__main__"
                          and name not in ("Shop", "checked", "refuses", "is_recovered")])
     print("zvt.py: all books, their texts, crashes and full disks")

@@ -15,7 +15,7 @@ static void show_journal(const uint8_t *registered, size_t length) {
     zvt::Till till(123456);
     std::string journal = zvt::record_opening() + zvt::record_lost();
     till.connected();
-    journal += zvt::record_order(ZVT_REGISTER, 0, till.order(ZVT_REGISTER));
+    journal += zvt::record_order(ZVT_REGISTER, 0, till.order(ZVT_REGISTER), {"2026-11-28T09:14:00Z", ""});
     while (length > 0) {
         const zvt::Heard heard = zvt::record_heard(registered, length);
         journal += heard.record;
@@ -23,7 +23,7 @@ static void show_journal(const uint8_t *registered, size_t length) {
         registered += heard.answer.size;
         length -= heard.answer.size;
     }
-    journal += zvt::record_order(ZVT_PAY, 1234, till.order(ZVT_PAY, 1234));
+    journal += zvt::record_order(ZVT_PAY, 1234, till.order(ZVT_PAY, 1234), {"2026-11-28T09:14:03Z", "A-1009"}); /* zvt::now("A-1009") */
     std::printf("%s", journal.c_str());
     zvt::Till again(123456);
     again.recover(journal);

@@ -4,7 +4,7 @@
 #[allow(dead_code)] // a part of it is used here
 mod zvt;
 
-use zvt::{Order, Refused, Till, record_heard, record_lost, record_opening, record_order, text};
+use zvt::{Note, Order, Refused, Till, record_heard, record_lost, record_opening, record_order, text};
 
 const REGISTERED: &[u8] = &[0x80, 0x00, 0x00, 0x06, 0x0F, 0x00];
 const APPROVED: &[u8] = &[
@@ -46,13 +46,18 @@ fn main() -> Result<(), Refused> {
     show_journal()
 }
 
+/// The note of an order at this time: a till takes that of `Note::now`.
+fn note(at: &str, reference: Option<&str>) -> Note {
+    Note { at: Some(at.to_string()), ..Note::now(reference) }
+}
+
 /// A till's journal, which would be in a file, and the till that is made of it.
 fn show_journal() -> Result<(), Refused> {
     let mut till = Till::new(123456, 0xBE, 978)?;
     let mut journal = [record_opening(978)?, record_lost()?].concat();
     till.connected()?;
     let sent = till.order(Order::Register)?;
-    journal.extend(record_order(Order::Register, &sent)?);
+    journal.extend(record_order(Order::Register, &sent, &note("2026-11-28T09:14:00Z", None))?);
     let mut rest = REGISTERED;
     while let Ok((record, size)) = record_heard(rest) {
         journal.extend(record);
@@ -60,7 +65,7 @@ fn show_journal() -> Result<(), Refused> {
         rest = &rest[size..];
     }
     let sent = till.order(Order::Pay(1234))?;
-    journal.extend(record_order(Order::Pay(1234), &sent)?);
+    journal.extend(record_order(Order::Pay(1234), &sent, &note("2026-11-28T09:14:03Z", Some("A-1009")))?);
     print!("{}", String::from_utf8_lossy(&journal));
     println!("{:?}", Till::recover(123456, 0xBE, 978, &journal).map(|mut till| till.unclear()));
     println!("{:?}", Till::recover(123456, 0xBE, 756, &journal).err());

@@ -6,7 +6,9 @@
 #include <inttypes.h>
 #include <stdio.h>
 #include <stdlib.h>
+#include <string.h>
 #include <sys/file.h>
+#include <time.h>
 #include <unistd.h>
 
 static uint8_t record[ZVT_RECORD_ROOM + 1];
@@ -51,8 +53,13 @@ static void run(zvt_till *till, uint32_t order, uint64_t number, const uint8_t *
     uint8_t out[ZVT_ROOM];
     zvt_step step;
     zvt_answer answer;
+    time_t now = time(NULL);
+    char at[32];
+    const char *reference = order == ZVT_PAY ? "A-1009" : ""; /* of the caller's own; it may be empty */
+    strftime(at, sizeof at, "%Y-%m-%dT%H:%M:%SZ", gmtime(&now));
     if (zvt_till_order(till, order, number, out, sizeof out, &step)) exit(1);
-    zvt_record_order(order, number, out, step.send, record, ZVT_RECORD_ROOM, &answer);
+    zvt_record_order(order, number, out, step.send, (const uint8_t *)at, strlen(at), (const uint8_t *)reference,
+                     strlen(reference), record, ZVT_RECORD_ROOM, &answer);
     append(answer.size);
     printf("send %" PRIu64 " bytes\n", step.send); /* only now */
     for (size_t at = 0; at < length; at += answer.size) {

@@ -205,7 +205,7 @@ def another_library(folder, library):
     said = subprocess.run(["nm", "-D", "--defined-only", library], stdout=subprocess.PIPE, text=True, check=True).stdout
     with open(f"{folder}/other.c", "w", encoding="ascii") as file:
         for name in (row.split()[2] for row in said.splitlines()):
-            file.write(f"int {name}(void) {{ return {2 if name == 'zvt_abi' else 0}; }}\n")
+            file.write(f"int {name}(void) {{ return {1 if name == 'zvt_abi' else 0}; }}\n")
     subprocess.run(["cc", "-w", "-shared", "-fPIC", "-Wl,-soname,libzvt.so.0", "-o", f"{folder}/libzvt.so.0", f"{folder}/other.c"], check=True)
     return folder
 
@@ -215,7 +215,7 @@ def another_library_is_refused(language, folder, other):
     environment = {**os.environ, "LD_LIBRARY_PATH": other, "ZVT_LIBRARY": f"{other}/libzvt.so.0"}
     words = language.words(folder, "Pay", "127.0.0.1", 1, f"{folder}/other.trace")
     done = subprocess.run(words, stdout=subprocess.PIPE, stderr=subprocess.STDOUT, text=True, env=environment)
-    found = (done.returncode != 0, "are of number 2, and" in done.stdout, os.path.exists(f"{folder}/other.trace"))
+    found = (done.returncode != 0, "are of number 1, and" in done.stdout, os.path.exists(f"{folder}/other.trace"))
     check(language, f"a library of another number: {done.stdout}", (True, True, False), found)
 
 
@@ -376,7 +376,7 @@ def main(library, layouts, program, *names):
                 zvt.Till(f"{other}/libzvt.so.0")
                 sys.exit("languages_check: zvt.py takes a library of another number")
             except OSError as error:
-                assert "are of number 2, and" in str(error), error
+                assert "are of number 1, and" in str(error), error
         for language in LANGUAGES:
             if names and language.name not in names:
                 continue

@@ -21,20 +21,25 @@ static int is(size_t size, const char *text) {
     strcat(journal, text);
     return 1;
 }
+/* The time and the reference of the orders below. */
+static const char *at = "", *reference = "";
+static void write_order(uint32_t kind, uint64_t number, const uint8_t *sent, size_t length, size_t size, zvt_answer *a) {
+    zvt_record_order(kind, number, sent, length, (const uint8_t *)at, strlen(at), (const uint8_t *)reference, strlen(reference), room, size, a);
+}
 /* The record of an order: written with each allocation failing, and with a byte of room too few, before it is. */
 static size_t order(uint32_t kind, uint64_t number, const uint8_t *sent, size_t length) {
     zvt_answer a;
     for (long fail = 0; fail < 9; fail++) {
         left = fail; memset(room, 0xEE, 200);
-        zvt_record_order(kind, number, sent, length, room, sizeof room, &a);
+        write_order(kind, number, sent, length, sizeof room, &a);
         left = -1;
         if (a.status == ZVT_NO_MEMORY && a.size == 0 && room[0] == 0xEE) wants++; else if (a.status) return 0;
     }
     size_t size = a.size;
     memset(room, 0xEE, 200);
-    zvt_record_order(kind, number, sent, length, room, size - 1, &a);
+    write_order(kind, number, sent, length, size - 1, &a);
     if (a.status || a.size != size || room[0] != 0xEE) return 0;
-    zvt_record_order(kind, number, sent, length, room, size, &a);
+    write_order(kind, number, sent, length, size, &a);
     return a.status || room[size] != 0xEE ? 0 : size;
 }
 /* The record of the message that stands first, of this size. */
@@ -55,7 +60,7 @@ static uint32_t refused_order(uint32_t kind, uint64_t number, size_t length) {
     zvt_answer a;
     uint8_t sent[64] = {0};
     room[0] = 0xEE;
-    zvt_record_order(kind, number, sent, length, room, sizeof room, &a);
+    write_order(kind, number, sent, length, sizeof room, &a);
     return a.size || a.place || a.reason || room[0] != 0xEE ? 99 : a.status;
 }
 static int is_state(zvt_till *t, size_t booked, size_t unclear, uint64_t total) {
@@ -76,6 +81,7 @@ int main(void) {
     const uint8_t cancel[] = {0x06, 0xB0, 0};
     const uint8_t ack[] = {0x80, 0, 0, 0x04}, done[] = {0x06, 0x0F, 0, 0x80}, strange[] = {0x05, 0x01, 1, 7}, bad[] = {0x06, 0x01, 2, 0xD0};
     const uint8_t approved[] = {0x04, 0x0F, 0x10, 0x27, 0, 4, 0, 0, 0, 0, 0x12, 0x34, 0x0B, 0, 0, 0x17, 0x87, 0, 5, 0xFF};
+    const uint8_t other_approved[] = {0x04, 0x0F, 0x10, 0x27, 0, 4, 0x99, 0x99, 0x99, 0x99, 0x99, 0x99, 0x0B, 0, 0, 0x19, 0x87, 0, 7};
     const uint8_t taken_back[] = {0x04, 0x0F, 0x11, 0x27, 0, 4, 0, 0, 0, 0, 0x12, 0x34, 0x0B, 0, 0, 0x18, 0x37, 0, 0, 0x17};
     zvt_till t = {0}, other = {0};
     zvt_answer a;
@@ -95,11 +101,24 @@ int main(void) {
     if (!is(order(ZVT_PAY, 1234, payment, 13), "# pay 1234\n> 06010A04000000001234490978\n#= A2BDB53A\n")) return 7;
     if (!is(heard(ack, 4, 3), "< 800000\n#= 9A61F70B\n") || !is(heard(strange, 4, 4), "< 05010107\n> 848300\n#= 3CFFF074\n")) return 8;
     if (!is(heard(approved, 20, 19), "< 040F1027000400000000" "12340B000017870005\n> 800000\n#= 22FB2581\n") || !is(heard(done, 3, 3), "< 060F00\n> 800000\n#= 07264E21\n")) return 9;
-    if (!is(order(ZVT_REVERSE, 0, reversal, 9), "# reverse 1\n> 063006000000870005\n#= 1C3698F8\n")) return 10;
+    reference = "~xxxxxxxxxxxxxxxxxxxxxxxxxxxxxxxxxxxxxx!"; /* the longest */
+    if (!is(order(ZVT_REVERSE, 0, reversal, 9), "# reverse 1 ref ~xxxxxxxxxxxxxxxxxxxxxxxxxxxxxxxxxxxxxx!\n> 063006000000870005\n#= E01AC284\n")) return 10;
+    reference = "";
     if (!is(heard(ack, 3, 3), "< 800000\n#= 9A61F70B\n") || !is(heard(taken_back, 20, 20), "< 040F11270004000000001234" "0B00001837000017\n> 800000\n#= 728A8674\n") || !is(heard(done, 3, 3), "< 060F00\n> 800000\n#= 07264E21\n")) return 11;
     if (!is(order(ZVT_CLOSE_DAY, 0, end_of_day, 6), "# close\n> 065003000000\n#= 28C1D3E3\n") || !is(heard(ack, 3, 3), "< 800000\n#= 9A61F70B\n") || !is(heard(done, 3, 3), "< 060F00\n> 800000\n#= 07264E21\n")) return 12;
-    if (!is(order(ZVT_PAY, 999999999999, payment, 13), "# pay 999999999999\n> 06010A04000000001234490978\n#= 5ECA635A\n") || !is(heard(ack, 3, 3), "< 800000\n#= 9A61F70B\n")) return 13;
+    at = "2026-11-28T09:14:03Z", reference = "A-1009";
+    if (!is(order(ZVT_PAY, 999999999999, payment, 13), "# pay 999999999999 at 2026-11-28T09:14:03Z ref A-1009\n> 06010A04000000001234490978\n#= 85D4A83F\n") || !is(heard(ack, 3, 3), "< 800000\n#= 9A61F70B\n")) return 13;
+    if (!is(heard(other_approved, 19, 19), "< 040F1027000499999999" "99990B000019870007\n> 800000\n#= EB6B4477\n")) return 13;
+    at = reference = "";
     if (!is(order(ZVT_CANCEL, 0, cancel, 3), "# cancel\n> 06B000\n#= 2BE4F364\n")) return 14;
+    at = "2026-11-28 09:14:03";
+    if (refused_order(ZVT_REGISTER, 0, 9) != ZVT_ARGUMENT) return 19;
+    at = "";
+    for (int wrong = 0; wrong < 3; wrong++) {
+        reference = wrong == 0 ? "two words" : wrong == 1 ? "\xC3\xA9" : "~xxxxxxxxxxxxxxxxxxxxxxxxxxxxxxxxxxxxxxx!";
+        if (refused_order(ZVT_PAY, 1, 13) != ZVT_ARGUMENT) return 19;
+    }
+    reference = "";
     if (refused_order(0, 0, 3) != ZVT_ARGUMENT || refused_order(6, 0, 3) != ZVT_ARGUMENT || refused_order(ZVT_PAY, 0, 3) != ZVT_ARGUMENT) return 15;
     if (refused_order(ZVT_PAY, 1000000000000, 3) != ZVT_ARGUMENT || refused_order(ZVT_REVERSE, 10000, 9) != ZVT_ARGUMENT || refused_order(ZVT_PAY, 1, ZVT_ROOM + 1) != ZVT_ARGUMENT) return 16;
     if (zvt_record_heard(ack, 2, room, sizeof room, &a) || a.status != ZVT_MORE || a.size) return 17;
@@ -117,7 +136,7 @@ int main(void) {
     }
     if (a.status || a.size || a.place || a.reason || !is_state(&t, 1, 1, 0)) return 23;
     if (zvt_till_entry(&t, 0, &e) || e.amount != 1234 || e.trace != 17 || e.receipt != 5 || !e.reversed || e.doubt) return 24;
-    if (zvt_till_unclear(&t, 0, &e) || e.amount != 999999999999 || e.cause != ZVT_LINE) return 25;
+    if (zvt_till_unclear(&t, 0, &e) || e.amount != 999999999999 || e.cause != ZVT_LINE || e.trace != 19 || e.receipt != 7 || !e.has_receipt) return 25;
     /* it has the password of its settings, which no record has */
     zvt_step step; uint8_t out[ZVT_ROOM];
     if (zvt_till_order(&t, ZVT_REGISTER, 0, out, sizeof out, &step) != ZVT_OFFLINE || zvt_till_connected(&t)) return 26;

@@ -25,7 +25,7 @@ extern "C" {
 
 /* Version of the struct layouts and call arguments below. If zvt_abi() returns a different number, stop: the library does not
  * match this header. */
-#define ZVT_ABI 1
+#define ZVT_ABI 2
 uint32_t zvt_abi(void);
 /* Writes the version of the library, such as 0.2.0 (ASCII, no final zero), and returns its size. If the room is too small,
  * nothing is written. */
@@ -125,6 +125,7 @@ typedef struct zvt_state {
 
 typedef struct zvt_entry {
     uint64_t amount;
+    /* of an unclear payment: the numbers that the terminal named in it; 0 if it named none, and after zvt_till_load */
     uint32_t trace, receipt, has_receipt;
     uint32_t reversed; /* 1: a reversal of it was completed */
     uint32_t cause;    /* cause of an unclear payment or reversal, else 0 */
@@ -176,9 +177,12 @@ uint32_t zvt_till_load(zvt_till *till, const uint8_t *bytes, size_t length);
  * ZVT_ARGUMENT. */
 void zvt_record_opening(uint16_t currency, uint8_t *room, size_t room_length, zvt_answer *answer);
 /* Records an order that zvt_till_order has accepted, and the bytes to send: make it durable before you send them. The record
- * has the password as 00 00 00. The answer is as above. ZVT_ARGUMENT: there is no such order, the index of the payment is
- * 10,000 or more, or there are more than ZVT_ROOM bytes. */
-void zvt_record_order(uint32_t order, uint64_t number, const uint8_t *sent, size_t sent_length, uint8_t *room,
+ * has the password as 00 00 00. `at` is the time of the order in UTC, such as 2026-11-28T09:14:03Z, and `reference` a number of
+ * your own, 1 to 40 printable ASCII characters without a space, by which `zvt book` names the payment; leave either out with the
+ * length 0. The answer is as above. ZVT_ARGUMENT: there is no such order, the index of the payment is 10,000 or more, the time or
+ * the reference has another form, or there are more than ZVT_ROOM bytes. */
+void zvt_record_order(uint32_t order, uint64_t number, const uint8_t *sent, size_t sent_length, const uint8_t *at,
+                      size_t at_length, const uint8_t *reference, size_t reference_length, uint8_t *room,
                       size_t room_length, zvt_answer *answer);
 /* Records the first message in the bytes, and the till's answer to it: make it durable before you feed the till these
  * `answer->size` bytes. Returns the size of the text, or 0 if there is no complete message. The answer is the one of zvt_scan.

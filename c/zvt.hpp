@@ -2,6 +2,7 @@
 #ifndef ZVT_HPP
 #define ZVT_HPP
 #include "zvt.h"
+#include <ctime>
 #include <stdexcept>
 #include <string>
 #include <utility>
@@ -52,10 +53,29 @@ template <typename Write> std::string record(Write write) {
 inline std::string record_opening(uint16_t currency = 978) {
     return record([&](uint8_t *room, size_t length, zvt_answer *answer) { zvt_record_opening(currency, room, length, answer); });
 }
+/* What the record of an order says beside it: its time in UTC, such as 2026-11-28T09:14:03Z, and a reference of your own, 1 to 40
+ * printable ASCII characters without a space. Either may be empty. */
+struct Note {
+    std::string at, reference;
+};
+/* The note of an order that is made now. */
+inline Note now(std::string reference = {}) {
+    const std::time_t seconds = std::time(nullptr);
+    std::tm parts{};
+#ifdef _WIN32
+    gmtime_s(&parts, &seconds);
+#else
+    gmtime_r(&seconds, &parts);
+#endif
+    char at[32];
+    return {{at, std::strftime(at, sizeof at, "%Y-%m-%dT%H:%M:%SZ", &parts)}, std::move(reference)};
+}
 /* Records an order and the bytes that Till::order returned. */
-inline std::string record_order(uint32_t order, uint64_t number, const std::vector<uint8_t> &sent) {
+inline std::string record_order(uint32_t order, uint64_t number, const std::vector<uint8_t> &sent, const Note &note = now()) {
+    const auto bytes = [](const std::string &text) { return reinterpret_cast<const uint8_t *>(text.data()); };
     return record([&](uint8_t *room, size_t length, zvt_answer *answer) {
-        zvt_record_order(order, number, sent.data(), sent.size(), room, length, answer);
+        zvt_record_order(order, number, sent.data(), sent.size(), bytes(note.at), note.at.size(), bytes(note.reference),
+                         note.reference.size(), room, length, answer);
     });
 }
 inline std::string record_lost() {

@@ -23,7 +23,7 @@ uses
 
 const
   { Version of the struct layouts and calls that this unit expects. }
-  ZvtAbi = 1;
+  ZvtAbi = 2;
   ZvtMaxAmount = 999999999999;
   { Stands for a number that an outcome or an entry does not have. }
   ZvtNone = -1;
@@ -56,7 +56,7 @@ type
   { A payment, either booked or unclear for a cause. }
   TZvtEntry = record
     Amount: Int64;
-    { The numbers of a booked payment; the receipt number only if the terminal gave one. }
+    { The numbers of the payment, each only if the terminal gave it; an unclear payment has those that the terminal named in it. }
     Trace, Receipt: Integer;
     { Whether a reversal of it was completed. }
     Reversed: Boolean;
@@ -204,9 +204,9 @@ type
     procedure RefuseWithin;
     procedure Check(Status: Cardinal);
     procedure DropLine;
-    function Run(Order: Cardinal; Number: Int64; WantsCancel: TZvtQuestion): TZvtOutcome;
+    function Run(Order: Cardinal; Number: Int64; WantsCancel: TZvtQuestion; const Reference: AnsiString = ''): TZvtOutcome;
     function GiveOrder(Order: Cardinal; Number: Int64): TBytes;
-    procedure KeepAndSend(Order: Cardinal; Number: Int64; const Bytes: TBytes);
+    procedure KeepAndSend(Order: Cardinal; Number: Int64; const Bytes: TBytes; const Reference: AnsiString = '');
     procedure MakeDurable(const Answer: TZvtAnswer);
     procedure Ended(const Step: TZvtStep);
     procedure HearOut(WantsCancel: TZvtQuestion);
@@ -236,10 +236,11 @@ type
     { Closes the connection. }
     procedure Disconnect;
     function Register: TZvtOutcome;
-    { Pays an amount. Five times a second the till asks whether to cancel the payment; the terminal decides. }
-    function Pay(Amount: Int64; WantsCancel: TZvtQuestion = nil): TZvtOutcome;
-    { Reverses the payment at this index of the book, from 0. }
-    function Reverse(Place: Integer): TZvtOutcome;
+    { Pays an amount. Five times a second the till asks whether to cancel the payment; the terminal decides. The book keeps the time
+      of the payment and the reference: up to 40 printable ASCII characters without a space. }
+    function Pay(Amount: Int64; WantsCancel: TZvtQuestion = nil; const Reference: AnsiString = ''): TZvtOutcome;
+    { Reverses the payment at this index of the book, from 0. The book keeps the time of the reversal and the reference. }
+    function Reverse(Place: Integer; const Reference: AnsiString = ''): TZvtOutcome;
     function CloseDay: TZvtOutcome;
     { The booked payments. }
     function Book: TZvtEntries;
@@ -266,7 +267,7 @@ function ZvtVersion: string;
 implementation
 
 uses
-  {$IFDEF FPC}Sockets, ssockets, {$ENDIF}Math;
+  {$IFDEF FPC}Sockets, ssockets, {$ENDIF}DateUtils, Math;
 
 const
   Library_ = 'zvt';
@@ -317,8 +318,8 @@ procedure zvt_till_save(var Till: TZvtHandle; Room: PByte; Length: NativeUInt; v
 function zvt_till_load(var Till: TZvtHandle; Bytes: PByte; Length: NativeUInt): Cardinal; cdecl; external Library_;
 procedure zvt_till_recover(var Till: TZvtHandle; Text: PByte; Length: NativeUInt; var Answer: TZvtAnswer); cdecl; external Library_;
 procedure zvt_record_opening(Currency: Word; Room: PByte; Length: NativeUInt; var Answer: TZvtAnswer); cdecl; external Library_;
-procedure zvt_record_order(Order: Cardinal; Number: UInt64; Sent: PByte; SentLength: NativeUInt; Room: PByte; Length: NativeUInt;
-  var Answer: TZvtAnswer); cdecl; external Library_;
+procedure zvt_record_order(Order: Cardinal; Number: UInt64; Sent: PByte; SentLength: NativeUInt; At: PByte; AtLength: NativeUInt;
+  Reference: PByte; ReferenceLength: NativeUInt; Room: PByte; Length: NativeUInt; var Answer: TZvtAnswer); cdecl; external Library_;
 function zvt_record_heard(Bytes: PByte; Length: NativeUInt; Room: PByte; RoomLength: NativeUInt; var Answer: TZvtAnswer): NativeUInt;
   cdecl; external Library_;
 procedure zvt_record_lost(Room: PByte; Length: NativeUInt; var Answer: TZvtAnswer); cdecl; external Library_;
@@ -337,6 +338,7 @@ function posix_recv(Socket: Integer; Room: PByte; Size: NativeUInt; Flags: Integ
 function posix_send(Socket: Integer; Bytes: PByte; Size: NativeUInt; Flags: Integer): NativeInt; cdecl; external C name 'send';
 function poll(var Polled: TPoll; Count: NativeUInt; Milliseconds: Integer): Integer; cdecl; external C;
 function errno_location: PInteger; cdecl; external C name '__errno_location';
+function seconds_since_1970(Room: PInt64): Int64; cdecl; external C name 'time';
 function strerror(Number: Integer): PAnsiChar; cdecl; external C;
 
 const
@@ -373,6 +375,16 @@ procedure Whole(const Name: string; Number, Least, Most: Int64);
 begin
   if (Number < Least) or (Number > Most) then
     raise EZvtArgument.CreateFmt('%s is a number from %d to %d, and not %d', [Name, Least, Most, Number]);
+end;
+
+procedure CheckReference(const Reference: AnsiString);
+var
+  Letter: AnsiChar;
+begin
+  if Length(Reference) > 40 then raise EZvtArgument.Create('a reference has at most 40 characters');
+  for Letter in Reference do
+    if (Letter <= ' ') or (Letter > '~') then
+      raise EZvtArgument.CreateFmt('a reference has printable ASCII characters and no space, and is not %s', [Reference]);
 end;
 
 { A pointer to the first byte, or nil. }
@@ -454,7 +466,7 @@ begin
   Result.Amount := From.Amount;
   Result.Trace := ZvtNone;
   Result.Receipt := ZvtNone;
-  if Booked then Result.Trace := From.Trace;
+  if Booked or (From.Trace <> 0) then Result.Trace := From.Trace;
   if From.HasReceipt = 1 then Result.Receipt := From.Receipt;
   Result.Reversed := From.Reversed = 1;
   Result.Cause := TZvtCause(From.Cause);
@@ -677,16 +689,16 @@ begin
   Result := Run(OrderRegister, 0, nil);
 end;
 
-function TZvtTill.Pay(Amount: Int64; WantsCancel: TZvtQuestion): TZvtOutcome;
+function TZvtTill.Pay(Amount: Int64; WantsCancel: TZvtQuestion; const Reference: AnsiString): TZvtOutcome;
 begin
   Whole('amount', Amount, 1, ZvtMaxAmount);
-  Result := Run(OrderPay, Amount, WantsCancel);
+  Result := Run(OrderPay, Amount, WantsCancel, Reference);
 end;
 
-function TZvtTill.Reverse(Place: Integer): TZvtOutcome;
+function TZvtTill.Reverse(Place: Integer; const Reference: AnsiString): TZvtOutcome;
 begin
   Whole('place', Place, 0, MaxInt);
-  Result := Run(OrderReverse, Place, nil);
+  Result := Run(OrderReverse, Place, nil, Reference);
 end;
 
 function TZvtTill.CloseDay: TZvtOutcome;
@@ -696,12 +708,13 @@ end;
 
 { Runs an order to its end. Raises EZvtLine if the connection ended the order, EZvtBook if the book failed, EZvtRefused if the
   library refused the order, and, once the order has ended, the exception of a callback. }
-function TZvtTill.Run(Order: Cardinal; Number: Int64; WantsCancel: TZvtQuestion): TZvtOutcome;
+function TZvtTill.Run(Order: Cardinal; Number: Int64; WantsCancel: TZvtQuestion; const Reference: AnsiString): TZvtOutcome;
 var
   Bytes: TBytes;
   Why: string;
   Raised: TObject;
 begin
+  CheckReference(Reference);
   RefuseWithin;
   Bytes := GiveOrder(Order, Number);
   FRaised := nil;
@@ -710,7 +723,7 @@ begin
   Why := '';
   try
     try
-      KeepAndSend(Order, Number, Bytes);
+      KeepAndSend(Order, Number, Bytes, Reference);
       HearOut(WantsCancel);
     except
       on Error: EZvtBroken do
@@ -744,13 +757,16 @@ begin
 end;
 
 { Makes the order durable and then sends it. }
-procedure TZvtTill.KeepAndSend(Order: Cardinal; Number: Int64; const Bytes: TBytes);
+procedure TZvtTill.KeepAndSend(Order: Cardinal; Number: Int64; const Bytes: TBytes; const Reference: AnsiString);
 var
   Answer: TZvtAnswer;
+  At: AnsiString;
 begin
   if FJournal <> nil then
   begin
-    zvt_record_order(Order, Number, First(Bytes), Length(Bytes), First(FRecord), RecordRoom, Answer);
+    At := FormatDateTime('yyyy"-"mm"-"dd"T"hh":"nn":"ss"Z"', UnixToDateTime(seconds_since_1970(nil)));
+    zvt_record_order(Order, Number, First(Bytes), Length(Bytes), PByte(At), Length(At), PByte(Reference), Length(Reference),
+      First(FRecord), RecordRoom, Answer);
     MakeDurable(Answer);
   end;
   FLine.Write(Bytes);

@@ -16,6 +16,7 @@ module uses the one of the Python package, or else the one of the system.
 import ctypes as c
 import enum
 import os
+import re
 import select
 import socket
 import time
@@ -23,7 +24,7 @@ from typing import NamedTuple, Optional
 
 ROOM, LINE_ROOM, RECORD_ROOM = 8 * 32, 65534, 131200
 # The layouts and calls that this module is made for.
-ABI = 1
+ABI = 2
 # The amount that a message can hold at most.
 MAX_AMOUNT = 999_999_999_999
 
@@ -107,7 +108,7 @@ class Outcome(NamedTuple):
 class Entry(NamedTuple):
     """A payment, either booked or unclear for a cause."""
     amount: int
-    trace: Optional[int] = None
+    trace: Optional[int] = None      # of an unclear payment: the numbers that the terminal named in it
     receipt: Optional[int] = None
     reversed: bool = False           # a completed reversal took it back
     cause: Optional[Cause] = None    # why the payment is unclear, or its last reversal
@@ -205,7 +206,8 @@ _TYPES = {
     "zvt_till_load": [c.c_void_p, c.c_char_p, c.c_size_t],
     "zvt_till_recover": [c.c_void_p, c.c_char_p, c.c_size_t, c.c_void_p],
     "zvt_record_opening": [c.c_uint16, c.c_void_p, c.c_size_t, c.c_void_p],
-    "zvt_record_order": [c.c_uint32, c.c_uint64, c.c_char_p, c.c_size_t, c.c_void_p, c.c_size_t, c.c_void_p],
+    "zvt_record_order": [c.c_uint32, c.c_uint64, c.c_char_p, c.c_size_t, c.c_char_p, c.c_size_t, c.c_char_p, c.c_size_t, c.c_void_p,
+                         c.c_size_t, c.c_void_p],
     "zvt_record_heard": [c.c_char_p, c.c_size_t, c.c_void_p, c.c_size_t, c.c_void_p],
     "zvt_record_lost": [c.c_void_p, c.c_size_t, c.c_void_p],
 }
@@ -221,6 +223,20 @@ def whole(name, number, least, most):
         raise TypeError(f"{name} is a whole number, and not {number!r}")
     if not least <= number <= most:
         raise ValueError(f"{name} is a number from {least} to {most}, and not {number}")
+
+
+def referenced(reference):
+    """Returns the reference as bytes. Raises a TypeError or a ValueError unless it is one."""
+    if not isinstance(reference, str):
+        raise TypeError(f"reference is a string, and not {reference!r}")
+    if not re.fullmatch("[!-~]{1,40}", reference):
+        raise ValueError(f"reference is 1 to 40 printable ASCII characters without a space, and not {reference!r}")
+    return reference.encode("ascii")
+
+
+def now():
+    """Returns the time in UTC, in the form of a record."""
+    return time.strftime("%Y-%m-%dT%H:%M:%SZ", time.gmtime())
 
 
 def opened(library=None):
@@ -393,17 +409,19 @@ class Till:
     def register(self):
         return self._run(Order.REGISTER)
 
-    def pay(self, amount, wants_cancel=None):
+    def pay(self, amount, wants_cancel=None, reference=None):
         """Pays an amount. `wants_cancel`, if given, is called five times a second; if it returns True, the till asks the
-        terminal to cancel the payment, and the terminal decides."""
+        terminal to cancel the payment, and the terminal decides. The book keeps the time of the payment and the
+        `reference`, 1 to 40 printable ASCII characters without a space."""
         whole("amount", amount, 1, MAX_AMOUNT)
-        return self._run(Order.PAY, amount, wants_cancel)
+        return self._run(Order.PAY, amount, wants_cancel, reference)
 
-    def reverse(self, place):
+    def reverse(self, place, reference=None):
         """Reverses the payment at this index of the book, from 0. If the outcome is unclear, the reversal may have
-        succeeded or not, and `unclear_reversals` has the payment until a later reversal of it decides."""
+        succeeded or not, and `unclear_reversals` has the payment until a later reversal of it decides. The book keeps the
+        time of the reversal and the `reference`."""
         whole("place", place, 0, (1 << 64) - 1)
-        return self._run(Order.REVERSE, place)
+        return self._run(Order.REVERSE, place, reference=reference)
 
     def close_day(self):
         return self._run(Order.CLOSE_DAY)
@@ -443,9 +461,10 @@ class Till:
         if self.journal is not None:
             self.journal.give_up()
 
-    def _keep_and_send(self, order, number, message):
+    def _keep_and_send(self, order, number, message, reference=b""):
         """Makes the order durable, saves the till, and only then sends the order."""
-        self._make_durable("order", order, number, message, len(message))
+        at = now().encode("ascii")
+        self._make_durable("order", order, number, message, len(message), at, len(at), reference, len(reference))
         if self._keep is not None:
             self._keep(self.save())
         self._send(message)
@@ -460,15 +479,16 @@ class Till:
             self._tell(lambda: self._keep(self.save()))
         return outcome
 
-    def _run(self, order, number=0, wants_cancel=None):
+    def _run(self, order, number=0, wants_cancel=None, reference=None):
         """Runs an order to its end. Closes the connection if it fails, times out or sends invalid bytes. If that ends the
         order, raises a LineError, unless a callback raised an exception."""
+        reference = b"" if reference is None else referenced(reference)
         self._refuse_within()
         message = self._order(order, number)
         self._raised = self._outcome = broken = None
         self._running = True
         try:
-            self._keep_and_send(order, number, message)
+            self._keep_and_send(order, number, message, reference)
             self._hear_out(wants_cancel)
         except _BrokenLine as error:
             self._give_up()
@@ -613,10 +633,11 @@ class Till:
     def _entry(self, kind, place):
         entry = _Entry()
         self._call(kind, place, c.byref(entry))
+        receipt = entry.receipt if entry.has_receipt else None
         if kind == "unclear":
-            return Entry(entry.amount, cause=Cause(entry.cause))
+            return Entry(entry.amount, entry.trace or None, receipt, cause=Cause(entry.cause))
         doubt = Doubt(entry.doubt) if entry.doubt else None
-        return Entry(entry.amount, entry.trace, entry.receipt if entry.has_receipt else None, bool(entry.reversed),
+        return Entry(entry.amount, entry.trace, receipt, bool(entry.reversed),
                      Cause(entry.cause) if doubt == Doubt.UNCLEAR_REVERSAL else None, doubt)
 
     def save(self):

@@ -4,6 +4,7 @@ use std::fmt;
 use std::marker::PhantomData;
 use std::mem::{offset_of, size_of};
 use std::ptr::null_mut;
+use std::time::{SystemTime, UNIX_EPOCH};
 
 const ROOM: usize = 32;
 /// Size of a buffer that holds any print line.
@@ -95,7 +96,7 @@ const _: () = assert!(
 );
 
 /// Version of the struct layouts and calls that this file expects.
-const ABI: u32 = 1;
+const ABI: u32 = 2;
 
 unsafe extern "C" {
     fn zvt_abi() -> u32;
@@ -117,7 +118,8 @@ unsafe extern "C" {
     fn zvt_till_recover(till: *mut Handle, text: *const u8, length: usize, answer: *mut Answer);
     fn zvt_record_opening(currency: u16, room: *mut u8, room_length: usize, answer: *mut Answer);
     fn zvt_record_order(
-        order: u32, number: u64, sent: *const u8, sent_length: usize, room: *mut u8, room_length: usize, answer: *mut Answer,
+        order: u32, number: u64, sent: *const u8, sent_length: usize, at: *const u8, at_length: usize, reference: *const u8,
+        reference_length: usize, room: *mut u8, room_length: usize, answer: *mut Answer,
     );
     fn zvt_record_heard(bytes: *const u8, length: usize, room: *mut u8, room_length: usize, answer: *mut Answer) -> usize;
     fn zvt_record_lost(room: *mut u8, room_length: usize, answer: *mut Answer);
@@ -324,6 +326,9 @@ pub struct Entry {
 pub struct Unclear {
     pub amount: u64,
     pub cause: Cause,
+    /// The numbers that the terminal named in this payment.
+    pub trace: Option<u32>,
+    pub receipt: Option<u16>,
 }
 
 /// Result of feeding bytes from the terminal. Send `send` whatever `stop` is.
@@ -491,7 +496,9 @@ impl Till {
             .map(|place| {
                 let mut entry = EntryNumbers::default();
                 checked(unsafe { zvt_till_unclear(&mut self.handle, place, &mut entry) })?;
-                Ok(Unclear { amount: entry.amount, cause: Cause::of(entry.cause) })
+                let trace = (entry.trace > 0).then_some(entry.trace);
+                let receipt = receipt((entry.receipt, entry.has_receipt));
+                Ok(Unclear { amount: entry.amount, cause: Cause::of(entry.cause), trace, receipt })
             })
             .collect()
     }
@@ -534,11 +541,46 @@ pub fn record_opening(currency: u16) -> Result<Vec<u8>, Refused> {
     record(|room, length, answer| unsafe { zvt_record_opening(currency, room, length, answer) })
 }
 
+/// What the record of an order says beside it.
+#[derive(Clone, Debug, Default, PartialEq, Eq)]
+pub struct Note {
+    /// The time of the order in UTC, such as `2026-11-28T09:14:03Z`.
+    pub at: Option<String>,
+    /// A reference of the caller's: 1 to 40 printable ASCII characters without a space.
+    pub reference: Option<String>,
+}
+
+impl Note {
+    /// Returns the note of an order that is made now.
+    pub fn now(reference: Option<&str>) -> Note {
+        let seconds = SystemTime::now().duration_since(UNIX_EPOCH).map_or(0, |since| since.as_secs());
+        Note { at: Some(utc(seconds)), reference: reference.map(str::to_owned) }
+    }
+}
+
+/// Returns the time that many seconds after the beginning of 1970, in UTC.
+fn utc(seconds: u64) -> String {
+    let (days, second) = (seconds / 86_400, seconds % 86_400);
+    // Years begin with March here, so that a leap day is the last day of its year; an era is 400 of them.
+    let shifted = days + 719_468;
+    let (era, day_of_era) = (shifted / 146_097, shifted % 146_097);
+    let year_of_era = (day_of_era - day_of_era / 1_460 + day_of_era / 36_524 - day_of_era / 146_096) / 365;
+    let day_of_year = day_of_era - (365 * year_of_era + year_of_era / 4 - year_of_era / 100);
+    let shifted_month = (5 * day_of_year + 2) / 153;
+    let day = day_of_year - (153 * shifted_month + 2) / 5 + 1;
+    let month = if shifted_month < 10 { shifted_month + 3 } else { shifted_month - 9 };
+    let year = era * 400 + year_of_era + u64::from(month <= 2);
+    format!("{year:04}-{month:02}-{day:02}T{:02}:{:02}:{:02}Z", second / 3_600, second / 60 % 60, second % 60)
+}
+
 /// Returns the record of an order, with the bytes that [`Till::order`] returned. Make it durable before you send them.
-pub fn record_order(order: Order, sent: &[u8]) -> Result<Vec<u8>, Refused> {
+pub fn record_order(order: Order, sent: &[u8], note: &Note) -> Result<Vec<u8>, Refused> {
     let (kind, number) = order.numbers();
+    let (at, reference) = (note.at.as_deref().unwrap_or(""), note.reference.as_deref().unwrap_or(""));
     record(|room, length, answer| unsafe {
-        zvt_record_order(kind, number, sent.as_ptr(), sent.len(), room, length, answer)
+        zvt_record_order(
+            kind, number, sent.as_ptr(), sent.len(), at.as_ptr(), at.len(), reference.as_ptr(), reference.len(), room, length, answer,
+        )
     })
 }
 

@@ -11,7 +11,6 @@ text. The objects of docs/JSON.md are among those that are seen. Each line is he
 has jsonschema. The status is 1 where anything differs. It takes seconds.
 """
 import contextlib
-import itertools
 import json
 import os
 import random
@@ -93,8 +92,8 @@ def hold_vectors(chance):
 
 # ---- the book of a till
 
-def entry_object(number, entry):
-    booked = {"amount": entry.amount, "number": number, "trace": entry.trace}
+def entry_object(currency, number, entry):
+    booked = {"amount": entry.amount, "currency": currency, "number": number, "trace": entry.trace}
     if entry.receipt is not None:
         booked["receipt"] = entry.receipt.hex().upper()
     if entry.reversed:
@@ -107,9 +106,14 @@ def entry_object(number, entry):
 
 
 def book_objects(book):
-    yield from itertools.starmap(entry_object, enumerate(book.entries, 1))
-    yield from ({"unclear": {"amount": amount, "cause": cause}} for amount, cause in book.unclear)
-    yield {"total": book.total()}
+    currency = f"{book.currency:04}"
+    for number, entry in enumerate(book.entries, 1):
+        yield entry_object(currency, number, entry)
+    for (amount, cause), (trace, receipt) in zip(book.unclear, book.heard):
+        receipt = None if receipt is None else receipt.hex().upper()
+        members = {"amount": amount, "cause": cause, "currency": currency, "receipt": receipt, "trace": trace}
+        yield {"unclear": {name: member for name, member in members.items() if member is not None}}
+    yield {"currency": currency, "total": book.total()}
 
 
 def hold_books(folder):

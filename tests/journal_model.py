@@ -107,9 +107,10 @@ class Entry:
 
 @dataclasses.dataclass
 class Book:
-    currency: int = 0
+    currency: int = 978  # of a file without a record: that of a new till
     entries: list = dataclasses.field(default_factory=list)
     unclear: list = dataclasses.field(default_factory=list)  # an amount and a cause each
+    heard: list = dataclasses.field(default_factory=list)  # of each unclear payment: the trace number and the receipt number
 
     def total(self):
         return sum(entry.amount for entry in self.entries if not entry.reversed)
@@ -248,6 +249,7 @@ class Reader:
             self.book.entries.append(Entry(order.number, trace, receipt))
         else:
             self.book.unclear.append((order.number, cause))
+            self.book.heard.append(last_named(order))
 
     def end_reversal(self, order, how):
         entry = self.book.entries[order.number - 1]
@@ -255,6 +257,15 @@ class Reader:
         cause = cause or cause_of(order.statuses, entry.amount, self.book.currency, entry.trace)
         entry.doubt = cause
         entry.reversed = entry.reversed or cause is None
+
+
+def last_named(order):
+    """The trace number and the receipt number that the statuses of an order name, each the last one."""
+    trace = receipt = None
+    for found in order.statuses:
+        trace = number_of(only(found, TRACE)) if number_of(only(found, TRACE)) is not None else trace
+        receipt = only(found, RECEIPT) or receipt
+    return trace, receipt
 
 
 def recovered(file):
@@ -380,6 +391,13 @@ def status(amount, trace, receipt=None, currency=None, original=None, result=0):
 
 # ---- the command line
 
+def heard_text(trace, receipt):
+    number = "-" if receipt is None else receipt.hex().upper()
+    if trace is None:
+        return "" if receipt is None else f" receipt {number}"
+    return f" trace {trace:06} receipt {number}"
+
+
 def text_of(book):
     """The lines that `zvt book` writes."""
     lines = []
@@ -388,7 +406,7 @@ def text_of(book):
         mark = " reversed" + mark if entry.reversed else mark
         receipt = "-" if entry.receipt is None else entry.receipt.hex().upper()
         lines.append(f"booked {entry.amount} trace {entry.trace:06} receipt {receipt}{mark}")
-    lines += [f"unclear {amount} {cause}" for amount, cause in book.unclear]
+    lines += [f"unclear {amount} {cause}{heard_text(*heard)}" for (amount, cause), heard in zip(book.unclear, book.heard)]
     return "\n".join(lines + [f"total {book.total()}"])
 
 

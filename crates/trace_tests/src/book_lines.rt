@@ -15,24 +15,29 @@ booked 30 trace 000003 receipt 0003 reversal unclear Line
 booked 4 trace 000004 receipt -
 booked 800 trace 000005 receipt 9999 taken back
 unclear 500 NoStatus
+unclear 600 Line trace 000007 receipt 0014
+unclear 700 Line receipt 0015
 total 1834
 "#;
 
-const OBJECTS: &str = r#"{"booked":{"amount":1000,"number":1,"receipt":"0001","trace":1}}
-{"booked":{"amount":200,"number":2,"receipt":"0012","reversed":true,"trace":2}}
-{"booked":{"amount":30,"number":3,"receipt":"0003","reversal_unclear":"Line","trace":3}}
-{"booked":{"amount":4,"number":4,"trace":4}}
-{"booked":{"amount":800,"number":5,"receipt":"9999","taken_back":true,"trace":5}}
-{"unclear":{"amount":500,"cause":"NoStatus"}}
-{"total":1834}
+const OBJECTS: &str =
+    r#"{"booked":{"amount":1000,"currency":"0978","number":1,"receipt":"0001","trace":1}}
+{"booked":{"amount":200,"currency":"0978","number":2,"receipt":"0012","reversed":true,"trace":2}}
+{"booked":{"amount":30,"currency":"0978","number":3,"receipt":"0003","reversal_unclear":"Line","trace":3}}
+{"booked":{"amount":4,"currency":"0978","number":4,"trace":4}}
+{"booked":{"amount":800,"currency":"0978","number":5,"receipt":"9999","taken_back":true,"trace":5}}
+{"unclear":{"amount":500,"cause":"NoStatus","currency":"0978"}}
+{"unclear":{"amount":600,"cause":"Line","currency":"0978","receipt":"0014","trace":7}}
+{"unclear":{"amount":700,"cause":"Line","currency":"0978","receipt":"0015"}}
+{"currency":"0978","total":1834}
 "#;
 
-/// An approval of that many cents under the trace number.
-fn status(units: u64, number: u32, receipt: Option<[u8; 2]>, original: Original) -> Heard {
+/// An approval of that many cents under these numbers.
+fn status(units: u64, trace: Option<Trace>, receipt: Option<[u8; 2]>, original: Original) -> Heard {
     Heard::Status(StatusFacts {
         result: Some(0),
         amount: Amount::new(units),
-        trace: Trace::new(number),
+        trace,
         receipt,
         original,
         currency: CurrencyFact::Absent,
@@ -52,11 +57,21 @@ fn orders(rt: &impl Abort, till: &mut Till, order: Order, coming: &[Heard]) {
 /// The till pays that many cents, and hears the status with these numbers.
 fn pays(rt: &impl Abort, till: &mut Till, units: u64, number: u32, receipt: Option<[u8; 2]>) {
     let amount = Amount::new(units).expect(rt, "an amount");
-    let approval = status(units, number, receipt, Original::Absent);
+    let approval = status(units, Trace::new(number), receipt, Original::Absent);
     orders(rt, till, Order::Pay(amount), &[approval, Heard::Completion]);
 }
 
-/// A till that has an entry of each kind, and an unclear payment.
+/// The connection is lost after the status of a payment of that many cents. The till registers again.
+fn loses(rt: &impl Abort, till: &mut Till, units: u64, trace: Option<Trace>, receipt: [u8; 2]) {
+    let amount = Amount::new(units).expect(rt, "an amount");
+    let approval = status(units, trace, Some(receipt), Original::Absent);
+    orders(rt, till, Order::Pay(amount), &[approval]);
+    till.lost();
+    till.connected();
+    orders(rt, till, Order::Register, &[Heard::Completion]);
+}
+
+/// A till that has an entry of each kind, and three unclear payments.
 fn booked_till(rt: &impl Abort, alloc: Global) -> Till {
     let mut till = Till::with_defaults(alloc);
     till.connected();
@@ -68,7 +83,14 @@ fn booked_till(rt: &impl Abort, alloc: Global) -> Till {
     pays(rt, &mut till, 800, 5, Some([0x99, 0x99]));
     let unclear = Order::Pay(Amount::new(500).expect(rt, "an amount"));
     orders(rt, &mut till, unclear, &[Heard::Completion]);
-    let taken = status(200, 6, Some([0x00, 0x13]), Original::Once([0, 0, 2]));
+    loses(rt, &mut till, 600, Trace::new(7), [0x00, 0x14]);
+    loses(rt, &mut till, 700, None, [0x00, 0x15]);
+    let taken = status(
+        200,
+        Trace::new(6),
+        Some([0x00, 0x13]),
+        Original::Once([0, 0, 2]),
+    );
     orders(
         rt,
         &mut till,
@@ -103,6 +125,10 @@ fn a_new_till_has_an_empty_book(rt: HostRuntime) -> Result<(), Fail> {
     let words = written(rt.alloc(), Form::Text, &till)?;
     assert_equal(&rt, &words.as_slice(), &b"total 0\n".as_slice());
     let objects = written(rt.alloc(), Form::Json, &till)?;
-    assert_equal(&rt, &objects.as_slice(), &b"{\"total\":0}\n".as_slice());
+    assert_equal(
+        &rt,
+        &objects.as_slice(),
+        &b"{\"currency\":\"0978\",\"total\":0}\n".as_slice(),
+    );
     Ok(())
 }

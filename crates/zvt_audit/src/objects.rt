@@ -11,8 +11,7 @@ use crate::booked::total;
 use crate::ends::Ends;
 use std::alloc::AllocError;
 use zvt_bcd::{Amount, Currency};
-use zvt_text::cursor::{Full, four_digits};
-use zvt_text::{Says, Text};
+use zvt_text::Text;
 use zvt_till::{Booked, Books, Cause};
 use zvt_trace::Tally;
 
@@ -119,20 +118,6 @@ fn currency_member(text: &mut Text, currency: Option<Currency>) -> Result<(), Al
         return Ok(());
     };
     text.word(b",\"currency\":\"")?;
-    text.add(&FourDigits(currency))?;
+    zvt_text::currency_digits(text, currency)?;
     text.push(b'"')
-}
-
-/// The number of a currency in four digits.
-#[derive(Drop)]
-struct FourDigits(Currency);
-
-impl Says for FourDigits {
-    ghost use Rattle.zvt_text.specs.MessageTexts.{four_digits};
-
-    ghost said = { λ d. four_digits d.0 };
-
-    fn put(&self, buffer: &mut [u8]) -> Result<usize, Full> {
-        four_digits(buffer, 0, self.0.get())
-    }
 }

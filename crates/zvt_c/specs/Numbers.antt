@@ -10,6 +10,8 @@ use Rattle.zvt_till.specs.declared.orders.Order.{Order}
 use Rattle.zvt_till.specs.declared.orders.Order.TheVariants.{Register, Pay, Reverse, CloseDay, Cancel}
 use Rattle.zvt_till.specs.Doubts.{unclear_reversals}
 use Rattle.zvt_till.specs.Marks.{total}
+use Rattle.zvt_till.specs.Numbers.{no_numbers}
+use Rattle.zvt_till.specs.declared.numbers.Numbers.{Numbers}
 use Rattle.zvt_snapshot.specs.Encoded.{cause_code}
 use Rattle.zvt_c.specs.declared.session.Session.{Session}
 use Rattle.zvt_c.specs.declared.numbers.ZvtOutcome.{ZvtOutcome}
@@ -75,9 +77,28 @@ row_of entry =
       doubt = (doubt_of entry.doubt).0;
     }
 
--- A row of the unclear payments.
-abbrev pub unclear_row_of : ℕ × Cause → ZvtEntry
-unclear_row_of row = record { amount = row.0; trace = 0; receipt = 0; has_receipt = 0; reversed = 0; cause = cause_code row.1; doubt = 0 }
+-- A trace number that was heard, or 0.
+abbrev pub trace_of : Option ℕ → ℕ
+trace_of None = 0
+trace_of (Some trace) = trace
+
+-- The numbers that were heard of a payment, if any were.
+abbrev pub numbers_of : Option Numbers → Numbers
+numbers_of None = no_numbers
+numbers_of (Some numbers) = numbers
+
+-- A row of the unclear payments, with what was heard of it.
+abbrev pub unclear_row_of : ℕ × Cause → Numbers → ZvtEntry
+unclear_row_of row heard =
+    record {
+      amount = row.0;
+      trace = trace_of heard.trace;
+      receipt = (receipt_of heard.receipt).0;
+      has_receipt = (receipt_of heard.receipt).1;
+      reversed = 0;
+      cause = cause_code row.1;
+      doubt = 0;
+    }
 
 -- The kind of the running order: 0 where none runs.
 abbrev pub kind_of_running : Option Order → ℕ

@@ -14,6 +14,7 @@ use Rattle.zvt_till.specs.Hearing.{heard_as}
 use Rattle.zvt_till.specs.Line.{Answers as IsAnswer}
 use Rattle.zvt_till.specs.Sending.{reply_to}
 use Rattle.zvt_kept.specs.Masking.{masked_message}
+use Rattle.zvt_kept.specs.Notes.{note_of}
 use Rattle.zvt_kept.specs.Records.{IsRecordOf, heard, heard_record, ordered, order_record}
 use Rattle.zvt_c.specs.declared.answer.ZvtAnswer.{ZvtAnswer}
 use Rattle.zvt_c.specs.Answers.{Says, answer_of}
@@ -58,12 +59,23 @@ masked_bytes bytes = cond (has_password bytes) (take 3 bytes ++ (0 ∷ 0 ∷ 0 �
 abbrev pub Masks : List ℕ → Type 0
 Masks sent = (m : Brief) → Spells shortest (message_of_brief m) sent → Spells shortest (message_of_brief (masked_message m)) (masked_bytes sent)
 
--- The record of the order that two numbers name and of the bytes that are sent for it; or no record, where they name none, where a till
--- sends no message of so many bytes, or where memory was refused.
-pub data RecordsOrder (kind number : ℕ) (sent buffer_before buffer_after : List ℕ) (answer : ZvtAnswer) : Type 0 where
-  recorded : (order : Order) → recorded_order kind number ≡ Some order → length sent ≤ 32 → IsRecordOf (ordered order) (order_record order [] (masked_bytes sent))
-      → Records (order_record order [] (masked_bytes sent)) buffer_before buffer_after answer → RecordsOrder kind number sent buffer_before buffer_after answer
-  unnamed : (recorded_order kind number ≡ None) ⊎ (32 < length sent) → buffer_after ≡ buffer_before → answer ≡ bare 5 → RecordsOrder kind number sent buffer_before buffer_after answer
+-- a time or a reference, where there is one
+abbrev pub given : List ℕ → Option (List ℕ)
+given [] = None
+given (byte ∷ bytes) = Some (byte ∷ bytes)
+
+-- The numbers name no order, the time or the reference is malformed, or a till sends no message of that many bytes.
+abbrev pub NoRecord : (kind number : ℕ) → (sent at reference : List ℕ) → Type 0
+NoRecord kind number sent at reference =
+    (recorded_order kind number ≡ None) ⊎ ((note_of (given at) (given reference) ≡ None) ⊎ (32 < length sent))
+
+-- The record of the order that two numbers name, with its time and reference, and of the bytes that are sent for it; or no record,
+-- where an argument is wrong or memory was refused.
+pub data RecordsOrder (kind number : ℕ) (sent at reference buffer_before buffer_after : List ℕ) (answer : ZvtAnswer) : Type 0 where
+  recorded : (order : Order) (note : List ℕ) → recorded_order kind number ≡ Some order → note_of (given at) (given reference) ≡ Some note → length sent ≤ 32
+      → IsRecordOf (ordered order) (order_record order note (masked_bytes sent)) → Records (order_record order note (masked_bytes sent)) buffer_before buffer_after answer
+      → RecordsOrder kind number sent at reference buffer_before buffer_after answer
+  unnamed : NoRecord kind number sent at reference → buffer_after ≡ buffer_before → answer ≡ bare 5 → RecordsOrder kind number sent at reference buffer_before buffer_after answer
 
 -- The record of the message that comes first, and of what is answered to it; or no record, for the reason that the answer gives.
 pub data RecordsHeard (bytes buffer_before buffer_after : List ℕ) (answer : ZvtAnswer) (size : ℕ) : Type 0 where

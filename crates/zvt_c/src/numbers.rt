@@ -1,11 +1,11 @@
 //! Orders, outcomes and rows of the book in numbers.
 ghost use Rattle.std.specs.Prelude.{◌≡◌, None};
-ghost use Rattle.zvt_c.specs.Numbers.{coded, doubt_of, ended, kind_of_running, nothing, outcome_of, paid, receipt_of, row_of, unclear_row_of};
+ghost use Rattle.zvt_c.specs.Numbers.{coded, doubt_of, ended, kind_of_running, nothing, outcome_of, paid, receipt_of, row_of, trace_of, unclear_row_of};
 ghost use Rattle.zvt_c.specs.Ordering.{order_named, payment_of, status_of};
 
 use zvt_bcd::{Amount, Trace};
 use zvt_snapshot::cause_code;
-use zvt_till::{Cause, Doubt, Entry, Order, OrderRefusal, Outcome};
+use zvt_till::{Cause, Doubt, Entry, Numbers, Order, OrderRefusal, Outcome};
 
 /// How an order ended. Members that do not apply to the kind are 0.
 #[repr(C)]
@@ -217,16 +217,27 @@ pub fn entry_numbers(entry: &Entry) -> ZvtEntry
     }
 }
 
-/// An unclear payment in numbers.
-pub fn unclear_numbers(row: &(Amount, Cause)) -> ZvtEntry
-    ensures { result ≡ unclear_row_of row.now }
+/// A trace number that was heard, or 0.
+fn trace_number(trace: Option<Trace>) -> u32
+    ensures { result ≡ trace_of trace }
+{
+    match trace {
+        None => 0,
+        Some(trace) => trace.get(),
+    }
+}
+
+/// An unclear payment in numbers, with what was heard of it.
+pub fn unclear_numbers(row: &(Amount, Cause), heard: Numbers) -> ZvtEntry
+    ensures { result ≡ unclear_row_of row.now heard }
 {
     let (amount, cause) = row;
+    let (receipt, has_receipt) = receipt_numbers(heard.receipt);
     ZvtEntry {
         amount: amount.get(),
-        trace: 0,
-        receipt: 0,
-        has_receipt: 0,
+        trace: trace_number(heard.trace),
+        receipt,
+        has_receipt,
         reversed: 0,
         cause: u32::from(cause_code(*cause)),
         doubt: 0,

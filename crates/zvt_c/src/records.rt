@@ -2,9 +2,10 @@
 //!
 //! Each call writes the text of one record to the start of the buffer and reports its size. If the buffer is too
 //! small, nothing is written.
-ghost use Rattle.std.specs.Prelude.{◌≡◌, IfSome, MatchBool, MatchResult, nat_le};
+ghost use Rattle.std.specs.Prelude.{◌≡◌, IfSome, MatchBool, MatchResult, nat_le, option_map};
 ghost use Rattle.zvt_kept.specs.Records.{IsSpelledOrder, lost_record, opening};
-ghost use Rattle.zvt_c.specs.Records.{Masks, Records, RecordsHeard, RecordsOrder, has_password, masked_bytes, recorded_order};
+ghost use Rattle.zvt_kept.specs.Notes.{note_of};
+ghost use Rattle.zvt_c.specs.Records.{Masks, Records, RecordsHeard, RecordsOrder, given, has_password, masked_bytes, recorded_order};
 ghost use Rattle.zvt_c.specs.Saving.{Written, bare, sized};
 
 use crate::answer::{ZvtAnswer, bare, found};
@@ -38,20 +39,28 @@ pub extern "C" fn zvt_record_opening(
 }
 
 /// Writes the record of an order, and of the message that is sent for it. A password in the message is written as 00 00 00.
-/// The status is 0, 3, or 5 for numbers that name no order, and for more bytes than a till's message has.
+/// `at` is the time of the order, as `2026-11-28T09:14:03Z`, and `reference` the caller's own, 1 to 40 printable ASCII
+/// characters without a space; where one is empty, the record has none. The status is 0, 3, or 5 for numbers that name no
+/// order, for another time or reference, and for more bytes than a till's message has.
 #[unsafe(no_mangle)]
 pub extern "C" fn zvt_record_order(
     alloc: Global,
     kind: u32,
     number: u64,
     sent: &[u8],
+    at: &[u8],
+    reference: &[u8],
     buffer: &mut [u8],
     answer: &mut ZvtAnswer,
 )
-    ensures record { RecordsOrder kind number sent.now buffer.old buffer.new answer.new }
+    ensures record { RecordsOrder kind number sent.now at.now reference.now buffer.old buffer.new answer.new }
     ensures masked { Masks sent.now }
 {
     let Some(order) = recorded_order(kind, number) else {
+        *answer = bare(5);
+        return;
+    };
+    let Some(note) = note_of(at, reference) else {
         *answer = bare(5);
         return;
     };
@@ -64,7 +73,7 @@ pub extern "C" fn zvt_record_order(
     message.copy_from_slice(sent);
     mask(message);
     let mut text = Text::new(alloc);
-    let written = put_order(&mut text, &order, &Note::none(), message);
+    let written = put_order(&mut text, &order, &note, message);
     *answer = hand_out(written, &text, buffer);
 }
 
@@ -135,6 +144,20 @@ fn recorded_order(kind: u32, number: u64) -> Option<Order>
         Order::Reverse(entry) if entry >= MAX_BOOK_ENTRIES => None,
         order => Some(order),
     }
+}
+
+/// The note of this time and this reference, where neither is malformed. An empty one is left out.
+fn note_of(at: &[u8], reference: &[u8]) -> Option<Note>
+    ensures { result ≡ note_of (given at.now) (given reference.now) }
+{
+    Note::new(given(at), given(reference))
+}
+
+/// The bytes, if there are any.
+fn given(bytes: &[u8]) -> Option<&[u8]>
+    ensures { option_map (λ text. text.now) result ≡ given bytes.now }
+{
+    if bytes.is_empty() { None } else { Some(bytes) }
 }
 
 /// Puts 00 00 00 in the place of the password of a registration, a reversal or an end of day.

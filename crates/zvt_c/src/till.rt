@@ -6,7 +6,7 @@ ghost use Rattle.zvt_till.specs.Till.{step, outcome_at};
 ghost use Rattle.zvt_apdu.specs.Briefs.{message_of_brief, PutsMessage};
 ghost use Rattle.zvt_stream.specs.StreamState.{at_start};
 ghost use Rattle.zvt_c.specs.States.{state_of, IsNewTill};
-ghost use Rattle.zvt_c.specs.Numbers.{nothing, outcome_of, row_of, silent, unclear_row_of, IsStateOf};
+ghost use Rattle.zvt_c.specs.Numbers.{nothing, numbers_of, outcome_of, row_of, silent, unclear_row_of, IsStateOf};
 ghost use Rattle.zvt_c.specs.Ordering.{OrdersEnd, OrdersHandle};
 
 use crate::handle::ZvtTill;
@@ -19,7 +19,7 @@ use std::alloc::Global;
 use zvt_apdu::MAX_BRIEF_LEN;
 use zvt_bcd::{Amount, Currency};
 use zvt_stream::Stream;
-use zvt_till::{Cause, Happening, Order, Outgoing, Till};
+use zvt_till::{Cause, Happening, Numbers, Order, Outgoing, Till};
 
 /// Opens a till in the handle. It is not connected. If the handle has a till, that till is freed. A registration
 /// contains the password and the configuration byte unchanged. Unless the call returns 0, nothing changes.
@@ -213,17 +213,21 @@ pub extern "C" fn zvt_till_entry(
     status
 }
 
-/// The unclear payment at this place in numbers.
-fn unclear_at(unclear: &[(Amount, Cause)], place: usize) -> Option<ZvtEntry>
-    ensures { result ≡ option_map unclear_row_of (slice_get unclear.now place) }
+/// The unclear payment at this place in numbers, with what was heard of it.
+fn unclear_at(unclear: &[(Amount, Cause)], heard: &[Numbers], place: usize) -> Option<ZvtEntry>
+    ensures { result ≡ option_map (λ row. unclear_row_of row (numbers_of (slice_get heard.now place))) (slice_get unclear.now place) }
 {
+    let numbers = match heard.get(place) {
+        Some(numbers) => *numbers,
+        None => Numbers::none(),
+    };
     match unclear.get(place) {
-        Some(row) => Some(unclear_numbers(row)),
+        Some(row) => Some(unclear_numbers(row, numbers)),
         None => None,
     }
 }
 
-/// The unclear payment at this place, counted from 0.
+/// The unclear payment at this place, counted from 0, with the trace and receipt numbers that the terminal named in it.
 #[unsafe(no_mangle)]
 pub extern "C" fn zvt_till_unclear(
     alloc: Global,
@@ -232,12 +236,12 @@ pub extern "C" fn zvt_till_unclear(
     entry: &mut ZvtEntry,
 ) -> u32
     ensures same { till.new.raw_handle.held ≡ till.old.raw_handle.held }
-    ensures row { MatchOption till.old.raw_handle.held (result ≡ 6) (λ end. MatchOption (slice_get end.till.state.unclear place) (result ≡ 5) (λ row. (result ≡ 0) × (entry.new ≡ unclear_row_of row))) }
+    ensures row { MatchOption till.old.raw_handle.held (result ≡ 6) (λ end. MatchOption (slice_get end.till.state.unclear place) (result ≡ 5) (λ row. (result ≡ 0) × (entry.new ≡ unclear_row_of row (numbers_of (slice_get end.till.heard place))))) }
 {
     let Some(end) = till.take(alloc) else {
         return 6;
     };
-    let status = match unclear_at(end.till.unclear(), place) {
+    let status = match unclear_at(end.till.unclear(), end.till.heard(), place) {
         Some(row) => {
             *entry = row;
             0

@@ -10,7 +10,7 @@ use crate::names::put_name;
 pub extern "C" fn zvt_abi() -> u32
     ensures { result ≡ abi }
 {
-    1
+    2
 }
 
 /// Writes the version (ASCII, no final zero) to the start of the buffer and returns its size. If the buffer is too

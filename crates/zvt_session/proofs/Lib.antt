@@ -10,3 +10,4 @@ pub mod Parts
 pub mod Unclear
 pub mod BookObjects
 pub mod Noted
+pub mod Rows

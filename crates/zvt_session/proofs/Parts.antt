@@ -7,6 +7,9 @@ use Rattle.serde_json.specs.Written.{compact_text}
 use Rattle.zvt_json.specs.Strings.{line_text}
 use Rattle.zvt_text.specs.Writing.{Adds}
 
+pub one_more : (old t u a b : List ℕ) → t ≡ old ++ a → u ≡ t ++ b → u ≡ old ++ (a ++ b)
+one_more old t u a b first second = second ∙ ap (λ l. l ++ b) first ∙ append_assoc old a b
+
 pub two_parts : (r : Result (Unit {0}) AllocError) (old t new a b : List ℕ) → t ≡ old ++ a → Adds r t new b → OnOk r (new ≡ old ++ (a ++ b))
 two_parts (Ok done) old t new a b first second = second ∙ ap (λ l. l ++ b) first ∙ append_assoc old a b
 two_parts (Err refused) old t new a b first second = tt

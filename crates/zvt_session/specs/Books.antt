@@ -1,15 +1,17 @@
 -- The text of a till's book.
-use Rattle.std.specs.Prelude.{ℕ, Bool, true, false, List, [], ◌∷◌, ◌++◌, codes}
+use Rattle.std.specs.Prelude.{ℕ, Bool, true, false, List, [], ◌∷◌, ◌++◌, Option, Some, None, codes, slice_get}
 use Rattle.std.specs.Fmt.{decimal}
-use Rattle.std.specs.List.{flat_map}
+use Rattle.std.specs.List.{enumerate_from, flat_map}
 use Rattle.zvt_text.specs.Numbers.{numbers_text}
 use Rattle.zvt_till.specs.Marks.{total}
 use Rattle.zvt_till.specs.Names.{cause_name}
-use Rattle.zvt_till.specs.Till.{TillState}
+use Rattle.zvt_till.specs.View.{TillValue}
 use Rattle.zvt_till.specs.declared.entries.Doubt.{Doubt}
 use Rattle.zvt_till.specs.declared.entries.Doubt.TheVariants.{No, Unclear, TakenBack}
 use Rattle.zvt_till.specs.declared.entries.Entry.{Entry}
+use Rattle.zvt_till.specs.declared.numbers.Numbers.{Numbers}
 use Rattle.zvt_till.specs.declared.outcomes.Cause.{Cause}
+use Rattle.zvt_session.specs.Notes.{named_text}
 use Rattle.zvt_session.specs.Outcomes.{total_text}
 
 -- what follows an entry that a completed reversal took back
@@ -33,15 +35,21 @@ booked_text entry = codes "booked " ++ decimal entry.amount ++ 32 ∷ numbers_te
 abbrev pub entry_text : Entry → List ℕ
 entry_text entry = booked_text entry ++ reversed_text entry.reversed ++ doubt_text entry.doubt ++ 10 ∷ []
 
-abbrev pub unclear_text : ℕ × Cause → List ℕ
-unclear_text row = codes "unclear " ++ decimal row.0 ++ 32 ∷ cause_name row.1 ++ 10 ∷ []
+-- what was heard of a payment
+abbrev pub heard_words : Option Numbers → List ℕ
+heard_words None = []
+heard_words (Some numbers) = named_text numbers.trace numbers.receipt
+
+abbrev pub unclear_text : ℕ × Cause → Option Numbers → List ℕ
+unclear_text row heard = codes "unclear " ++ decimal row.0 ++ 32 ∷ cause_name row.1 ++ heard_words heard ++ 10 ∷ []
 
 abbrev pub entries_text : List Entry → List ℕ
 entries_text book = flat_map entry_text book
 
-abbrev pub unclears_text : List (ℕ × Cause) → List ℕ
-unclears_text unclear = flat_map unclear_text unclear
+-- what was heard of a payment stands at its place
+abbrev pub unclears_text : List (ℕ × Cause) → (heard : List Numbers) → List ℕ
+unclears_text unclear heard = flat_map (λ it. unclear_text it.1 (slice_get heard it.0)) (enumerate_from 0 unclear)
 
 -- the entries, the payments of which it is not known whether they happened, and the sum of the entries that were not reversed
-abbrev pub book_text : TillState → List ℕ
-book_text state = entries_text state.book ++ unclears_text state.unclear ++ total_text (total state.book)
+abbrev pub book_text : TillValue → List ℕ
+book_text till = entries_text till.state.book ++ unclears_text till.state.unclear till.heard ++ total_text (total till.state.book)

@@ -1,5 +1,5 @@
 -- What is reported of a step as soon as it was made: of an order that is unclear or was not sent, in words.
-use Rattle.std.specs.Prelude.{ℕ, ◌+◌, List, [], ◌++◌, codes, Option, Some, None, Result, Ok, Err, slice_get}
+use Rattle.std.specs.Prelude.{ℕ, ◌+◌, List, [], ◌∷◌, ◌++◌, codes, Option, Some, None, Result, Ok, Err, slice_get}
 use Rattle.std.specs.Fmt.{decimal}
 use Rattle.std.specs.List.{flat_map}
 use Rattle.std.specs.String.{string_bytes}
@@ -23,11 +23,17 @@ use Rattle.zvt_session.specs.Made.{Made}
 abbrev pub why_unclear : Cause → List ℕ
 why_unclear cause = codes " is unclear (" ++ cause_name cause ++ codes ": " ++ cause_words cause ++ codes ")"
 
--- the numbers that the terminal named
+-- the numbers that the terminal named of a payment, each after a space
+abbrev pub named_text : (trace : Option ℕ) → (receipt : Option (List ℕ)) → List ℕ
+named_text None None = []
+named_text None (Some receipt) = codes " receipt " ++ encode_upper receipt
+named_text (Some trace) receipt = 32 ∷ numbers_text trace receipt
+
+-- the numbers that the terminal named, in words
 abbrev pub heard_text : Option ℕ → Option (List ℕ) → List ℕ
 heard_text None None = codes ". The terminal named no trace or receipt number"
-heard_text None (Some receipt) = codes ". The terminal named receipt " ++ encode_upper receipt
-heard_text (Some trace) receipt = codes ". The terminal named " ++ numbers_text trace receipt
+heard_text None (Some receipt) = codes ". The terminal named" ++ named_text None (Some receipt)
+heard_text (Some trace) receipt = codes ". The terminal named" ++ named_text (Some trace) receipt
 
 abbrev pub payment_note : ℕ → Cause → Numbers → List ℕ
 payment_note amount cause numbers =

@@ -1,22 +1,23 @@
 //! A till's book, and its text.
-ghost use Rattle.std.specs.Prelude.{◌≡◌, ◌<◌, ◌++◌, Err, IfErr, OnOk};
+ghost use Rattle.std.specs.Prelude.{◌≡◌, ◌<◌, ◌++◌, Err, IfErr, OnOk, slice_get};
 ghost use Rattle.zvt_io.specs.Devices.{Writes};
 ghost use Rattle.zvt_session.specs.BookObjects.{book_lines};
-ghost use Rattle.zvt_session.specs.Books.{book_text, booked_text, doubt_text, entries_text, entry_text, reversed_text, unclear_reversal_text, unclear_text, unclears_text};
+ghost use Rattle.zvt_session.specs.Books.{book_text, booked_text, doubt_text, entries_text, entry_text, heard_words, reversed_text, unclear_reversal_text, unclear_text, unclears_text};
 ghost use Rattle.zvt_session.specs.Runs.{AnswersText};
 
 use crate::book_objects::say_objects;
 use crate::fault::EndFault;
+use crate::notes::say_named;
 use crate::steps::say_total;
 use std::alloc::{AllocError, Global};
 use zvt_bcd::Amount;
 use zvt_io::Sink;
 use zvt_json::Form;
 use zvt_text::Text;
-use zvt_till::{Cause, Doubt, Entry, Till};
+use zvt_till::{Cause, Doubt, Entry, Numbers, Till};
 
-/// Writes a till's book: one line per entry, with the state of its reversals, then one per unclear payment, then the
-/// total of the entries that were not reversed.
+/// Writes a till's book: one line per entry, with the state of its reversals, then one per unclear payment, with the
+/// numbers that the terminal named of it, then the total of the entries that were not reversed.
 ///
 /// Writes the text once. If an allocation fails, writes nothing.
 pub fn write_book<W: Sink>(
@@ -25,7 +26,7 @@ pub fn write_book<W: Sink>(
     till: &Till,
     writer: &mut W,
 ) -> Result<(), EndFault>
-    ensures text { AnswersText (book_lines form till.now.state) (W.written writer.old) (W.written writer.new) result }
+    ensures text { AnswersText (book_lines form till.now) (W.written writer.old) (W.written writer.new) result }
     ensures write { result ≡ Err EndFault.Write → W.failures writer.old < W.failures writer.new }
 {
     let mut text = Text::new(alloc);
@@ -48,7 +49,7 @@ pub fn write_records<W: Sink>(records: &[u8], writer: &mut W) -> Result<(), EndF
 
 /// The lines of a book in this form.
 fn say_lines(text: &mut Text, form: Form, till: &Till) -> Result<(), AllocError>
-    ensures { OnOk result (text.new ≡ text.old ++ book_lines form till.now.state) }
+    ensures { OnOk result (text.new ≡ text.old ++ book_lines form till.now) }
 {
     match form {
         Form::Text => say_book(text, till),
@@ -58,10 +59,10 @@ fn say_lines(text: &mut Text, form: Form, till: &Till) -> Result<(), AllocError>
 
 /// The lines of text of a book.
 fn say_book(text: &mut Text, till: &Till) -> Result<(), AllocError>
-    ensures { OnOk result (text.new ≡ text.old ++ book_text till.now.state) }
+    ensures { OnOk result (text.new ≡ text.old ++ book_text till.now) }
 {
     say_entries(text, till.book())?;
-    say_unclear(text, till.unclear())?;
+    say_unclear(text, till.unclear(), till.heard())?;
     say_total(text, till.total())
 }
 
@@ -75,12 +76,16 @@ fn say_entries(text: &mut Text, book: &[Entry]) -> Result<(), AllocError>
     Ok(())
 }
 
-/// The lines of these payments of which it is not known whether they happened.
-fn say_unclear(text: &mut Text, unclear: &[(Amount, Cause)]) -> Result<(), AllocError>
-    ensures { OnOk result (text.new ≡ text.old ++ unclears_text unclear.now) }
+/// The lines of these unclear payments, each with what was heard of it.
+fn say_unclear(
+    text: &mut Text,
+    unclear: &[(Amount, Cause)],
+    heard: &[Numbers],
+) -> Result<(), AllocError>
+    ensures { OnOk result (text.new ≡ text.old ++ unclears_text unclear.now heard.now) }
 {
-    for row in unclear {
-        say_unclear_row(text, row)?;
+    for (at, row) in unclear.iter().enumerate() {
+        say_unclear_row(text, row, heard_at(heard, at))?;
     }
     Ok(())
 }
@@ -134,14 +139,39 @@ fn say_unclear_reversal(text: &mut Text, cause: Cause) -> Result<(), AllocError>
     text.word(cause.name().as_bytes())
 }
 
-/// The line of a payment of which it is not known whether it happened.
-fn say_unclear_row(text: &mut Text, row: &(Amount, Cause)) -> Result<(), AllocError>
-    ensures { OnOk result (text.new ≡ text.old ++ unclear_text row.now) }
+/// The line of an unclear payment.
+fn say_unclear_row(
+    text: &mut Text,
+    row: &(Amount, Cause),
+    heard: Option<Numbers>,
+) -> Result<(), AllocError>
+    ensures { OnOk result (text.new ≡ text.old ++ unclear_text row.now heard) }
 {
     let (amount, cause) = row;
     text.word(b"unclear ")?;
     text.number(amount.get())?;
     text.push(b' ')?;
     text.word(cause.name().as_bytes())?;
+    say_heard(text, heard)?;
     text.push(b'\n')
+}
+
+/// What was heard of the unclear payment at this place.
+pub(crate) fn heard_at(heard: &[Numbers], at: usize) -> Option<Numbers>
+    ensures { result ≡ slice_get heard.now at }
+{
+    match heard.get(at) {
+        Some(numbers) => Some(*numbers),
+        None => None,
+    }
+}
+
+/// The numbers that were heard of an unclear payment, if there are any.
+fn say_heard(text: &mut Text, heard: Option<Numbers>) -> Result<(), AllocError>
+    ensures { OnOk result (text.new ≡ text.old ++ heard_words heard) }
+{
+    match heard {
+        Some(numbers) => say_named(text, numbers),
+        None => Ok(()),
+    }
 }

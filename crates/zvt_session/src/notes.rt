@@ -1,9 +1,9 @@
 //! Notes on the steps of a run: what to do after an order that is unclear or was not sent.
-ghost use Rattle.std.specs.Prelude.{◌≡◌, ◌++◌, IfErr, IfOk, List, OnOk, Option, slice_get, ℕ};
+ghost use Rattle.std.specs.Prelude.{◌≡◌, ◌++◌, IfErr, IfOk, List, OnOk, Option, codes, slice_get, ℕ};
 ghost use Rattle.std.specs.String.{string_bytes};
 ghost use Rattle.hex.specs.Hex.{encode_upper};
 ghost use Rattle.zvt_session.specs.Reporting.{ReportedSoFar};
-ghost use Rattle.zvt_session.specs.Notes.{closing_note, entry_numbers, heard_text, of_payment, outcome_note, payment_note, registration_note, reversal_note, reversing, row_note, step_note, unsent_note, why_unclear, why_unsent};
+ghost use Rattle.zvt_session.specs.Notes.{closing_note, entry_numbers, heard_text, named_text, of_payment, outcome_note, payment_note, registration_note, reversal_note, reversing, row_note, step_note, unsent_note, why_unclear, why_unsent};
 
 use crate::arguments::Step;
 use crate::fault::EndFault;
@@ -210,13 +210,32 @@ fn say_heard(text: &mut Text, numbers: Numbers) -> Result<(), AllocError>
     ensures { OnOk result (text.new ≡ text.old ++ heard_text numbers.trace numbers.receipt) }
 {
     match (numbers.trace, numbers.receipt) {
-        (None, None) => { text.word(b". The terminal named no trace or receipt number") }
+        (None, None) => text.word(b". The terminal named no trace or receipt number"),
+        (None, Some(_)) => say_numbers_named(text, numbers),
+        (Some(_), _) => say_numbers_named(text, numbers),
+    }
+}
+
+/// Adds that the terminal named these numbers.
+fn say_numbers_named(text: &mut Text, numbers: Numbers) -> Result<(), AllocError>
+    ensures { OnOk result (text.new ≡ text.old ++ (codes ". The terminal named" ++ named_text numbers.trace numbers.receipt)) }
+{
+    text.word(b". The terminal named")?;
+    say_named(text, numbers)
+}
+
+/// Adds the numbers that the terminal named of a payment, each after a space.
+pub(crate) fn say_named(text: &mut Text, numbers: Numbers) -> Result<(), AllocError>
+    ensures { OnOk result (text.new ≡ text.old ++ named_text numbers.trace numbers.receipt) }
+{
+    match (numbers.trace, numbers.receipt) {
+        (None, None) => Ok(()),
         (None, Some(receipt)) => {
-            text.word(b". The terminal named receipt ")?;
+            text.word(b" receipt ")?;
             say_receipt(text, receipt)
         }
         (Some(trace), receipt) => {
-            text.word(b". The terminal named ")?;
+            text.push(b' ')?;
             zvt_text::numbers(text, trace, receipt)
         }
     }

@@ -9,6 +9,6 @@ returns c =
     let first = codes ",\"currency\":\"" in
     let digits = four_digits c.in-Some.currency in
     let e1 : c.word.new.self ≡ c.args.text.now ++ first = c.in_ok-word.ensures in
-    let e2 : c.add.new.self ≡ c.args.text.now ++ (first ++ digits) = more c.args.text.now c.word.new.self first digits c.add.new.self e1 c.in_ok-add.ensures in
+    let e2 : c.currency_digits.new.text ≡ c.args.text.now ++ (first ++ digits) = more c.args.text.now c.word.new.self first digits c.currency_digits.new.text e1 c.in_ok-currency_digits.ensures in
     rw c.in-Some.is
-    (where_added c.push.result c.add.new.self c.push.new.self (34 ∷ []) (λ e. more c.args.text.now c.add.new.self (first ++ digits) (34 ∷ []) c.push.new.self e2 e) c.push.ensures)
+    (where_added c.push.result c.currency_digits.new.text c.push.new.self (34 ∷ []) (λ e. more c.args.text.now c.currency_digits.new.text (first ++ digits) (34 ∷ []) c.push.new.self e2 e) c.push.ensures)
