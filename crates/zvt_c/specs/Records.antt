@@ -73,7 +73,7 @@ NoRecord kind number sent at reference =
 -- where an argument is wrong or memory was refused.
 pub data RecordsOrder (kind number : ℕ) (sent at reference buffer_before buffer_after : List ℕ) (answer : ZvtAnswer) : Type 0 where
   recorded : (order : Order) (note : List ℕ) → recorded_order kind number ≡ Some order → note_of (given at) (given reference) ≡ Some note → length sent ≤ 32
-      → IsRecordOf (ordered order) (order_record order note (masked_bytes sent)) → Records (order_record order note (masked_bytes sent)) buffer_before buffer_after answer
+      → IsRecordOf (ordered order note) (order_record order note (masked_bytes sent)) → Records (order_record order note (masked_bytes sent)) buffer_before buffer_after answer
       → RecordsOrder kind number sent at reference buffer_before buffer_after answer
   unnamed : NoRecord kind number sent at reference → buffer_after ≡ buffer_before → answer ≡ bare 5 → RecordsOrder kind number sent at reference buffer_before buffer_after answer
 
