@@ -178,8 +178,7 @@ uint32_t zvt_till_load(zvt_till *till, const uint8_t *bytes, size_t length);
 void zvt_record_opening(uint16_t currency, uint8_t *room, size_t room_length, zvt_answer *answer);
 /* Records an order that zvt_till_order has accepted, and the bytes to send: make it durable before you send them. The record
  * has the password as 00 00 00. `at` is the time of the order in UTC, such as 2026-11-28T09:14:03Z, and `reference` a number of
- * your own, 1 to 40 printable ASCII characters without a space, by which `zvt book` names the payment; leave either out with the
- * length 0. The answer is as above. ZVT_ARGUMENT: there is no such order, the index of the payment is 10,000 or more, the time or
+ * your own, 1 to 40 printable ASCII characters without a space, that the record keeps; leave either out with the length 0. The answer is as above. ZVT_ARGUMENT: there is no such order, the index of the payment is 10,000 or more, the time or
  * the reference has another form, or there are more than ZVT_ROOM bytes. */
 void zvt_record_order(uint32_t order, uint64_t number, const uint8_t *sent, size_t sent_length, const uint8_t *at,
                       size_t at_length, const uint8_t *reference, size_t reference_length, uint8_t *room,
