@@ -170,7 +170,7 @@ def examples():
         terminal.ended()
     for name, side, line in (("padded", "till", 6), ("refused", "terminal", 5)):
         status, said, errors = run("play", f"--{side}", str(known / f"messages/{name}.trace"), "--port", "1")
-        check(f"{name}, as the {side}", (status, said, f"line {line} of the trace: no message begins" in errors), (3, "", True))
+        check(f"{name}, as the {side}", (status, said, f"line {line} of the trace: invalid at byte" in errors), (3, "", True))
 
 
 # ---- single lines
