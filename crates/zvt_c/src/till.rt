@@ -213,8 +213,8 @@ pub extern "C" fn zvt_till_entry(
     status
 }
 
-/// The unclear payment at this place in numbers, with what was heard of it.
-fn unclear_at(unclear: &[(Amount, Cause)], heard: &[Numbers], place: usize) -> Option<ZvtEntry>
+/// The row at this place in numbers, with the numbers that were heard of it.
+fn row_at(unclear: &[(Amount, Cause)], heard: &[Numbers], place: usize) -> Option<ZvtEntry>
     ensures { result ≡ option_map (λ row. unclear_row_of row (numbers_of (slice_get heard.now place))) (slice_get unclear.now place) }
 {
     let numbers = match heard.get(place) {
@@ -225,6 +225,13 @@ fn unclear_at(unclear: &[(Amount, Cause)], heard: &[Numbers], place: usize) -> O
         Some(row) => Some(unclear_numbers(row, numbers)),
         None => None,
     }
+}
+
+/// The unclear payment at this place in numbers.
+fn unclear_at(till: &Till, place: usize) -> Option<ZvtEntry>
+    ensures { result ≡ option_map (λ row. unclear_row_of row (numbers_of (slice_get till.now.heard place))) (slice_get till.now.state.unclear place) }
+{
+    row_at(till.unclear(), till.heard(), place)
 }
 
 /// The unclear payment at this place, counted from 0, with the trace and receipt numbers that the terminal named in it.
@@ -241,7 +248,7 @@ pub extern "C" fn zvt_till_unclear(
     let Some(end) = till.take(alloc) else {
         return 6;
     };
-    let status = match unclear_at(end.till.unclear(), end.till.heard(), place) {
+    let status = match unclear_at(&end.till, place) {
         Some(row) => {
             *entry = row;
             0
