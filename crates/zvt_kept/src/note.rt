@@ -81,7 +81,7 @@ impl Note {
         Note { words: held }
     }
 
-    /// The same note.
+    /// Copies the note.
     pub fn copied(&self) -> Note
         ensures { result ≡ self.now }
     {
