@@ -247,8 +247,8 @@ namespace Zvt {
         void Begin(Settings settings) {
             if (journal.Text.Length > 0) {
                 Native.zvt_till_recover(handle, journal.Text, Native.Size(journal.Text), out var answer);
-                string[] why = { "line {0} is not the first line of a journal of its currency", "line {0} is no line of a till's record",
-                    "record {0} can't follow from those before it", "line {0} is not the check of its record: the file was changed or damaged" };
+                string[] why = { "line {0} does not open a book in this currency", "line {0} is not part of a valid record",
+                    "record {0} contradicts the records before it", "line {0} is not the check of its record: the file was changed or damaged" };
                 if (answer.status == (uint)Status.NoTill)
                     throw new BookException(settings.Book + " is no book of such a till: " + string.Format(why[answer.reason - 1], answer.place));
                 Check(answer.status);
@@ -614,7 +614,7 @@ namespace Zvt {
                 file = OpenOrMake();
                 if (Native.flock(file, Native.LOCK_EX | Native.LOCK_NB) != 0) {
                     if (Marshal.GetLastWin32Error() != Native.EAGAIN) throw Failure("open");
-                    throw new BookException($"another till has the book {path} open: end that till first, or name another file");
+                    throw new BookException($"another till is using the book {path}: stop it first, or name another file");
                 }
                 var held = Durable();
                 var end = Accepted(held);
@@ -649,7 +649,7 @@ namespace Zvt {
             if (made >= 0) return made;
             if (Marshal.GetLastWin32Error() != Native.EEXIST) throw Failure("open");
             if (!File.Exists(path) || (File.GetAttributes(path) & (FileAttributes.Directory | FileAttributes.Device)) != 0)
-                throw new BookException(path + " is no regular file: name a regular file, or one that is not there yet");
+                throw new BookException(path + " is not a regular file: name a regular file, or one that does not exist yet");
             return (int)Done(Native.open(path, Native.O_RDWR | Native.O_CLOEXEC, 0), "open");
         }
 
@@ -672,13 +672,13 @@ namespace Zvt {
             bool named = held.Length >= Format.Length;
             for (int at = 0; named && at < Format.Length; at++) named = held[at] == Format[at];
             if (!begun && !named)
-                throw new BookException(path + " is no journal, and it was left as it is: name a journal, or a file that is not there yet");
+                throw new BookException(path + " is not a till's book (left unchanged): name a book, or a file that does not exist yet");
             int end = 0;
             for (int at = 0; at < held.Length && !(held[at] == '\n' && at == end); at++)
                 if (held[at] == '\n') end = at + 1;
             if (held.Length - end > MostAfter)
-                throw new BookException($"{held.Length - end} bytes come after the first empty line of {path}, more than a crash leaves: "
-                    + "remove that line if an editor put it there");
+                throw new BookException($"{held.Length - end} bytes follow the first empty line of {path}, more than a crash can leave behind: "
+                    + "if an editor inserted that line, delete it");
             return end;
         }
 

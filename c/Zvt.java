@@ -340,8 +340,8 @@ public final class Zvt {
             Answer answer = new Answer();
             calls.zvt_till_recover(handle, records, new NativeLong(records.length), answer);
             if (answer.status == REFUSED) {
-                String[] why = {"line %d is not the first line of a journal of its currency", "line %d is no line of a till's record",
-                    "record %d can't follow from those before it", "line %d is not the check of its record: the file was changed or damaged"};
+                String[] why = {"line %d does not open a book in this currency", "line %d is not part of a valid record",
+                    "record %d contradicts the records before it", "line %d is not the check of its record: the file was changed or damaged"};
                 throw new BookException(path + " is no book of such a till: " + String.format(why[answer.reason - 1], answer.place), null);
             }
             check(answer.status);
@@ -799,7 +799,7 @@ public final class Zvt {
                 }
             }
             if (!Files.isRegularFile(path)) {
-                throw new BookException(path + " is no regular file: name a regular file, or one that is not there yet", null);
+                throw new BookException(path + " is not a regular file: name a regular file, or one that does not exist yet", null);
             }
             return POSIX.open(path.toString(), O_RDWR | O_CLOEXEC);
         }
@@ -811,7 +811,7 @@ public final class Zvt {
                 if (error.getErrorCode() != EAGAIN) {
                     throw error;
                 }
-                throw new BookException("another till has the book " + path + " open: end that till first, or name another file", error);
+                throw new BookException("another till is using the book " + path + ": stop it first, or name another file", error);
             }
         }
 
@@ -831,15 +831,15 @@ public final class Zvt {
         private int accepted(byte[] held) throws BookException {
             boolean begun = held.length <= 1 || held[0] == '\n' && held.length <= OPENING_ROOM + 1;
             if (!begun && !Arrays.equals(Arrays.copyOf(held, FORMAT.length), FORMAT)) {
-                throw new BookException(path + " is no journal, and it was left as it is: name a journal, or a file that is not there yet", null);
+                throw new BookException(path + " is not a till's book (left unchanged): name a book, or a file that does not exist yet", null);
             }
             int end = 0;
             for (int at = 0; at < held.length && !(held[at] == '\n' && at == end); at++) {
                 end = held[at] == '\n' ? at + 1 : end;
             }
             if (held.length - end > MOST_AFTER) {
-                throw new BookException(held.length - end + " bytes come after the first empty line of " + path
-                    + ", more than a crash leaves: remove that line if an editor put it there", null);
+                throw new BookException(held.length - end + " bytes follow the first empty line of " + path
+                    + ", more than a crash can leave behind: if an editor inserted that line, delete it", null);
             }
             return end;
         }

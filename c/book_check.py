@@ -267,12 +267,12 @@ def a_callback_that_raises_hides_nothing_from_the_book():
 def a_book_has_one_till():
     shop = Shop()
     with shop.till():
-        assert refuses(shop, "another till has the book")
+        assert refuses(shop, "another till is using the book")
     shop.till().close()
 
 
 def what_is_no_book_is_left_as_it_was():
-    assert refuses(Shop("06010A\n"), "is no journal")
+    assert refuses(Shop("06010A\n"), "is not a till's book")
     assert refuses(Shop(OPENING + "\n" + "x" * (1 << 18) + "\n"), "more than a crash leaves")
     assert refuses(Shop(OPENING), "line 1", currency=756)
     assert refuses(Shop(OPENING + "!\n> 060000\n< 8\n"), "line 4")
@@ -283,7 +283,7 @@ def what_is_no_book_is_left_as_it_was():
         folder.till()
         assert False, "a folder was opened"
     except zvt_journal.BookError as error:
-        assert "no regular file" in str(error)
+        assert "not a regular file" in str(error)
 
 
 def a_file_that_cannot_be_opened_is_named():

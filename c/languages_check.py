@@ -188,12 +188,12 @@ def a_book_that_another_has_open(language, folder, library):
     book = f"{folder}/open.trace"
     with zvt.Till(library, book=book):
         done = subprocess.run(language.words(folder, "Pay", "127.0.0.1", 1, book), stdout=subprocess.PIPE, stderr=subprocess.STDOUT, text=True)
-        check(language, "a book that another has open", (True, True), (done.returncode != 0, f"another till has the book {book} open" in done.stdout))
+        check(language, "a book that another has open", (True, True), (done.returncode != 0, f"another till is using the book {book}" in done.stdout))
     with open(book, "w", encoding="ascii") as file:
         file.write("a shopping list\n")
     done = subprocess.run(language.words(folder, "Pay", "127.0.0.1", 1, book), stdout=subprocess.PIPE, stderr=subprocess.STDOUT, text=True)
     with open(book, encoding="ascii") as file:
-        check(language, "no book", (True, "a shopping list\n"), (f"{book} is no journal, and it was left as it is" in done.stdout, file.read()))
+        check(language, "no book", (True, "a shopping list\n"), (f"{book} is not a till's book (left unchanged)" in done.stdout, file.read()))
 
 
 def another_library(folder, library):

@@ -616,8 +616,8 @@ end;
 { Restores the till from the book's records. }
 procedure TZvtTill.Recover(const Path: string);
 const
-  Why: array[1..4] of string = ('line %d is not the first line of a journal of its currency', 'line %d is no line of a till''s record',
-    'record %d can''t follow from those before it', 'line %d is not the check of its record: the file was changed or damaged');
+  Why: array[1..4] of string = ('line %d does not open a book in this currency', 'line %d is not part of a valid record',
+    'record %d contradicts the records before it', 'line %d is not the check of its record: the file was changed or damaged');
 var
   Answer: TZvtAnswer;
 begin
@@ -1007,7 +1007,7 @@ begin
   if flock(FFile, LOCK_EX or LOCK_NB) <> 0 then
   begin
     if errno_location()^ <> EAGAIN then RaiseLast('open');
-    raise EZvtBook.Create('another till has the book ' + FPath + ' open: end that till first, or name another file');
+    raise EZvtBook.Create('another till is using the book ' + FPath + ': stop it first, or name another file');
   end;
   Held := Durable;
   Stop := Accepted(Held);
@@ -1043,7 +1043,7 @@ begin
   if Result >= 0 then Exit;
   if errno_location()^ <> EEXIST then RaiseLast('open');
   if not FileExists(FPath) then
-    raise EZvtBook.Create(FPath + ' is no regular file: name a regular file, or one that is not there yet');
+    raise EZvtBook.Create(FPath + ' is not a regular file: name a regular file, or one that does not exist yet');
   Result := Done(posix_open(PAnsiChar(AnsiString(FPath)), O_RDWR or O_CLOEXEC, 0), 'open');
 end;
 
@@ -1074,7 +1074,7 @@ begin
   for At := 1 to Length(Format_) do
     if Named then Named := Held[At - 1] = Ord(Format_[At]);
   if not (Begun or Named) then
-    raise EZvtBook.Create(FPath + ' is no journal, and it was left as it is: name a journal, or a file that is not there yet');
+    raise EZvtBook.Create(FPath + ' is not a till''s book (left unchanged): name a book, or a file that does not exist yet');
   Result := 0;
   for At := 0 to High(Held) do
   begin
@@ -1083,7 +1083,7 @@ begin
     Result := At + 1;
   end;
   if Length(Held) - Result > MostAfter then
-    raise EZvtBook.CreateFmt('%d bytes come after the first empty line of %s, more than a crash leaves: remove that line if an editor put it there',
+    raise EZvtBook.CreateFmt('%d bytes follow the first empty line of %s, more than a crash can leave behind: if an editor inserted that line, delete it',
       [Length(Held) - Result, FPath]);
 end;
 

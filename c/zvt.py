@@ -56,8 +56,8 @@ class Status(enum.IntEnum):
 
 
 # Why a text is no book of a till.
-NO_BOOK = {1: "line {} is not the first line of a journal of its currency", 2: "line {} is no line of a till's record",
-           3: "record {} can't follow from those before it",
+NO_BOOK = {1: "line {} does not open a book in this currency", 2: "line {} is not part of a valid record",
+           3: "record {} contradicts the records before it",
            4: "line {} is not the check of its record: the file was changed or damaged"}
 
 

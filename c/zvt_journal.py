@@ -72,7 +72,7 @@ class Journal:
         try:
             fcntl.flock(self._file, fcntl.LOCK_EX | fcntl.LOCK_NB)
         except BlockingIOError as error:
-            raise BookError(f"another till has the book {self._path} open: end that till first, or name another file") from error
+            raise BookError(f"another till is using the book {self._path}: stop it first, or name another file") from error
 
     def _recovered(self):
         """The records of a file that a crash may have left, and what comes after them and their gate."""
@@ -106,11 +106,11 @@ class Journal:
         """How many bytes of whole lines come before the first empty line, if a journal's file may hold these bytes."""
         begun = len(held) <= 1 or held.startswith(GATE) and len(held) <= OPENING_ROOM + 1
         if not held.startswith(FORMAT) and not begun:
-            raise BookError(f"{self._path} is no journal, and it was left as it is: name a journal, or a file that is not there yet")
+            raise BookError(f"{self._path} is not a till's book (left unchanged): name a book, or a file that does not exist yet")
         end = whole_lines(held)
         if len(held) - end > RECORD_ROOM + 1:
-            raise BookError(f"{len(held) - end} bytes come after the first empty line of {self._path}, more than a crash leaves: "
-                            "remove that line if an editor put it there")
+            raise BookError(f"{len(held) - end} bytes follow the first empty line of {self._path}, more than a crash can leave behind: "
+                            "if an editor inserted that line, delete it")
         return end
 
 
@@ -129,7 +129,7 @@ def open_or_make(path):
     except FileExistsError:
         pass
     if not stat.S_ISREG(os.stat(path).st_mode):
-        raise BookError(f"{path} is no regular file: name a regular file, or one that is not there yet")
+        raise BookError(f"{path} is not a regular file: name a regular file, or one that does not exist yet")
     return above_standard(os.open(path, os.O_RDWR)), False
 
 
