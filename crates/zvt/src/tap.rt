@@ -260,10 +260,7 @@ fn report_end(rt: &HostRuntime, fault: TapFault, error: Option<ErrorKind>) -> u8
         TapFault::Trace => DEVICE,
         TapFault::Memory => report_fault(rt, &TraceFault::Memory),
         TapFault::Wait => {
-            report_if_read(
-                rt,
-                "waiting for data failed, so the connection was closed",
-            );
+            report_if_read(rt, "waiting for data failed, so the connection was closed");
             DEVICE
         }
     }

@@ -231,9 +231,7 @@ fn add_cause(
             text.push(b'\n')
         }
         Difference::Read => {
-            text.word(
-                b"but nothing came: the other side timed out, or the connection failed\n",
-            )
+            text.word(b"but nothing came: the other side timed out, or the connection failed\n")
         }
         Difference::Surplus { .. } | Difference::Write => Ok(()),
     }
