@@ -67,7 +67,7 @@ pub struct Recovered {
 /// register on its next connection. `settings` must have the journal's currency, and supplies the password, which
 /// journals do not store.
 ///
-/// The note of a payment is that of its order's record. It says nothing where that record has none.
+/// The note of a payment comes from the record of its order, and is empty if that record has none.
 pub fn recover(
     alloc: Global,
     settings: &TillSettings,
