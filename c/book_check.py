@@ -273,7 +273,7 @@ def a_book_has_one_till():
 
 def what_is_no_book_is_left_as_it_was():
     assert refuses(Shop("06010A\n"), "is not a till's book")
-    assert refuses(Shop(OPENING + "\n" + "x" * (1 << 18) + "\n"), "more than a crash leaves")
+    assert refuses(Shop(OPENING + "\n" + "x" * (1 << 18) + "\n"), "more than a crash can leave")
     assert refuses(Shop(OPENING), "line 1", currency=756)
     assert refuses(Shop(OPENING + "!\n> 060000\n< 8\n"), "line 4")
     assert refuses(Shop(OPENING + REGISTER + "# pay 1\n# pay 1\n"), "record 6")
