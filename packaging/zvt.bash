@@ -21,7 +21,7 @@ _zvt() {
     loop) options='--trace --book --check --json' steps='register pay: decline: reverse: close' ;;
     till) options='--port --host --password --config --currency --timeout --trace --book --check --show --loose --json' steps='register pay: reverse: close' ;;
     terminal) options='--port --host --tid --connections --decline --trace --loose --json' ;;
-    tap) options='--listen --to --trace --trace-required --connections' ;;
+    tap) options='--listen --to --trace --trace-required --connections --loose' ;;
     play) options='--till --terminal --port --listen --host' ;;
     check-till) options='--listen --host --junit' ;;
     check-terminal) options='--port --host --junit' ;;

@@ -60,6 +60,7 @@ complete -c zvt -n '__fish_seen_subcommand_from tap' -l to -x -d 'Where the term
 complete -c zvt -n '__fish_seen_subcommand_from tap' -l trace -rF -d 'Write a trace of the line to this file'
 complete -c zvt -n '__fish_seen_subcommand_from tap' -l trace-required -d 'Forward nothing where the trace cannot be written'
 complete -c zvt -n '__fish_seen_subcommand_from tap' -l connections -x -d 'Forward so many lines one after another, 0 for no end'
+complete -c zvt -n '__fish_seen_subcommand_from tap' -l loose -d 'Also read lengths in longer forms than they need'
 
 complete -c zvt -n '__fish_seen_subcommand_from play' -l till -rF -d 'Play the side of the till of this trace'
 complete -c zvt -n '__fish_seen_subcommand_from play' -l terminal -rF -d 'Play the side of the terminal of this trace'

@@ -97,7 +97,8 @@ _zvt() {
             '--to[where the terminal listens]:address:' \
             '--trace[write a trace of the line to this file]:file:_files' \
             "--trace-required[forward nothing where the trace can't be written]" \
-            '--connections[forward so many lines one after another, 0 for no end]:number:'
+            '--connections[forward so many lines one after another, 0 for no end]:number:' \
+            '--loose[also read lengths in longer forms than they need]'
         ;;
     play)
         _arguments $help \

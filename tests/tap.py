@@ -339,6 +339,25 @@ def parts():
     door.close()
 
 
+def padded():
+    """An authorisation whose size has three bytes where one would do: a strict tap reports it, a loose one reads it."""
+    door = listener()
+    sent = bytes.fromhex("0601FF070004000000001234")
+    for words, status, said in (((), 1, r"zvt: messages: 0, streams refused or cut off: 1\n"), (("--loose",), 0, "")):
+        name = f"a padded length {' '.join(words)}"
+        tap = Tap(door.getsockname()[1], *words)
+        till, terminal = pair(tap, door)
+        till.sendall(sent)
+        till.close()
+        check(f"{name}: what the terminal receives", drain(terminal), sent)
+        terminal.close()
+        found, trace, written, text = tap.end()
+        check(f"{name}: the status", found, status)
+        check(f"{name}: what is said", bool(re.fullmatch(said, text)), True)
+        check(f"{name}: the text", written, run(["show", *words], trace)[1] + run(["audit", *words], trace)[1])
+    door.close()
+
+
 def unread():
     """A side that reads nothing."""
     door = listener()
@@ -452,6 +471,41 @@ def no_output():
     door.close()
 
 
+def unread_output():
+    """Nobody reads what is shown while the line is up: it is forwarded all the same. What is held is printed at the end,
+    and of too much text a note says how much was dropped."""
+    print_line = bytes.fromhex("06D1FA00" + "20" * 249)
+    for count, whole in ((3_000, True), (22_000, False)):
+        name = f"an output that nobody reads, {count} messages"
+        door = listener()
+        for_reading, for_writing = os.pipe()
+        tap = Tap(door.getsockname()[1], output=for_writing)
+        os.close(for_writing)
+        till, terminal = pair(tap, door)
+        came = []
+        receiver = threading.Thread(target=lambda: came.append(drain(till)))
+        receiver.start()
+        terminal.sendall(print_line * count)
+        terminal.shutdown(socket.SHUT_WR)
+        receiver.join(SECONDS)
+        check(f"{name}: what the till receives", [len(part) for part in came], [len(print_line) * count])
+        till.close()
+        terminal.close()
+        with open(for_reading, "rb") as output:
+            written = output.read()
+        found, trace, _, said = tap.end()
+        wanted = run(["show"], trace)[1] + run(["audit"], trace)[1]
+        dropped = sum(int(number) for number in re.findall(rb"^# (\d+) bytes were not printed, because nobody read this output$", written, re.M))
+        check(f"{name}: the status", found, 0 if whole else 4)
+        if whole:
+            check(f"{name}: the text", (written == wanted, said), (True, ""))
+        else:
+            kept = re.sub(rb"^# \d+ bytes were not printed, because nobody read this output\n", b"", written, flags=re.M)
+            check(f"{name}: the text that was dropped", (dropped > 0, len(kept) + dropped), (True, len(wanted)))
+            check(f"{name}: what is said", said, f"zvt: {dropped} bytes were not printed, because nobody read standard output\n")
+        door.close()
+
+
 def no_reports():
     """Nobody reads the reports: each line is passed on all the same, and the status is that of the lines."""
     door = listener()
@@ -501,7 +555,7 @@ def refused_connections():
 def main():
     both = threading.Thread(target=unread)
     both.start()
-    for part in (programs, at_once, half_closed, resets, parts, missing, traces, no_output, no_reports, refused_connections, in_a_row, cut_lines):
+    for part in (programs, at_once, half_closed, resets, parts, padded, missing, traces, no_output, unread_output, no_reports, refused_connections, in_a_row, cut_lines):
         part()
     both.join()
     print(f"tap: {check.count} checks, {LINES} lines cut anywhere, {IN_A_ROW} in a row" + (f"; NOT AS EXPECTED: {check.wrong}" if check.failed else ""))

@@ -17,6 +17,7 @@ mod output;
 mod play;
 mod progress;
 mod reports;
+mod screen;
 mod settings;
 mod tap;
 mod trace_file;

@@ -1,6 +1,7 @@
 //! A tap between a till and its terminal, as the command line asks for it.
 use crate::output::Output;
 use crate::reports::{report, report_invalid, report_tally};
+use crate::screen::Screen;
 use crate::trace_file;
 use std::fmt::Display;
 use std::fs::File;
@@ -11,10 +12,13 @@ use std::time::Duration;
 use zvt_io::Over;
 use zvt_tap::{Found, SocketTapped, TapFault, TapLog, Tracing, tap_sockets};
 use zvt_tcp::{Door, SILENCE_SECONDS, connect, listen};
-use zvt_tool::command::connections_by;
+use zvt_tool::command::{connections_by, lengths_by};
 use zvt_tool::statuses::{BAD, DEVICE, DONE, MEMORY, WORDS};
 use zvt_tool::{Lengths, Tally, TapOptions, TraceFault};
 use zvt_trace::Direction;
+
+/// The file descriptor of standard output.
+const STANDARD_OUTPUT: i32 = 1;
 
 /// The host of a tap that names none.
 const HERE: &str = "127.0.0.1";
@@ -88,12 +92,28 @@ pub fn tap(rt: &HostRuntime, options: &TapOptions<'_>) -> io::Result<u8> {
         failed: false,
     };
     match listen(rt, from.host, from.port) {
-        Ok(mut door) => Ok(tap_all(rt, options, to, &mut door, &mut trace)),
+        Ok(mut door) => {
+            let mut screen = Screen::new(rt, rt.alloc(), io::writer(rt), STANDARD_OUTPUT);
+            let status = tap_all(rt, options, to, &mut door, &mut trace, &mut screen);
+            Ok(status.max(shown_to_its_end(rt, &mut screen)))
+        }
         Err(why) => {
             eprintln!(rt; "zvt: cannot listen at '{}': {why}", options.listen)?;
             Ok(DEVICE)
         }
     }
+}
+
+/// Prints the text that is still held, now that no line waits for it. Answers the exit status: not 0 if text is missing.
+fn shown_to_its_end<W: Write>(rt: &HostRuntime, screen: &mut Screen<W>) -> u8 {
+    let finished = screen.finish();
+    let lost = screen.lost();
+    if lost > 0 {
+        let _ = eprintln!(rt;
+            "zvt: {lost} bytes were not printed, because nobody read standard output"
+        );
+    }
+    if lost > 0 || finished.is_err() { DEVICE } else { DONE }
 }
 
 /// Reports this, if it can be. A line goes on without anyone who reads the reports.
@@ -116,12 +136,13 @@ fn next_till(rt: &HostRuntime, door: &mut Door) -> Option<TcpStream> {
 }
 
 /// Passes on one line after another, and answers the highest exit status.
-fn tap_all(
+fn tap_all<W: Write + Drop>(
     rt: &HostRuntime,
     options: &TapOptions<'_>,
     to: Address<'_>,
     door: &mut Door,
     trace: &mut TraceFile<'_>,
+    screen: &mut Screen<W>,
 ) -> u8 {
     if let Ok(address) = door.address() {
         let _ = eprintln!(rt; "zvt: a tap listens at {address}");
@@ -134,7 +155,7 @@ fn tap_all(
         let answer = match connect(rt, to.host, to.port, SILENCE_SECONDS) {
             Ok(terminal) => {
                 let had_failed = trace.failed;
-                let answer = tap_one(rt, &till, &terminal, trace);
+                let answer = tap_one(rt, &till, &terminal, lengths_by(options.loose), trace, screen);
                 if trace.failed && !had_failed {
                     let _ = trace_file::mend_after(rt, options.trace, trace.file, answer);
                 }
@@ -157,11 +178,13 @@ fn tap_all(
 }
 
 /// Passes on one line, and answers its exit status.
-fn tap_one(
+fn tap_one<W: Write + Drop>(
     rt: &HostRuntime,
     till: &TcpStream,
     terminal: &TcpStream,
+    lengths: Lengths,
     trace: &mut TraceFile<'_>,
+    screen: &mut Screen<W>,
 ) -> u8 {
     let tracing = Tracing {
         device: Over::new(Noted {
@@ -172,7 +195,7 @@ fn tap_one(
         failed: trace.failed,
         required: trace.required,
     };
-    let (status, failed) = tap_into(rt, till, terminal, tracing);
+    let (status, failed) = tap_into(rt, till, terminal, lengths, tracing, screen);
     trace.failed = failed;
     if failed { status.max(DEVICE) } else { status }
 }
@@ -209,15 +232,17 @@ impl Write for Noted<'_> {
 }
 
 /// Passes on one line, and answers its exit status and whether its trace failed.
-fn tap_into(
+fn tap_into<W: Write + Drop>(
     rt: &HostRuntime,
     till: &TcpStream,
     terminal: &TcpStream,
+    lengths: Lengths,
     tracing: Tracing<Over<Noted<'_>>>,
+    screen: &mut Screen<W>,
 ) -> (u8, bool) {
     let failed = tracing.failed;
-    let output = Over::new(Output::new(io::writer(rt)));
-    let Ok(log) = TapLog::new(rt.alloc(), Lengths::Shortest, tracing, output) else {
+    let output = Over::new(Output::new(screen));
+    let Ok(log) = TapLog::new(rt.alloc(), lengths, tracing, output) else {
         return (report_fault(rt, &TraceFault::Memory), failed);
     };
     let tapped = match tap_sockets(rt, rt.alloc(), till, terminal, log) {

@@ -106,6 +106,7 @@ IsCommandOf name rows (Tap options) =
     × IsTextOf (codes "trace") rows options.trace
     × IsFlagOf (codes "trace-required") rows options.trace_required
     × GivesNumber (codes "connections") rows 65535 options.connections
+    × IsFlagOf (codes "loose") rows options.loose
 IsCommandOf name rows (Play options) =
     (name ≡ codes "play") × IsTextOf (codes "till") rows options.till
     × IsTextOf (codes "terminal") rows options.terminal

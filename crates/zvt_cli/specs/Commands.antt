@@ -171,6 +171,7 @@ tap_app = command_app (codes "tap") (
     option_rule (codes "trace") ∷
     flag_rule (codes "trace-required") ∷
     number_rule (codes "connections") (codes "1") ∷
+    flag_rule (codes "loose") ∷
     [])
 
 abbrev pub play_app : App

@@ -200,6 +200,7 @@ fn tap<'a>(inner: &ArgMatches<'a>) -> Option<Choice<'a>>
         trace: text(inner, "trace"),
         trace_required: flag(inner, "trace-required"),
         connections,
+        loose: flag(inner, "loose"),
     }))
 }
 

@@ -116,6 +116,8 @@ pub struct TapOptions<'a> {
     pub trace_required: bool,
     /// The number of connections: 1 by default, and 0 for any number.
     pub connections: u16,
+    /// Whether lengths are read in any form that holds them.
+    pub loose: bool,
 }
 
 /// The options of `play`. The program takes one of `till` and `terminal`, and one of `port` and `listen`.

@@ -255,6 +255,7 @@ fn tap() -> CommandRow<'static>
             CommandOption::Value("trace", "FILE", help::TAP_TRACE),
             CommandOption::Flag("trace-required", help::TRACE_REQUIRED),
             CommandOption::Number("connections", "N", "1", help::TAP_CONNECTIONS),
+            CommandOption::Flag("loose", help::LOOSE),
         ],
     }
 }
