@@ -24,7 +24,8 @@ struct Parrot {
 }
 
 impl Machine for Parrot {
-    ghost hears = { λ old message answer new. (new ≡ record old { left = old.left - 1 }) × (answer ≡ record { bytes = 0x80 ∷ 0x00 ∷ 0x00 ∷ []; count = 1 }) };
+    ghost hears = { λ old message answer new. (new ≡ record old { left = old.left - 1 })
+        × (answer ≡ record { bytes = 0x80 ∷ 0x00 ∷ 0x00 ∷ []; count = 1 }) };
 
     ghost loses = { λ old new. new ≡ record old { lost = 1 } };
 

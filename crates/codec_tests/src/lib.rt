@@ -1,6 +1,6 @@
-//! The tests of the crates between bytes and messages: of digits, objects, fields, messages, and messages out of pieces of
-//! a line. Which bytes are refused, and where, is compared by `zvt vectors examples/vectors.txt`, lines cut into pieces by
-//! `tests/chunking.py`, and the texts of messages by `tests/cli_output.py`.
+//! The tests of the crates between bytes and messages: of digits, objects, fields, messages, and messages out of pieces
+//! of a line. Which bytes are refused, and where, is compared by `zvt vectors examples/vectors.txt`, lines cut into
+//! pieces by `tests/chunking.py`, and the texts of messages by `tests/cli_output.py`.
 #![tactic(auto)]
 
 #[cfg(test)]

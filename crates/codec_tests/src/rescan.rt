@@ -1,7 +1,7 @@
 //! Streams beside a reader that keeps no judge: it holds what is unfinished, and reads all of it anew with each piece.
 //!
-//! Every line is given in two pieces at each of its places. Streams that build their messages and streams that lend them
-//! must answer each piece as that reader does, and hold as much.
+//! Every line is given in two pieces at each of its places. Streams that build their messages and streams that lend
+//! them must answer each piece as that reader does, and hold as much.
 
 use crate::assertions::assert_equal_in;
 use crate::pieces::{Answer, MORE, built, ended, left, viewed};

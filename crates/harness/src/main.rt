@@ -1,8 +1,8 @@
-//! Runs of the libraries without the program `zvt`. In most of them each call that wants memory is made again: where one
-//! request for memory of the whole program is refused, which `tests/fault_injection.py` sees to, the first call has to leave
-//! all as it was, and the second has to answer what the call answers with all its memory. It makes the run that its word
-//! names, or all, and says of each whether it went so. Its status is 0 then, 1 where one went otherwise, 2 where none is
-//! called so, and 5 where memory was wanted for the words or for what a run is made of.
+//! Runs of the libraries without the program `zvt`. In most of them each call that wants memory is made again: where
+//! one request for memory of the whole program is refused, which `tests/fault_injection.py` sees to, the first call has
+//! to leave all as it was, and the second has to answer what the call answers with all its memory. It makes the run
+//! that its word names, or all, and says of each whether it went so. Its status is 0 then, 1 where one went otherwise,
+//! 2 where none is called so, and 5 where memory was wanted for the words or for what a run is made of.
 //!
 //! Under `time-replay N`, `time-orders N` and `time-scan N` it spends time in them instead, for bench/payments and
 //! bench/scan; under `time-kept N FILE` it keeps the book of N payments in a file, for bench/journal.

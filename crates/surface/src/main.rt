@@ -1,7 +1,8 @@
 //! The fixed surface of the library: each public call and type by its path, used once.
 //!
-//! A name or form that is gone fails to compile, and a call that gives up fails the run. What a call returns is pinned by its
-//! contract; the other crates of tests show what no contract says. docs/DECISIONS.md lists the forms that differ.
+//! A name or form that is gone fails to compile, and a call that gives up fails the run. What a call returns is pinned
+//! by its contract; the other crates of tests show what no contract says. docs/DECISIONS.md lists the forms that
+//! differ.
 #![tactic(auto)]
 
 mod digits;

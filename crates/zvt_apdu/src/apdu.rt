@@ -42,7 +42,8 @@ impl Apdu {
 /// `TooLarge`, then `NamedControl`.
 pub fn checked(message: Message) -> Result<Apdu, (Message, BadValue)>
     ensures ok { IfOk result (λ apdu. (apdu ≡ message_of message) × HasSpelling (message_of message)) }
-    ensures err { IfErr result (λ e. (e.0 ≡ message) × HasFault (message_of message) e.1 × (HasSpelling (message_of message) → ⊥)) }
+    ensures err { IfErr result (λ e. (e.0 ≡ message) × HasFault (message_of message) e.1
+        × (HasSpelling (message_of message) → ⊥)) }
 {
     if data_size(&message) > 65_535 {
         return Err((message, BadValue::TooLarge));

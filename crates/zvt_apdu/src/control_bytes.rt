@@ -1,10 +1,11 @@
-//! The control bytes of the messages that have a name of their own. Each constant cites its chapter of PA00P015 by title.
+//! The control bytes of the messages that have a name of their own. Each constant cites its chapter of PA00P015 by
+//! title.
 
 /// From either side: a positive acknowledgement (PA00P015, general command structure).
 pub(crate) const ACK: [u8; 2] = [0x80, 0x00];
 
-/// From either side: the first byte of a negative acknowledgement, whose second byte is an error code (PA00P015, general
-/// command structure).
+/// From either side: the first byte of a negative acknowledgement, whose second byte is an error code (PA00P015,
+/// general command structure).
 pub(crate) const NACK: u8 = 0x84;
 
 /// From the till (PA00P015, Registration).

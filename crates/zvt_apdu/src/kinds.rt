@@ -114,9 +114,12 @@ fn named_bytes(high: u8, low: u8, first: &[u8], payload: Vec<u8>) -> Message
 /// The message whose data are these first bytes and fields.
 #[inline(always)]
 pub(crate) fn fields_message(high: u8, low: u8, first: &[u8], fields: Fields) -> Message
-    requires fields { (n : ℕ) × ((layout_of high low n).fields ≡ true) × (head_size (layout_of high low n) ≡ length first.now) × AreDigits (drop (layout_of high low n).free first.now) }
+    requires fields { (n : ℕ) × ((layout_of high low n).fields ≡ true)
+        × (head_size (layout_of high low n) ≡ length first.now)
+        × AreDigits (drop (layout_of high low n).free first.now) }
     requires are_bytes { AreBytes first.now }
-    ensures { (r : Reading) (listed : List ℕ) → FieldList r fields listed → IsMessage r high low (first.now ++ listed) (message_of result) }
+    ensures { (r : Reading) (listed : List ℕ) → FieldList r fields listed → IsMessage r high low (first.now ++ listed)
+        (message_of result) }
 {
     let Some(Form::Registration) = form_of(high, low) else {
         return named_fields(high, low, first, fields);
@@ -136,7 +139,8 @@ pub(crate) fn fields_message(high: u8, low: u8, first: &[u8], fields: Fields) ->
 fn named_fields(high: u8, low: u8, first: &[u8], fields: Fields) -> Message
     requires named { form_of high low ≡ Some (FieldsFrom (length first.now)) }
     requires are_bytes { AreBytes first.now }
-    ensures { (r : Reading) (listed : List ℕ) → FieldList r fields listed → IsMessage r high low (first.now ++ listed) (message_of result) }
+    ensures { (r : Reading) (listed : List ℕ) → FieldList r fields listed → IsMessage r high low (first.now ++ listed)
+        (message_of result) }
 {
     if first.len() == 3 {
         let password = [first[0], first[1], first[2]];

@@ -4,7 +4,10 @@ ghost use Rattle.std.specs.Prelude.{ℕ, List};
 ghost use Rattle.zvt_grammar.specs.Laws.{SpellingsAreOne, CutsAreOne, PrefixesOfCut, Growth, PrefixesAlive};
 ghost use Rattle.zvt_grammar.specs.Reading.{Reading, shortest};
 ghost use Rattle.zvt_apdu.specs.Grammar.{Spells};
-ghost use Rattle.zvt_apdu.specs.Laws.{AnswersAreOne, AnswersStay, EachBeginningStands, FaultsAreOne, MessagesEndThemselves, NeverNotShortest, NormalsAreOne, NormalsStay, PositionsAreOne, RefusalsAreOne, SpelledIsFaultless, SpellingsAreRead, StrictIsPadded, StrictStays, TestsDecide};
+ghost use Rattle.zvt_apdu.specs.Laws.{AnswersAreOne, AnswersStay, EachBeginningStands, FaultsAreOne};
+ghost use Rattle.zvt_apdu.specs.Laws.{MessagesEndThemselves, NeverNotShortest, NormalsAreOne, NormalsStay};
+ghost use Rattle.zvt_apdu.specs.Laws.{PositionsAreOne, RefusalsAreOne, SpelledIsFaultless, SpellingsAreRead};
+ghost use Rattle.zvt_apdu.specs.Laws.{StrictIsPadded, StrictStays, TestsDecide};
 
 /// No spelling begins another, and two messages share none.
 pub fn messages_end_themselves()

@@ -11,8 +11,8 @@ use crate::views::ApduView;
 use std::alloc::{AllocError, Global};
 use zvt_field::Fields;
 
-/// The message that a view shows, in memory of its own. The only error is that memory runs out, and one whose list of fields is
-/// empty wants none.
+/// The message that a view shows, in memory of its own. The only error is that memory runs out, and one whose list of
+/// fields is empty wants none.
 pub fn owned(alloc: Global, apdu: &ApduView<'_>) -> Result<Apdu, AllocError>
     ensures { MatchResult result (λ made. made ≡ apdu.now) (λ _. fields_in apdu.now ≢ Some []) }
 {

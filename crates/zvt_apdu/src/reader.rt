@@ -37,7 +37,8 @@ pub fn scan_message(
     bytes: &[u8],
     lengths: Lengths,
 ) -> Result<Scan<(Apdu, usize)>, AllocError>
-    ensures { MatchResult result (Answers (reading_of lengths) bytes.now) (λ _. TakesMemory (reading_of lengths) bytes.now) }
+    ensures { MatchResult result (Answers (reading_of lengths) bytes.now)
+        (λ _. TakesMemory (reading_of lengths) bytes.now) }
 {
     let opening = match scan_opening(bytes, lengths) {
         Scan::Whole(opening) => opening,
@@ -86,7 +87,8 @@ fn scan_bytes(
 ) -> Result<Scan<(Apdu, usize)>, AllocError>
     requires headed { Headed (reading_of lengths) bytes.now opening.now layout.now }
     requires kind { layout.now.fields ≡ false }
-    ensures { MatchResult result (Answers (reading_of lengths) bytes.now) (λ _. TakesMemory (reading_of lengths) bytes.now) }
+    ensures { MatchResult result (Answers (reading_of lengths) bytes.now)
+        (λ _. TakesMemory (reading_of lengths) bytes.now) }
 {
     let data = &bytes[opening.start..];
     if data.len() < opening.size {
@@ -108,7 +110,8 @@ fn scan_listed(
 ) -> Result<Scan<(Apdu, usize)>, AllocError>
     requires headed { Headed (reading_of lengths) bytes.now opening.now layout.now }
     requires kind { layout.now.fields ≡ true }
-    ensures { MatchResult result (Answers (reading_of lengths) bytes.now) (λ _. TakesMemory (reading_of lengths) bytes.now) }
+    ensures { MatchResult result (Answers (reading_of lengths) bytes.now)
+        (λ _. TakesMemory (reading_of lengths) bytes.now) }
 {
     let data = &bytes[opening.start..];
     let head = layout.free + layout.digits;

@@ -8,7 +8,8 @@ ghost use Rattle.zvt_apdu.specs.Message.{Message};
 ghost use Rattle.zvt_apdu.specs.Grammar.{IsControl, IsFrameLength, Data, Spells};
 ghost use Rattle.zvt_apdu.specs.Kinds.{kind_of};
 ghost use Rattle.zvt_apdu.specs.Views.{MessageBytes, message_once, fields_in, control_of, FrameFirst};
-ghost use Rattle.zvt_apdu.specs.Views.{code_in, password_in, config_in, currency_in, status_in, attribute_in, text_in, payload_in};
+ghost use Rattle.zvt_apdu.specs.Views.{code_in, password_in, config_in, currency_in, status_in, attribute_in, text_in};
+ghost use Rattle.zvt_apdu.specs.Views.{payload_in};
 
 use crate::frame::layout_of;
 use crate::kinds::{Kind, kind_at};
@@ -180,7 +181,8 @@ impl<'a> ApduView<'a> {
 /// The data of a message, after its control bytes and its length.
 fn data(bytes: &[u8]) -> &[u8]
     requires { ∥ FrameFirst bytes.now ∥₁ }
-    ensures { (high low : ℕ) (size content : List ℕ) → bytes.now ≡ high ∷ low ∷ (size ++ content) → IsFrameLength padded (length content) size → result.now ≡ content }
+    ensures { (high low : ℕ) (size content : List ℕ) → bytes.now ≡ high ∷ low ∷ (size ++ content)
+        → IsFrameLength padded (length content) size → result.now ≡ content }
 {
     if bytes[2] == 0xFF {
         &bytes[5..]

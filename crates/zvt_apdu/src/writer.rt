@@ -7,7 +7,8 @@ ghost use Rattle.zvt_tlv.specs.Sizes.{Puts};
 ghost use Rattle.zvt_field.specs.Grammar.{FieldList};
 ghost use Rattle.zvt_apdu.specs.Grammar.{Data, Spells};
 ghost use Rattle.zvt_apdu.specs.Message.{registration};
-ghost use Rattle.zvt_apdu.specs.Messages.{message_of, ControlOf, Encodes, FreeControl, Fitting, HasData, HasSpelling, ListedIn, length_bytes};
+ghost use Rattle.zvt_apdu.specs.Messages.{message_of, ControlOf, Encodes, FreeControl, Fitting, HasData, HasSpelling};
+ghost use Rattle.zvt_apdu.specs.Messages.{ListedIn, length_bytes};
 
 use crate::apdu::Apdu;
 use crate::control_bytes;
@@ -159,8 +160,10 @@ pub(crate) fn put_after(first: &[u8], bytes: &[u8], out: &mut [u8]) -> usize
 /// Puts bytes at the start, and fields after them, and says how many.
 /// That `list` is called shows that the fields have a spelling; it does nothing else.
 fn put_listed(first: &[u8], fields: &Fields, out: &mut [u8]) -> usize
-    requires { (listed : List ℕ) → FieldList shortest fields.now listed → length first.now + length listed ≤ length out.old }
-    ensures { (listed : List ℕ) → FieldList shortest fields.now listed → Puts (first.now ++ listed) out.old out.new result }
+    requires { (listed : List ℕ) → FieldList shortest fields.now listed → length first.now + length listed ≤
+        length out.old }
+    ensures { (listed : List ℕ) → FieldList shortest fields.now listed → Puts (first.now ++ listed) out.old
+        out.new result }
 {
     let _ = fields.list();
     let at = put_bytes(first, out);
@@ -202,7 +205,8 @@ fn write_registration(
     out: &mut [u8],
 ) -> usize
     requires { Fitting (registration password.now config rest.now) (length out.old) }
-    ensures { (bytes : List ℕ) → Data shortest (registration password.now config rest.now) bytes → Puts bytes out.old out.new result }
+    ensures { (bytes : List ℕ) → Data shortest (registration password.now config rest.now) bytes
+        → Puts bytes out.old out.new result }
 {
     match rest {
         None => put_after(password, &[config], out),

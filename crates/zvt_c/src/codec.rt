@@ -73,7 +73,8 @@ pub extern "C" fn zvt_text(
 
 /// Writes the text of a message where it fits, and answers its size, or None where memory was refused.
 fn report(alloc: Global, apdu: &ApduView<'_>, buffer: &mut [u8]) -> Option<usize>
-    ensures some { IfSome result (λ size. (size ≡ length (said apdu.now)) × Writes (said apdu.now) buffer.old buffer.new) }
+    ensures some { IfSome result (λ size. (size ≡ length (said apdu.now)) × Writes (said apdu.now) buffer.old
+        buffer.new) }
     ensures none { IfNone result (buffer.new ≡ buffer.old) }
 {
     let mut text = Text::new(alloc);

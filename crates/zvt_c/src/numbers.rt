@@ -1,6 +1,7 @@
 //! Orders, outcomes and rows of the book in numbers.
 ghost use Rattle.std.specs.Prelude.{◌≡◌, None};
-ghost use Rattle.zvt_c.specs.Numbers.{coded, doubt_of, ended, kind_of_running, nothing, outcome_of, paid, receipt_of, row_of, trace_of, unclear_row_of};
+ghost use Rattle.zvt_c.specs.Numbers.{coded, doubt_of, ended, kind_of_running, nothing, outcome_of, paid, receipt_of};
+ghost use Rattle.zvt_c.specs.Numbers.{row_of, trace_of, unclear_row_of};
 ghost use Rattle.zvt_c.specs.Ordering.{order_named, payment_of, status_of};
 
 use zvt_bcd::{Amount, Trace};

@@ -5,7 +5,8 @@
 ghost use Rattle.std.specs.Prelude.{◌≡◌, IfSome, MatchBool, MatchResult, nat_le, option_map};
 ghost use Rattle.zvt_kept.specs.Records.{IsSpelledOrder, lost_record, opening};
 ghost use Rattle.zvt_kept.specs.Notes.{note_of};
-ghost use Rattle.zvt_c.specs.Records.{Masks, Records, RecordsHeard, RecordsOrder, given, has_password, masked_bytes, recorded_order};
+ghost use Rattle.zvt_c.specs.Records.{Masks, Records, RecordsHeard, RecordsOrder, given, has_password, masked_bytes};
+ghost use Rattle.zvt_c.specs.Records.{recorded_order};
 ghost use Rattle.zvt_c.specs.Saving.{Written, bare, sized};
 
 use crate::answer::{ZvtAnswer, bare, found};
@@ -27,7 +28,8 @@ pub extern "C" fn zvt_record_opening(
     buffer: &mut [u8],
     answer: &mut ZvtAnswer,
 )
-    ensures { MatchBool (nat_le currency 9999) (Records (opening currency) buffer.old buffer.new answer.new) ((buffer.new ≡ buffer.old) × (answer.new ≡ bare 5)) }
+    ensures { MatchBool (nat_le currency 9999) (Records (opening currency) buffer.old buffer.new answer.new)
+        ((buffer.new ≡ buffer.old) × (answer.new ≡ bare 5)) }
 {
     let Some(currency) = Currency::new(currency) else {
         *answer = bare(5);
@@ -38,10 +40,10 @@ pub extern "C" fn zvt_record_opening(
     *answer = hand_out(written, &text, buffer);
 }
 
-/// Writes the record of an order, and of the message that is sent for it. A password in the message is written as 00 00 00.
-/// `at` is the time of the order, as `2026-11-28T09:14:03Z`, and `reference` the caller's own, 1 to 40 printable ASCII
-/// characters without a space; where one is empty, the record has none. The status is 0, 3, or 5 for numbers that name no
-/// order, for another time or reference, and for more bytes than a till's message has.
+/// Writes the record of an order, and of the message that is sent for it. A password in the message is written as 00 00
+/// 00. `at` is the time of the order, as `2026-11-28T09:14:03Z`, and `reference` the caller's own, 1 to 40 printable
+/// ASCII characters without a space; where one is empty, the record has none. The status is 0, 3, or 5 for numbers that
+/// name no order, for another time or reference, and for more bytes than a till's message has.
 #[unsafe(no_mangle)]
 pub extern "C" fn zvt_record_order(
     alloc: Global,
@@ -127,7 +129,8 @@ fn put(bytes: &[u8], buffer: &mut [u8]) -> usize
 
 /// Hands out a text that was written, where it fits, and says its size; or says that memory was refused.
 fn hand_out(written: Result<(), AllocError>, text: &Text, buffer: &mut [u8]) -> ZvtAnswer
-    ensures { MatchResult written (λ _. (result ≡ sized result.size) × Written text.now result.size buffer.old buffer.new) (λ _. (buffer.new ≡ buffer.old) × (result ≡ bare 3)) }
+    ensures { MatchResult written (λ _. (result ≡ sized result.size) × Written text.now result.size buffer.old
+        buffer.new) (λ _. (buffer.new ≡ buffer.old) × (result ≡ bare 3)) }
 {
     match written {
         Ok(()) => found(put(text.bytes(), buffer)),

@@ -14,7 +14,8 @@ use zvt_till::{Happening, Till};
 
 /// Writes what a till is saved in where it fits, and answers its size, or None where memory was refused.
 fn write_saved(alloc: Global, till: &Till, buffer: &mut [u8]) -> Option<usize>
-    ensures some { IfSome result (λ size. Written (saved (step till.now.state Happening.Lost)) size buffer.old buffer.new × IsKept (step till.now.state Happening.Lost)) }
+    ensures some { IfSome result (λ size. Written (saved (step till.now.state Happening.Lost)) size buffer.old
+        buffer.new × IsKept (step till.now.state Happening.Lost)) }
     ensures none { IfNone result (buffer.new ≡ buffer.old) }
 {
     let Ok(bytes) = save(alloc, till) else {

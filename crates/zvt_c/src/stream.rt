@@ -27,7 +27,8 @@ pub extern "C" fn zvt_till_feed(
     out: &mut [u8],
     answer: &mut ZvtStep,
 ) -> u32
-    ensures full { MatchBool (nat_lt (length out.old) 32) ((till.new.raw_handle.held ≡ till.old.raw_handle.held) × (out.new ≡ out.old) × (answer.new ≡ nothing) × (result ≡ 4))
+    ensures full { MatchBool (nat_lt (length out.old) 32) ((till.new.raw_handle.held ≡ till.old.raw_handle.held)
+        × (out.new ≡ out.old) × (answer.new ≡ nothing) × (result ≡ 4))
         (FeedsHandle till.old.raw_handle.held piece.now till.new.raw_handle.held out.old out.new answer.new result) }
 {
     if lacks_capacity(out, answer) {
@@ -53,8 +54,10 @@ pub extern "C" fn zvt_till_feed_all(
     line: &mut [u8],
     answer: &mut ZvtStep,
 ) -> u32
-    ensures { MatchBool (nat_lt (length out.old) 32) ((till.new.raw_handle.held ≡ till.old.raw_handle.held) × (out.new ≡ out.old) × (line.new ≡ line.old) × (answer.new ≡ nothing) × (result ≡ 4))
-        (FeedsAllHandle till.old.raw_handle.held piece.now till.new.raw_handle.held out.old out.new line.old line.new answer.new result) }
+    ensures { MatchBool (nat_lt (length out.old) 32) ((till.new.raw_handle.held ≡ till.old.raw_handle.held)
+        × (out.new ≡ out.old) × (line.new ≡ line.old) × (answer.new ≡ nothing) × (result ≡ 4))
+        (FeedsAllHandle till.old.raw_handle.held piece.now till.new.raw_handle.held out.old out.new line.old line.new
+        answer.new result) }
 {
     if lacks_capacity(out, answer) {
         return 4;
@@ -132,7 +135,8 @@ fn hear(till: &mut Till, apdu: &ApduView<'_>, out: &mut [u8]) -> (usize, Option<
     ensures state { till.new.state ≡ step till.old.state (Happening.Heard (heard_as apdu.now)) }
     ensures sent { Sends (replied till.old.state apdu.now) out.old out.new result.0 }
     ensures buffer { result.0 ≤ length out.old }
-    ensures outcome { result.1 ≡ cond till.old.state.line_up (outcome_at till.old.state (Happening.Heard (heard_as apdu.now))) None }
+    ensures outcome { result.1 ≡ cond till.old.state.line_up
+        (outcome_at till.old.state (Happening.Heard (heard_as apdu.now))) None }
 {
     let reply = till.hear(heard_view(apdu));
     let size = match &reply.send {

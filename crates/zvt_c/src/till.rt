@@ -1,7 +1,8 @@
 //! The till. Each call returns 0 if it succeeds. Otherwise it returns a status, changes nothing, and clears the step,
 //! if it has one: 3 an allocation failed, 4 the buffer is too small, 5 an argument is out of range, 6 the handle is
 //! closed, 7 the connection sent invalid bytes earlier, 10 to 17 the order is refused.
-ghost use Rattle.std.specs.Prelude.{◌≡◌, ◌≤◌, ◌⊎◌, ◌&&◌, None, option_map, length, MatchBool, MatchOption, nat_le, nat_lt, cond, slice_get};
+ghost use Rattle.std.specs.Prelude.{◌≡◌, ◌≤◌, ◌⊎◌, ◌&&◌, None, option_map, length, MatchBool, MatchOption, nat_le};
+ghost use Rattle.std.specs.Prelude.{nat_lt, cond, slice_get};
 ghost use Rattle.zvt_till.specs.Till.{step, outcome_at};
 ghost use Rattle.zvt_apdu.specs.Briefs.{message_of_brief, PutsMessage};
 ghost use Rattle.zvt_stream.specs.StreamState.{at_start};
@@ -32,7 +33,8 @@ pub extern "C" fn zvt_till_new(
     currency: u16,
 ) -> u32
     ensures made { result ≡ 0 → IsNewTill password config currency till.new.raw_handle.held }
-    ensures argument { MatchBool (nat_le password 999999 && nat_le currency 9999) ((result ≡ 0) ⊎ (result ≡ 3)) (result ≡ 5) }
+    ensures argument { MatchBool (nat_le password 999999 && nat_le currency 9999) ((result ≡ 0) ⊎ (result ≡ 3))
+        (result ≡ 5) }
     ensures unchanged { (result ≡ 0 → ⊥) → till.new.raw_handle.held ≡ till.old.raw_handle.held }
 {
     let Some(currency) = Currency::new(currency) else {
@@ -69,7 +71,8 @@ pub extern "C" fn zvt_till_free(alloc: Global, till: &mut ZvtTill)
 #[unsafe(no_mangle)]
 pub extern "C" fn zvt_till_connected(alloc: Global, till: &mut ZvtTill) -> u32
     ensures state { state_of till.new ≡ option_map (λ state. step state Happening.Connected) (state_of till.old) }
-    ensures stream { option_map (λ end. end.stream) till.new.raw_handle.held ≡ option_map (λ _. at_start) till.old.raw_handle.held }
+    ensures stream { option_map (λ end. end.stream) till.new.raw_handle.held ≡ option_map (λ _. at_start)
+        till.old.raw_handle.held }
     ensures said { MatchOption till.old.raw_handle.held (result ≡ 6) (λ _. result ≡ 0) }
 {
     let Some(mut end) = till.take(alloc) else {
@@ -85,7 +88,8 @@ pub extern "C" fn zvt_till_connected(alloc: Global, till: &mut ZvtTill) -> u32
 #[unsafe(no_mangle)]
 pub extern "C" fn zvt_till_lost(alloc: Global, till: &mut ZvtTill, answer: &mut ZvtStep) -> u32
     ensures state { state_of till.new ≡ option_map (λ state. step state Happening.Lost) (state_of till.old) }
-    ensures said { MatchOption till.old.raw_handle.held ((result ≡ 6) × (answer.new ≡ nothing)) (λ end. (result ≡ 0) × (answer.new ≡ silent 0 0 0 (outcome_of (outcome_at end.till.state Happening.Lost)))) }
+    ensures said { MatchOption till.old.raw_handle.held ((result ≡ 6) × (answer.new ≡ nothing))
+        (λ end. (result ≡ 0) × (answer.new ≡ silent 0 0 0 (outcome_of (outcome_at end.till.state Happening.Lost)))) }
 {
     *answer = no_step();
     let Some(mut end) = till.take(alloc) else {
@@ -128,7 +132,8 @@ pub extern "C" fn zvt_till_order(
     out: &mut [u8],
     answer: &mut ZvtStep,
 ) -> u32
-    ensures { MatchBool (nat_lt (length out.old) 32) ((till.new.raw_handle.held ≡ till.old.raw_handle.held) × (out.new ≡ out.old) × (answer.new ≡ nothing) × (result ≡ 4))
+    ensures { MatchBool (nat_lt (length out.old) 32) ((till.new.raw_handle.held ≡ till.old.raw_handle.held)
+        × (out.new ≡ out.old) × (answer.new ≡ nothing) × (result ≡ 4))
         (OrdersHandle till.old.raw_handle.held kind number till.new.raw_handle.held out.old out.new answer.new result) }
 {
     if lacks_capacity(out, answer) {
@@ -197,7 +202,9 @@ pub extern "C" fn zvt_till_entry(
     entry: &mut ZvtEntry,
 ) -> u32
     ensures same { till.new.raw_handle.held ≡ till.old.raw_handle.held }
-    ensures row { MatchOption till.old.raw_handle.held (result ≡ 6) (λ end. MatchOption (slice_get end.till.state.book place) (result ≡ 5) (λ row. (result ≡ 0) × (entry.new ≡ row_of row))) }
+    ensures row { MatchOption till.old.raw_handle.held (result ≡ 6)
+        (λ end. MatchOption (slice_get end.till.state.book place) (result ≡ 5)
+        (λ row. (result ≡ 0) × (entry.new ≡ row_of row))) }
 {
     let Some(end) = till.take(alloc) else {
         return 6;
@@ -215,7 +222,8 @@ pub extern "C" fn zvt_till_entry(
 
 /// The row at this place in numbers, with the numbers that were heard of it.
 fn row_at(unclear: &[(Amount, Cause)], heard: &[Numbers], place: usize) -> Option<ZvtEntry>
-    ensures { result ≡ option_map (λ row. unclear_row_of row (numbers_of (slice_get heard.now place))) (slice_get unclear.now place) }
+    ensures { result ≡ option_map (λ row. unclear_row_of row (numbers_of (slice_get heard.now place)))
+        (slice_get unclear.now place) }
 {
     let numbers = match heard.get(place) {
         Some(numbers) => *numbers,
@@ -229,7 +237,8 @@ fn row_at(unclear: &[(Amount, Cause)], heard: &[Numbers], place: usize) -> Optio
 
 /// The unclear payment at this place in numbers.
 fn unclear_at(till: &Till, place: usize) -> Option<ZvtEntry>
-    ensures { result ≡ option_map (λ row. unclear_row_of row (numbers_of (slice_get till.now.heard place))) (slice_get till.now.state.unclear place) }
+    ensures { result ≡ option_map (λ row. unclear_row_of row (numbers_of (slice_get till.now.heard place)))
+        (slice_get till.now.state.unclear place) }
 {
     row_at(till.unclear(), till.heard(), place)
 }
@@ -243,7 +252,9 @@ pub extern "C" fn zvt_till_unclear(
     entry: &mut ZvtEntry,
 ) -> u32
     ensures same { till.new.raw_handle.held ≡ till.old.raw_handle.held }
-    ensures row { MatchOption till.old.raw_handle.held (result ≡ 6) (λ end. MatchOption (slice_get end.till.state.unclear place) (result ≡ 5) (λ row. (result ≡ 0) × (entry.new ≡ unclear_row_of row (numbers_of (slice_get end.till.heard place))))) }
+    ensures row { MatchOption till.old.raw_handle.held (result ≡ 6)
+        (λ end. MatchOption (slice_get end.till.state.unclear place) (result ≡ 5)
+        (λ row. (result ≡ 0) × (entry.new ≡ unclear_row_of row (numbers_of (slice_get end.till.heard place))))) }
 {
     let Some(end) = till.take(alloc) else {
         return 6;

@@ -1,7 +1,9 @@
 //! The arguments of the program, as a choice.
 ghost use Rattle.std.specs.Prelude.{◌≡◌, codes, IfErr, IfOk, map, option_map, Some, []};
 ghost use Rattle.clap.specs.Words.{Text, first_of, found_of, kind_of, rows_of, subcommand_rows_of};
-ghost use Rattle.zvt_cli.specs.Chosen.{AreCheckOptionsOf, AreTraceOptionsOf, GivesNumber, HasNoChoice, IsChoiceOf, IsFaultOf, IsFlagOf, IsMissing, IsNumberOf, IsTakenAs, MayBeChoiceOf, PlaysAtMost, faults_of_arguments, reading_of_arguments, words_of};
+ghost use Rattle.zvt_cli.specs.Chosen.{AreCheckOptionsOf, AreTraceOptionsOf, GivesNumber, HasNoChoice, IsChoiceOf};
+ghost use Rattle.zvt_cli.specs.Chosen.{IsFaultOf, IsFlagOf, IsMissing, IsNumberOf, IsTakenAs, MayBeChoiceOf};
+ghost use Rattle.zvt_cli.specs.Chosen.{PlaysAtMost, faults_of_arguments, reading_of_arguments, words_of};
 
 use crate::choice::{
     CheckOptions, Choice, ChoiceFault, PlayOptions, TapOptions, TerminalOptions, TillOptions,
@@ -18,8 +20,10 @@ const LARGEST_TID: u32 = 99_999_999;
 ///
 /// `Words` comes for a wrong argument, and for help and the version.
 pub fn choice<'a>(alloc: Global, arguments: &'a [&'a str]) -> Result<Choice<'a>, ChoiceFault>
-    ensures chosen { IfOk result (IsChoiceOf (reading_of_arguments (map (λ argument. argument.now) arguments.entry.now))) }
-    ensures faultless { IfOk result (λ _. faults_of_arguments (map (λ argument. argument.now) arguments.entry.now) ≡ []) }
+    ensures chosen { IfOk result (IsChoiceOf (reading_of_arguments
+        (map (λ argument. argument.now) arguments.entry.now))) }
+    ensures faultless { IfOk result (λ _. faults_of_arguments
+        (map (λ argument. argument.now) arguments.entry.now) ≡ []) }
     ensures refused { IfErr result (IsFaultOf (map (λ argument. argument.now) arguments.entry.now)) }
 {
     let matches = matches(alloc, arguments)?;
@@ -34,8 +38,10 @@ pub fn choice<'a>(alloc: Global, arguments: &'a [&'a str]) -> Result<Choice<'a>,
 
 /// The reading of the arguments by `clap`.
 fn matches<'a>(alloc: Global, arguments: &'a [&'a str]) -> Result<ArgMatches<'a>, ChoiceFault>
-    ensures read { IfOk result (λ matches. subcommand_rows_of matches ≡ reading_of_arguments (map (λ argument. argument.now) arguments.entry.now)) }
-    ensures faultless { IfOk result (λ _. faults_of_arguments (map (λ argument. argument.now) arguments.entry.now) ≡ []) }
+    ensures read { IfOk result (λ matches. subcommand_rows_of matches ≡ reading_of_arguments
+        (map (λ argument. argument.now) arguments.entry.now)) }
+    ensures faultless { IfOk result (λ _. faults_of_arguments
+        (map (λ argument. argument.now) arguments.entry.now) ≡ []) }
     ensures refused { IfErr result (IsFaultOf (map (λ argument. argument.now) arguments.entry.now)) }
 {
     let command = command::zvt(alloc)?;
@@ -269,7 +275,9 @@ fn check_options<'a>(
     port: u16,
     host: &'a str,
 ) -> Result<CheckOptions<'a>, AllocError>
-    ensures { (name : Text) → GivesNumber name (rows_of (found_of inner.now)) 65535 port → first_of (codes "host") (rows_of (found_of inner.now)) ≡ Some host.entry.now → IfOk result (AreCheckOptionsOf name (rows_of (found_of inner.now))) }
+    ensures { (name : Text) → GivesNumber name (rows_of (found_of inner.now)) 65535 port → first_of (codes "host")
+        (rows_of (found_of inner.now)) ≡ Some host.entry.now
+        → IfOk result (AreCheckOptionsOf name (rows_of (found_of inner.now))) }
 {
     Ok(CheckOptions {
         port,
@@ -309,7 +317,8 @@ fn flag(inner: &ArgMatches<'_>, id: &str) -> bool
 
 /// The words of the argument of this name, in order.
 fn words<'a>(alloc: Global, inner: &ArgMatches<'a>, id: &str) -> Result<Vec<&'a str>, AllocError>
-    ensures { IfOk result (λ words. map (λ word. word.now) words.items ≡ words_of id.now (rows_of (found_of inner.now))) }
+    ensures { IfOk result (λ words. map (λ word. word.now) words.items ≡ words_of id.now
+        (rows_of (found_of inner.now))) }
 {
     match inner.get_strs(id) {
         Some(words) => Vec::from_slice(alloc, words),

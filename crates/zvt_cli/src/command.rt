@@ -2,7 +2,9 @@
 ghost use Rattle.std.specs.Prelude.{◌≡◌, codes, IfOk, false};
 ghost use Rattle.clap.specs.Words.{app_of, new_app};
 ghost use Rattle.clap.specs.declared.builder.command.Command.TheViews.{out-Command as fields_of};
-ghost use Rattle.zvt_cli.specs.Commands.{app_for, audit_app, book_app, check_app, join_app, loop_app, normalise_app, play_app, program_app, receipts_app, show_app, tap_app, terminal_app, till_app, vectors_app, zvt_app};
+ghost use Rattle.zvt_cli.specs.Commands.{app_for, audit_app, book_app, check_app, join_app, loop_app, normalise_app};
+ghost use Rattle.zvt_cli.specs.Commands.{play_app, program_app, receipts_app, show_app, tap_app, terminal_app};
+ghost use Rattle.zvt_cli.specs.Commands.{till_app, vectors_app, zvt_app};
 
 use crate::help;
 use crate::options::CommandOption;

@@ -1,7 +1,8 @@
 //! The options and steps of the commands.
 ghost use Rattle.std.specs.Prelude.{◌≡◌, false};
 ghost use Rattle.clap.specs.Words.{rule_of};
-ghost use Rattle.zvt_cli.specs.Commands.{book_files_rule, flag_rule, host_rule, needed_port_rule, needed_rule, number_rule, option_rule, port_option_rule, rule_for, several_rule, tid_rule};
+ghost use Rattle.zvt_cli.specs.Commands.{book_files_rule, flag_rule, host_rule, needed_port_rule, needed_rule};
+ghost use Rattle.zvt_cli.specs.Commands.{number_rule, option_rule, port_option_rule, rule_for, several_rule, tid_rule};
 
 use clap::{Arg, ArgAction, value_parser};
 use std::alloc::Global;

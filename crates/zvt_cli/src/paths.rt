@@ -7,7 +7,8 @@ use std::alloc::{AllocError, Global};
 /// Inserts the command `show` if the first argument is a path, so that `zvt day.trace` shows the file. `arguments`
 /// begins with the program's name.
 pub fn with_show<'a>(alloc: Global, arguments: &[&'a str]) -> Result<Vec<&'a str>, AllocError>
-    ensures { IfOk result (λ words. map (λ word. word.now) words.items ≡ with_show (map (λ argument. argument.now) arguments.now)) }
+    ensures { IfOk result (λ words. map (λ word. word.now) words.items ≡ with_show
+        (map (λ argument. argument.now) arguments.now)) }
 {
     let mut words = Vec::from_slice(alloc, arguments)?;
     if let [_, first, ..] = arguments {

@@ -55,9 +55,9 @@ impl Model for Field {
 }
 
 impl Field {
-    /// The field of that BMP and body, if it has a spelling. Else the body is handed back with its first fault, in the order
-    /// of `BadField`. `Size` means that a fixed size is missed, that over 99 or 999 bytes would follow a length of two or
-    /// three digits, or that a container has over 65,535 bytes with its BMP and its length.
+    /// The field of that BMP and body, if it has a spelling. Else the body is handed back with its first fault, in the
+    /// order of `BadField`. `Size` means that a fixed size is missed, that over 99 or 999 bytes would follow a length
+    /// of two or three digits, or that a container has over 65,535 bytes with its BMP and its length.
     pub fn checked(bmp: u8, body: FieldBody) -> Result<Field, (FieldBody, BadField)>
         ensures ok { IsOk result ↔ HasSpelling (field_of bmp body) }
         ensures value { IfOk result (λ field. field ≡ field_of bmp body) }

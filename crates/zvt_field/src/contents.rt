@@ -3,7 +3,8 @@
 ghost use Rattle.std.specs.Prelude.{◌≡◌, List, IfSome};
 ghost use Rattle.std.specs.Option.{option_copied};
 ghost use Rattle.zvt_field.specs.Grammar.{Field};
-ghost use Rattle.zvt_field.specs.Named.{content_of, amount_of, trace_of, result_of, receipt_of, currency_of, original_of};
+ghost use Rattle.zvt_field.specs.Named.{content_of, amount_of, trace_of, result_of, receipt_of, currency_of};
+ghost use Rattle.zvt_field.specs.Named.{original_of};
 ghost use Rattle.zvt_field.specs.Views.{PlainBytes};
 
 use zvt_bcd::{Amount, Currency, Trace, number};
@@ -44,7 +45,8 @@ pub(crate) fn result(content: Option<&[u8]>) -> Option<u8>
 #[inline(always)]
 pub(crate) fn receipt(content: Option<&[u8]>) -> Option<[u8; 2]>
     requires { IfSome content (λ bytes. PlainBytes 0x87 bytes.now) }
-    ensures { (fields : List Field) → option_copied content.entry ≡ content_of 0x87 fields → result ≡ receipt_of fields }
+    ensures { (fields : List Field) → option_copied content.entry ≡ content_of 0x87 fields
+        → result ≡ receipt_of fields }
 {
     match content {
         Some(bytes) => match bytes {
@@ -59,7 +61,8 @@ pub(crate) fn receipt(content: Option<&[u8]>) -> Option<[u8; 2]>
 #[inline(always)]
 pub(crate) fn currency(content: Option<&[u8]>) -> Option<Currency>
     requires { IfSome content (λ bytes. PlainBytes 0x49 bytes.now) }
-    ensures { (fields : List Field) → option_copied content.entry ≡ content_of 0x49 fields → result ≡ currency_of fields }
+    ensures { (fields : List Field) → option_copied content.entry ≡ content_of 0x49 fields
+        → result ≡ currency_of fields }
 {
     match content {
         Some(bytes) => Currency::new(number(bytes) as u16),
@@ -71,7 +74,8 @@ pub(crate) fn currency(content: Option<&[u8]>) -> Option<Currency>
 #[inline(always)]
 pub(crate) fn original(content: Option<&[u8]>) -> Option<[u8; 3]>
     requires { IfSome content (λ bytes. PlainBytes 0x37 bytes.now) }
-    ensures { (fields : List Field) → option_copied content.entry ≡ content_of 0x37 fields → result ≡ original_of fields }
+    ensures { (fields : List Field) → option_copied content.entry ≡ content_of 0x37 fields
+        → result ≡ original_of fields }
 {
     match content {
         Some(bytes) => match bytes {

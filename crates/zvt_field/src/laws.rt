@@ -1,6 +1,8 @@
 //! Laws of the grammar, each the contract of a function that does nothing.
 
-ghost use Rattle.zvt_field.specs.Laws.{EachSizeIsFilled, EachBeginningStands, PositionsAreOne, TestsDecide, RefusalsAreOne, FieldsEndThemselves, ListsAreOne, ListsHaveOne, AnswersAreOne, AnswersStay, FaultsAreOne, SpelledIsFaultless};
+ghost use Rattle.zvt_field.specs.Laws.{EachSizeIsFilled, EachBeginningStands, PositionsAreOne, TestsDecide};
+ghost use Rattle.zvt_field.specs.Laws.{RefusalsAreOne, FieldsEndThemselves, ListsAreOne, ListsHaveOne, AnswersAreOne};
+ghost use Rattle.zvt_field.specs.Laws.{AnswersStay, FaultsAreOne, SpelledIsFaultless};
 
 /// Some fields have exactly that size, for each size but one byte.
 pub fn each_size_is_filled()

@@ -4,7 +4,8 @@ ghost use Rattle.std.specs.Prelude.{◌≡◌, ℕ, IfSome};
 ghost use Rattle.std.specs.Option.{option_copied};
 ghost use Rattle.zvt_field.specs.Grammar.{plain};
 ghost use Rattle.zvt_field.specs.Bodies.{HasSpelling};
-ghost use Rattle.zvt_field.specs.Named.{count_of, only_of, content_of, amount_of, trace_of, result_of, receipt_of, currency_of, original_of};
+ghost use Rattle.zvt_field.specs.Named.{count_of, only_of, content_of, amount_of, trace_of, result_of, receipt_of};
+ghost use Rattle.zvt_field.specs.Named.{currency_of, original_of};
 
 use crate::{Field, FieldBody, Fields};
 use zvt_bcd::{Amount, Currency, Trace, number};

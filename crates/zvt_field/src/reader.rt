@@ -4,7 +4,8 @@ ghost use Rattle.std.specs.Prelude.{◌≡◌, ◌≢◌, ◌≤◌, ◌<◌, �
 ghost use Rattle.zvt_grammar.specs.Reading.{shortest, padded};
 ghost use Rattle.zvt_bcd.specs.Digits.{is_digit_pair};
 ghost use Rattle.zvt_grammar.specs.Lengths.{reading_of};
-ghost use Rattle.zvt_field.specs.Answers.{Answers, AnswersOne, AnswersHead, InName, InContainer, HeadFound, HoldsSome, TakesMemory};
+ghost use Rattle.zvt_field.specs.Answers.{Answers, AnswersOne, AnswersHead, InName, InContainer, HeadFound, HoldsSome};
+ghost use Rattle.zvt_field.specs.Answers.{TakesMemory};
 
 use crate::judge::{judge_bmp, judge_digit};
 use crate::sizes::list_size;
@@ -85,7 +86,8 @@ fn scan_content(
 ) -> Result<Scan<(Field, usize)>, AllocError>
     requires small { room < 2 ^ 16 }
     requires begun { HeadFound (reading_of lengths) room bytes.now head }
-    ensures { MatchResult result (AnswersOne (reading_of lengths) room bytes.now) (λ _. HoldsSome (reading_of lengths) bytes.now) }
+    ensures { MatchResult result (AnswersOne (reading_of lengths) room bytes.now)
+        (λ _. HoldsSome (reading_of lengths) bytes.now) }
 {
     let end = (head.start + head.size).min(bytes.len());
     let content = &bytes[head.start..end];
@@ -115,7 +117,8 @@ fn scan_counted(
     requires few { digits ≤ 3 }
     requires small { room < 2 ^ 16 }
     requires begun { InName (reading_of lengths) room bytes.now digits }
-    ensures { MatchResult result (AnswersOne (reading_of lengths) room bytes.now) (λ _. HoldsSome (reading_of lengths) bytes.now) }
+    ensures { MatchResult result (AnswersOne (reading_of lengths) room bytes.now)
+        (λ _. HoldsSome (reading_of lengths) bytes.now) }
 {
     match scan_count(bytes, room, digits, lengths) {
         Scan::Whole(head) => scan_content(alloc, bytes, room, head, lengths),
@@ -133,7 +136,8 @@ fn scan_container(
 ) -> Result<Scan<(Field, usize)>, AllocError>
     requires small { room < 2 ^ 16 }
     requires begun { InContainer (reading_of lengths) room bytes.now }
-    ensures { MatchResult result (AnswersOne (reading_of lengths) room bytes.now) (λ _. HoldsSome (reading_of lengths) bytes.now) }
+    ensures { MatchResult result (AnswersOne (reading_of lengths) room bytes.now)
+        (λ _. HoldsSome (reading_of lengths) bytes.now) }
 {
     Ok(
         match scan_sized_forest(alloc, &bytes[1..], room - 1, lengths)? {
@@ -161,7 +165,8 @@ fn scan_field(
     requires some { 0 < room }
     requires filled { room ≢ 1 }
     requires small { room < 2 ^ 16 }
-    ensures { MatchResult result (AnswersOne (reading_of lengths) room bytes.now) (λ _. HoldsSome (reading_of lengths) bytes.now) }
+    ensures { MatchResult result (AnswersOne (reading_of lengths) room bytes.now)
+        (λ _. HoldsSome (reading_of lengths) bytes.now) }
 {
     let Some(first) = bytes.first() else {
         return Ok(Scan::More);
@@ -213,7 +218,8 @@ pub fn scan_fields(
 ) -> Result<Scan<Fields>, AllocError>
     requires small { room < 2 ^ 16 }
     requires filled { room ≢ 1 }
-    ensures { MatchResult result (Answers (reading_of lengths) room bytes.now) (λ _. TakesMemory (reading_of lengths) room bytes.now) }
+    ensures { MatchResult result (Answers (reading_of lengths) room bytes.now)
+        (λ _. TakesMemory (reading_of lengths) room bytes.now) }
 {
     let mut list = Vec::new(alloc);
     let mut taken = 0;

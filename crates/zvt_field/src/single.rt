@@ -45,7 +45,8 @@ impl<'a> Slot<'a> {
     /// Sees the next field.
     #[inline(always)]
     fn see(&mut self, bmp: u8, field: &FieldView<'a>)
-        ensures { (fields left rest : List Field) → Saw bmp fields self.old left → left ≡ shown field.now ∷ rest → Saw bmp fields self.new rest }
+        ensures { (fields left rest : List Field) → Saw bmp fields self.old left → left ≡ shown field.now ∷ rest
+            → Saw bmp fields self.new rest }
     {
         if field.bmp == bmp {
             *self = match self {
@@ -59,7 +60,8 @@ impl<'a> Slot<'a> {
     #[inline(always)]
     fn content(&self, bmp: u8) -> Option<&'a [u8]>
         requires { (fields : List Field) × Saw bmp fields self.now [] }
-        ensures content { (fields : List Field) → Saw bmp fields self.now [] → option_copied result ≡ content_of bmp fields }
+        ensures content { (fields : List Field) → Saw bmp fields self.now [] → option_copied result ≡ content_of
+            bmp fields }
         ensures spelled { IfSome result (λ bytes. PlainBytes bmp bytes.now) }
     {
         match self {
@@ -96,7 +98,8 @@ impl<'a> Slots<'a> {
     /// Sees the next field.
     #[inline(always)]
     fn see(&mut self, field: &FieldView<'a>)
-        ensures { (fields left rest : List Field) → Collected fields self.old left → left ≡ shown field.now ∷ rest → Collected fields self.new rest }
+        ensures { (fields left rest : List Field) → Collected fields self.old left → left ≡ shown field.now ∷ rest
+            → Collected fields self.new rest }
     {
         self.result.see(0x27, field);
         self.amount.see(0x04, field);

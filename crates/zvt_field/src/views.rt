@@ -4,8 +4,10 @@ ghost use Rattle.std.specs.Prelude.{◌≡◌, ℕ, ◌%◌, ◌<◌, ◌^◌, L
 ghost use Rattle.std.specs.Option.{option_copied};
 ghost use Rattle.zvt_grammar.specs.Reading.{padded};
 ghost use Rattle.zvt_field.specs.Grammar.{Field, FieldList};
-ghost use Rattle.zvt_field.specs.Named.{bytes_of, count_of, only_of, content_of, amount_of, trace_of, result_of, receipt_of, currency_of, original_of};
-ghost use Rattle.zvt_field.specs.Views.{FieldsBytes, fields_once, FieldBytes, field_once, IsLead, LeadFirst, ContentFirst, tree_of, PlainBytes};
+ghost use Rattle.zvt_field.specs.Named.{bytes_of, count_of, only_of, content_of, amount_of, trace_of, result_of};
+ghost use Rattle.zvt_field.specs.Named.{receipt_of, currency_of, original_of};
+ghost use Rattle.zvt_field.specs.Views.{FieldsBytes, fields_once, FieldBytes, field_once, IsLead, LeadFirst};
+ghost use Rattle.zvt_field.specs.Views.{ContentFirst, tree_of, PlainBytes};
 
 use crate::table::shape;
 use crate::{Shape, contents};
@@ -200,7 +202,8 @@ fn note_size(bytes: &[u8])
 #[inline(always)]
 fn lead(shape: Option<Shape>, bytes: &[u8]) -> (usize, usize)
     requires { ∥ LeadFirst shape bytes.now ∥₁ }
-    ensures { (n : ℕ) (size after : List ℕ) → bytes.now ≡ size ++ after → IsLead shape n size → (result.0 ≡ length size) × (result.1 ≡ n) }
+    ensures { (n : ℕ) (size after : List ℕ) → bytes.now ≡ size ++ after → IsLead shape n size → (result.0 ≡ length size)
+        × (result.1 ≡ n) }
 {
     match shape {
         Some(Shape::Fixed(size)) | Some(Shape::Digits(size)) => (0, size),
@@ -225,7 +228,8 @@ fn digit(byte: u8) -> usize
 #[inline(always)]
 fn first_content(shape: Option<Shape>, bytes: &[u8]) -> (&[u8], &[u8])
     requires { ∥ ContentFirst shape bytes.now ∥₁ }
-    ensures { (size content after : List ℕ) → bytes.now ≡ size ++ (content ++ after) → IsLead shape (length content) size → (result.0.now ≡ content) × (result.1.now ≡ after) }
+    ensures { (size content after : List ℕ) → bytes.now ≡ size ++ (content ++ after) → IsLead shape (length content)
+        size → (result.0.now ≡ content) × (result.1.now ≡ after) }
 {
     let (start, size) = lead(shape, bytes);
     bytes[start..].split_at(size)

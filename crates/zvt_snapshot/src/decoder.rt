@@ -10,7 +10,8 @@ ghost use Rattle.zvt_till.specs.Till.{TillState, step};
 ghost use Rattle.zvt_apdu.specs.Briefs.{digits};
 ghost use Rattle.zvt_snapshot.specs.Decoding.{IsMade, IsLoaded, LeadsTo, OfLayout, RestsOn};
 ghost use Rattle.zvt_snapshot.specs.Reading.{HasDoubtOf, HasRowOf, IsOfLayout};
-ghost use Rattle.zvt_snapshot.specs.Encoded.{body_bytes, entry_bytes, saved, saved_first, saved_in, settings_bytes, unclear_bytes, HasNoDoubts, IsKept, IsOutcome, IsSavedAs, IsUnclear};
+ghost use Rattle.zvt_snapshot.specs.Encoded.{body_bytes, entry_bytes, saved, saved_first, saved_in, settings_bytes};
+ghost use Rattle.zvt_snapshot.specs.Encoded.{unclear_bytes, HasNoDoubts, IsKept, IsOutcome, IsSavedAs, IsUnclear};
 
 use crate::encoder::{save, save_in};
 use crate::input::{read_entry, read_number, read_outcome, read_unclear};
@@ -33,7 +34,8 @@ pub enum LoadError {
 
 /// The rows of a book.
 fn read_book(alloc: Global, layout: Layout, bytes: &[u8]) -> Result<Vec<Entry>, LoadError>
-    ensures value { (book : List Entry) → All (HasRowOf layout) book → bytes.now ≡ flat_map (entry_bytes layout) book → MatchResult result (λ rows. rows.items ≡ book) (λ why. why ≡ LoadError.Memory) }
+    ensures value { (book : List Entry) → All (HasRowOf layout) book → bytes.now ≡ flat_map (entry_bytes layout) book
+        → MatchResult result (λ rows. rows.items ≡ book) (λ why. why ≡ LoadError.Memory) }
     ensures held { IfOk result (λ rows. All (λ entry. HasDoubtOf layout entry.doubt) rows.items) }
 {
     let size = entry_size(layout);
@@ -54,7 +56,8 @@ fn read_book(alloc: Global, layout: Layout, bytes: &[u8]) -> Result<Vec<Entry>, 
 
 /// The unclear payments.
 fn read_rows(alloc: Global, bytes: &[u8]) -> Result<Vec<(Amount, Cause)>, LoadError>
-    ensures { (unclear : List (ℕ × Cause)) → All IsUnclear unclear → bytes.now ≡ flat_map unclear_bytes unclear → MatchResult result (λ rows. rows.items ≡ unclear) (λ why. why ≡ LoadError.Memory) }
+    ensures { (unclear : List (ℕ × Cause)) → All IsUnclear unclear → bytes.now ≡ flat_map unclear_bytes unclear
+        → MatchResult result (λ rows. rows.items ≡ unclear) (λ why. why ≡ LoadError.Memory) }
 {
     let mut rows = Vec::new(alloc);
     let mut rest = bytes;
@@ -106,7 +109,8 @@ struct Made {
 /// What 14 bytes say of it.
 fn read_made(bytes: &[u8]) -> Option<Made>
     requires { length bytes.now ≡ 14 }
-    ensures { (settings : Settings) (last : Option Outcome) → IsOutcome last → settings.currency ≤ 9999 → length settings.password ≡ 3 → bytes.now ≡ settings_bytes settings last → IsMade result settings last }
+    ensures { (settings : Settings) (last : Option Outcome) → IsOutcome last → settings.currency ≤ 9999
+        → length settings.password ≡ 3 → bytes.now ≡ settings_bytes settings last → IsMade result settings last }
 {
     let tail = &bytes[10..];
     let last = read_outcome(&bytes[2..10])?;
@@ -140,7 +144,8 @@ fn restore(
 /// The till whose header and rows these are.
 fn read_body(alloc: Global, layout: Layout, bytes: &[u8]) -> Result<Till, LoadError>
     requires { 24 ≤ length bytes.now }
-    ensures value { (s : TillState) → IsKept s → IsOfLayout layout s → bytes.now ≡ body_bytes layout s → LeadsTo result s }
+    ensures value { (s : TillState) → IsKept s → IsOfLayout layout s → bytes.now ≡ body_bytes layout s
+        → LeadsTo result s }
     ensures held { OfLayout result layout }
 {
     let (_, rows) = bytes.split_at(24);
@@ -162,7 +167,8 @@ fn read_body(alloc: Global, layout: Layout, bytes: &[u8]) -> Result<Till, LoadEr
 
 /// The till that the bytes of this layout were saved of, before its check sums are looked at.
 fn read_till(alloc: Global, layout: Layout, bytes: &[u8]) -> Result<Till, LoadError>
-    ensures value { (s : TillState) → IsKept s → IsOfLayout layout s → bytes.now ≡ saved_in layout s → LeadsTo result s }
+    ensures value { (s : TillState) → IsKept s → IsOfLayout layout s → bytes.now ≡ saved_in layout s
+        → LeadsTo result s }
     ensures held { OfLayout result layout }
 {
     if bytes.len() < 32 {
@@ -174,7 +180,8 @@ fn read_till(alloc: Global, layout: Layout, bytes: &[u8]) -> Result<Till, LoadEr
 
 /// The till that the bytes of this layout were saved of.
 fn load_in(alloc: Global, layout: Layout, bytes: &[u8]) -> Result<Till, LoadError>
-    ensures value { (s : TillState) → IsKept s → IsOfLayout layout s → bytes.now ≡ saved_in layout s → LeadsTo result s }
+    ensures value { (s : TillState) → IsKept s → IsOfLayout layout s → bytes.now ≡ saved_in layout s
+        → LeadsTo result s }
     ensures only { IfOk result (λ till. bytes.now ≡ saved_in layout (step till.state Happening.Lost)) }
     ensures held { OfLayout result layout }
 {

@@ -2,7 +2,10 @@
 ghost use Rattle.std.specs.Prelude.{◌≡◌, ◌++◌, ◌^◌, ◌<◌, ◌≤◌, length, Some, IfOk, OnOk, flat_map};
 ghost use Rattle.std.specs.List.{All};
 ghost use Rattle.zvt_apdu.specs.Briefs.{digits};
-ghost use Rattle.zvt_snapshot.specs.Encoded.{cause_code, receipt_bytes, doubt_bytes, doubt_code, entry_bytes, unclear_bytes, outcome_row, outcome_bytes, body_bytes, counts_bytes, left_book, open_rows, saved, saved_in, settings_bytes, summed, IsEntry, IsKept, IsOutcome, IsReceipt, IsUnclear};
+ghost use Rattle.zvt_snapshot.specs.Encoded.{cause_code, receipt_bytes, doubt_bytes, doubt_code, entry_bytes};
+ghost use Rattle.zvt_snapshot.specs.Encoded.{unclear_bytes, outcome_row, outcome_bytes, body_bytes, counts_bytes};
+ghost use Rattle.zvt_snapshot.specs.Encoded.{left_book, open_rows, saved, saved_in, settings_bytes, summed, IsEntry};
+ghost use Rattle.zvt_snapshot.specs.Encoded.{IsKept, IsOutcome, IsReceipt, IsUnclear};
 ghost use Rattle.zvt_till.specs.Till.{step};
 
 use crate::layouts::{Layout, version};
@@ -234,7 +237,8 @@ fn put_left_book(
     book: &[Entry],
     doubted: Option<usize>,
 ) -> Result<(), AllocError>
-    ensures bytes { OnOk result (bytes.new.items ≡ bytes.old.items ++ flat_map (entry_bytes layout) (left_book book.now doubted)) }
+    ensures bytes { OnOk result (bytes.new.items ≡ bytes.old.items ++ flat_map (entry_bytes layout)
+        (left_book book.now doubted)) }
     ensures fit { OnOk result (All IsEntry (left_book book.now doubted)) }
 {
     let Some(place) = doubted else {
@@ -284,7 +288,8 @@ fn rows_left(left: Option<Amount>) -> usize
 
 /// Writes the header and the rows of the till after its connection was lost.
 fn put_body(bytes: &mut Vec<u8>, layout: Layout, till: &Till) -> Result<(), AllocError>
-    ensures bytes { OnOk result (bytes.new.items ≡ bytes.old.items ++ body_bytes layout (step till.now.state Happening.Lost)) }
+    ensures bytes { OnOk result (bytes.new.items ≡ bytes.old.items ++ body_bytes layout
+        (step till.now.state Happening.Lost)) }
     ensures kept { OnOk result (IsKept (step till.now.state Happening.Lost)) }
 {
     // by this law the rows are some that a till can have
@@ -307,8 +312,8 @@ fn put_sums(bytes: &mut Vec<u8>) -> Result<(), AllocError>
     put_number(bytes, 4, second)
 }
 
-/// The bytes of the till after its connection was lost, in this layout. The first layout says nothing of what the reversals
-/// leave open.
+/// The bytes of the till after its connection was lost, in this layout. The first layout says nothing of what the
+/// reversals leave open.
 pub fn save_in(alloc: Global, layout: Layout, till: &Till) -> Result<Vec<u8>, AllocError>
     ensures bytes { IfOk result (λ bytes. bytes.items ≡ saved_in layout (step till.now.state Happening.Lost)) }
     ensures kept { OnOk result (IsKept (step till.now.state Happening.Lost)) }

@@ -5,7 +5,9 @@ ghost use Rattle.zvt_apdu.specs.Briefs.{digits};
 ghost use Rattle.zvt_till.specs.declared.entries.Doubt.{Doubt};
 ghost use Rattle.zvt_till.specs.declared.entries.Entry.{Entry};
 ghost use Rattle.zvt_till.specs.declared.outcomes.Cause.{Cause};
-ghost use Rattle.zvt_snapshot.specs.Encoded.{cause_code, doubt_bytes, doubt_code, receipt_bytes, entry_bytes, entry_size, unclear_bytes, outcome_row, outcome_bytes, IsAmount, IsReceipt, IsEntry, IsUnclear, IsOutcome};
+ghost use Rattle.zvt_snapshot.specs.Encoded.{cause_code, doubt_bytes, doubt_code, receipt_bytes, entry_bytes};
+ghost use Rattle.zvt_snapshot.specs.Encoded.{entry_size, unclear_bytes, outcome_row, outcome_bytes, IsAmount};
+ghost use Rattle.zvt_snapshot.specs.Encoded.{IsReceipt, IsEntry, IsUnclear, IsOutcome};
 ghost use Rattle.zvt_snapshot.specs.Reading.{cause_from, doubt_from, outcome_from, HasDoubtOf, HasRowOf};
 
 use crate::layouts::Layout;
@@ -94,7 +96,8 @@ fn doubt_of(code: u8) -> Option<Doubt>
 
 /// What the reversals of an entry leave open, after its receipt number. The first layout says nothing of it.
 fn read_doubt(layout: Layout, bytes: &[u8]) -> Option<Doubt>
-    ensures value { (doubt : Doubt) → HasDoubtOf layout doubt → bytes.now ≡ doubt_bytes layout doubt → result ≡ Some doubt }
+    ensures value { (doubt : Doubt) → HasDoubtOf layout doubt → bytes.now ≡ doubt_bytes layout doubt
+        → result ≡ Some doubt }
     ensures held { IfSome result (HasDoubtOf layout) }
 {
     match layout {

@@ -27,7 +27,8 @@ pub(crate) fn rare_step(
 ) -> Result<Judged, Why>
     requires judge { IsJudge (state_of (reading_of lengths) goes.old levels.old) }
     requires rare { is_rare goes.old.part ≡ true }
-    ensures { (bytes : List ℕ) → StandsFor (state_of (reading_of lengths) goes.old levels.old) bytes → Advances (reading_of lengths) bytes byte result (state_of (reading_of lengths) goes.new levels.new) }
+    ensures { (bytes : List ℕ) → StandsFor (state_of (reading_of lengths) goes.old levels.old) bytes
+        → Advances (reading_of lengths) bytes byte result (state_of (reading_of lengths) goes.new levels.new) }
 {
     match goes.part {
         Part::LowSize => {
@@ -83,7 +84,8 @@ pub(crate) fn follow(
 /// Continues in the innermost level that lacks bytes, or reports the end of the message.
 #[inline]
 fn settle(goes: &mut Goes, levels: &mut Levels) -> Judged
-    ensures { (r : Reading) (bytes : List ℕ) → Between r goes.old.left (outer_of levels.old) bytes → Settles r levels.old goes.new levels.new bytes result }
+    ensures { (r : Reading) (bytes : List ℕ) → Between r goes.old.left (outer_of levels.old) bytes
+        → Settles r levels.old goes.new levels.new bytes result }
 {
     match close(goes.left, &mut levels.outer) {
         Some(left) => {

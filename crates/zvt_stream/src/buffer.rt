@@ -169,7 +169,8 @@ impl Held {
 /// Raises the capacity to at least `least` bytes. Where it is less, it is at least doubled.
 #[cold]
 fn grow(room: &mut Vec<u8>, least: usize) -> Result<(), AllocError>
-    ensures ok { OnOk result ((least ≤ length room.new.items) × (take (length room.old.items) room.new.items ≡ room.old.items)) }
+    ensures ok { OnOk result ((least ≤ length room.new.items)
+        × (take (length room.old.items) room.new.items ≡ room.old.items)) }
     ensures err { OnErr result ((room.new.items ≡ room.old.items) × (length room.old.items < least)) }
 {
     if least <= room.len() {

@@ -1,6 +1,7 @@
 //! The engine of a line: reads messages, lets a machine process them, and writes its replies.
 
-ghost use Rattle.std.specs.Prelude.{◌≡◌, ◌≢◌, ℕ, ◌+◌, ◌<◌, ◌≤◌, Bool, false, true, List, [], ◌++◌, IfOk, IfErr, IsOk, IsSome, Some, OnOk, OnErr, MatchResult, length};
+ghost use Rattle.std.specs.Prelude.{◌≡◌, ◌≢◌, ℕ, ◌+◌, ◌<◌, ◌≤◌, Bool, false, true, List, [], ◌++◌, IfOk, IfErr, IsOk};
+ghost use Rattle.std.specs.Prelude.{IsSome, Some, OnOk, OnErr, MatchResult, length};
 ghost use Rattle.std.specs.Result.{IsErrOf};
 ghost use Rattle.std.specs.Io.KnownBytes.{Consumes, Appends};
 ghost use Rattle.zvt_apdu.specs.Message.{Message};
@@ -8,7 +9,8 @@ ghost use Rattle.zvt_stream.specs.Apdus.{Unfinished};
 ghost use Rattle.zvt_stream.specs.StreamState.{IsReserved};
 ghost use Rattle.zvt_stream.specs.Answered.{Answered};
 ghost use Rattle.zvt_stream.specs.Hearing.{Heard};
-ghost use Rattle.zvt_stream.specs.LineRun.{Course, Breaks, Pumped, Broken, Reported, failed_reads, failed_writes, there_at_once, reached, IsPieceFault};
+ghost use Rattle.zvt_stream.specs.LineRun.{Course, Breaks, Pumped, Broken, Reported, failed_reads, failed_writes};
+ghost use Rattle.zvt_stream.specs.LineRun.{there_at_once, reached, IsPieceFault};
 ghost use Rattle.zvt_stream.specs.Turns.{Arrives, Ends, Falters, line_state, line_ends};
 ghost use Rattle.zvt_stream.specs.Replies.{Replies, Unanswered};
 
@@ -22,7 +24,8 @@ use zvt_io::{Sink, Source};
 pub fn send<W: Sink>(writer: &mut W, bytes: &[u8]) -> Result<(), LineFault>
     ensures bytes { IfOk result (λ _. Appends (W.written writer.old) (W.written writer.new) bytes.now) }
     ensures err { IfErr result (λ fault. fault ≡ LineFault.Write) }
-    ensures failures { MatchResult result (λ _. W.failures writer.new ≡ W.failures writer.old) (λ fault. W.failures writer.new ≡ W.failures writer.old + 1) }
+    ensures failures { MatchResult result (λ _. W.failures writer.new ≡ W.failures writer.old)
+        (λ fault. W.failures writer.new ≡ W.failures writer.old + 1) }
 {
     match writer.write_all(bytes) {
         Ok(()) => Ok(()),
@@ -37,9 +40,12 @@ fn answer<W: Sink, M: Machine>(
     machine: &mut M,
     apdu: &ApduView<'_>,
 ) -> Result<bool, LineFault>
-    ensures ok { IfOk result (λ sent. Replies M.hears machine.old apdu.now machine.new (W.written writer.old) (W.written writer.new) sent) }
-    ensures err { IfErr result (λ fault. Unanswered M.hears fault machine.old apdu.now machine.new (W.written writer.old) (W.written writer.new)) }
-    ensures failures { MatchResult result (λ _. W.failures writer.new ≡ W.failures writer.old) (λ fault. W.failures writer.new ≡ W.failures writer.old + failed_writes fault) }
+    ensures ok { IfOk result (λ sent. Replies M.hears machine.old apdu.now machine.new (W.written writer.old)
+        (W.written writer.new) sent) }
+    ensures err { IfErr result (λ fault. Unanswered M.hears fault machine.old apdu.now machine.new
+        (W.written writer.old) (W.written writer.new)) }
+    ensures failures { MatchResult result (λ _. W.failures writer.new ≡ W.failures writer.old)
+        (λ fault. W.failures writer.new ≡ W.failures writer.old + failed_writes fault) }
     ensures frugal { M.wants_memory ≡ false → IsErrOf result LineFault.Memory → ⊥ }
 {
     let Ok(answers) = machine.hear(alloc, apdu) else {
@@ -73,10 +79,12 @@ fn hear_piece<W: Sink, M: Machine>(
 ) -> Result<bool, LineFault>
     ensures ok { IfOk result (λ sent. (written : List ℕ) × Appends (W.written writer.old) (W.written writer.new) written
         × Course M.hears stream.old piece.now stream.new machine.old machine.new written sent) }
-    ensures err { IfErr result (λ fault. (written : List ℕ) × Appends (W.written writer.old) (W.written writer.new) written
+    ensures err { IfErr result (λ fault. (written : List ℕ) × Appends (W.written writer.old)
+        (W.written writer.new) written
         × Breaks M.hears fault stream.old piece.now stream.new machine.old machine.new written) }
     ensures kinds { IfErr result (λ fault. IsPieceFault fault) }
-    ensures failures { MatchResult result (λ _. W.failures writer.new ≡ W.failures writer.old) (λ fault. W.failures writer.new ≡ W.failures writer.old + failed_writes fault) }
+    ensures failures { MatchResult result (λ _. W.failures writer.new ≡ W.failures writer.old)
+        (λ fault. W.failures writer.new ≡ W.failures writer.old + failed_writes fault) }
     ensures room { stream.old.room ≤ stream.new.room }
     ensures frugal { M.wants_memory ≡ false → IsReserved stream.old → IsErrOf result LineFault.Memory → ⊥ }
 {
@@ -111,8 +119,10 @@ fn turn<R: Source, W: Sink, M: Machine>(
         (R.remaining reader.old) (R.remaining reader.new) (W.written writer.old) (W.written writer.new)) }
     ensures kinds { IfErr result (λ fault. fault ≢ LineFault.Turns) }
     ensures reads { R.reads reader.new ≡ R.reads reader.old + 1 }
-    ensures reader_failures { MatchResult result (λ _. R.failures reader.new ≡ R.failures reader.old) (λ fault. R.failures reader.new ≡ R.failures reader.old + failed_reads fault) }
-    ensures writer_failures { MatchResult result (λ _. W.failures writer.new ≡ W.failures writer.old) (λ fault. W.failures writer.new ≡ W.failures writer.old + failed_writes fault) }
+    ensures reader_failures { MatchResult result (λ _. R.failures reader.new ≡ R.failures reader.old)
+        (λ fault. R.failures reader.new ≡ R.failures reader.old + failed_reads fault) }
+    ensures writer_failures { MatchResult result (λ _. W.failures writer.new ≡ W.failures writer.old)
+        (λ fault. W.failures writer.new ≡ W.failures writer.old + failed_writes fault) }
     ensures room { stream.old.room ≤ stream.new.room }
     ensures frugal { M.wants_memory ≡ false → IsReserved stream.old → IsErrOf result LineFault.Memory → ⊥ }
 {
@@ -148,11 +158,14 @@ fn run_turns<R: Source, W: Sink, M: Machine>(
         (line_state stream.old machine.old (R.remaining reader.old) (W.written writer.old))
         (line_ends stream.new machine.new (R.remaining reader.new) (W.written writer.new))) }
     // No turn after which it had comes before a fault.
-    ensures falters { IfErr result (λ fault. Falters M.hears M.is_resting until fault turns (R.reads reader.old) (R.reads reader.new)
+    ensures falters { IfErr result (λ fault. Falters M.hears M.is_resting until fault turns (R.reads reader.old)
+        (R.reads reader.new)
         (line_state stream.old machine.old (R.remaining reader.old) (W.written writer.old))
         (line_ends stream.new machine.new (R.remaining reader.new) (W.written writer.new))) }
-    ensures reader_failures { MatchResult result (λ _. R.failures reader.new ≡ R.failures reader.old) (λ fault. R.failures reader.new ≡ R.failures reader.old + failed_reads fault) }
-    ensures writer_failures { MatchResult result (λ _. W.failures writer.new ≡ W.failures writer.old) (λ fault. W.failures writer.new ≡ W.failures writer.old + failed_writes fault) }
+    ensures reader_failures { MatchResult result (λ _. R.failures reader.new ≡ R.failures reader.old)
+        (λ fault. R.failures reader.new ≡ R.failures reader.old + failed_reads fault) }
+    ensures writer_failures { MatchResult result (λ _. W.failures writer.new ≡ W.failures writer.old)
+        (λ fault. W.failures writer.new ≡ W.failures writer.old + failed_writes fault) }
     ensures room { stream.old.room ≤ stream.new.room }
     ensures frugal { M.wants_memory ≡ false → IsReserved stream.old → IsErrOf result LineFault.Memory → ⊥ }
 {
@@ -170,14 +183,15 @@ fn run_turns<R: Source, W: Sink, M: Machine>(
 
 /// Drives a machine over a connection until the condition `until` holds.
 ///
-/// In each turn, `pump` reads at most 1,024 bytes, passes every message that they complete to the machine, in order, and
-/// writes its answers before it passes on the next message. Fails with `Turns` after `turns` reads. With `Until::Rest`, a
-/// machine that is already at rest returns immediately, without reading.
+/// In each turn, `pump` reads at most 1,024 bytes, passes every message that they complete to the machine, in order,
+/// and writes its answers before it passes on the next message. Fails with `Turns` after `turns` reads. With
+/// `Until::Rest`, a machine that is already at rest returns immediately, without reading.
 ///
-/// Before a fault is returned, the machine is notified once: by `malformed` of `Malformed` and `Stopped`, by `lost` of any
-/// other. `Read` and `Write` mean that the reader or the writer counted a failure. After `Read`, `Ended`, `Turns` and
-/// `Malformed`, every complete message was heard and answered; after `Write` and `Memory`, the first few of them; after
-/// `Stopped`, none. `Memory` is impossible with a stream from `Stream::reserved` and a machine that does not allocate.
+/// Before a fault is returned, the machine is notified once: by `malformed` of `Malformed` and `Stopped`, by `lost` of
+/// any other. `Read` and `Write` mean that the reader or the writer counted a failure. After `Read`, `Ended`, `Turns`
+/// and `Malformed`, every complete message was heard and answered; after `Write` and `Memory`, the first few of them;
+/// after `Stopped`, none. `Memory` is impossible with a stream from `Stream::reserved` and a machine that does not
+/// allocate.
 pub fn pump<R: Source, W: Sink, M: Machine>(
     alloc: Global,
     reader: &mut R,
@@ -196,14 +210,17 @@ pub fn pump<R: Source, W: Sink, M: Machine>(
         (line_state stream.old machine.old (R.remaining reader.old) (W.written writer.old))
         (line_ends stream.new middle (R.remaining reader.new) (W.written writer.new))
         × Reported M.loses M.malforms fault middle machine.new) }
-    ensures at_once { there_at_once until (M.is_resting machine.old) ≡ true → IsOk result × (R.reads reader.new ≡ R.reads reader.old) }
+    ensures at_once { there_at_once until (M.is_resting machine.old) ≡ true → IsOk result
+        × (R.reads reader.new ≡ R.reads reader.old) }
     ensures reads { R.reads reader.new ≤ R.reads reader.old + turns }
     // The line ends at the first turn after which it has come to where it was to go.
     ensures first { OnOk result (Ends M.hears M.is_resting until turns (R.reads reader.old) (R.reads reader.new)
         (line_state stream.old machine.old (R.remaining reader.old) (W.written writer.old))
         (line_ends stream.new machine.new (R.remaining reader.new) (W.written writer.new))) }
-    ensures reader_failures { MatchResult result (λ _. R.failures reader.new ≡ R.failures reader.old) (λ fault. R.failures reader.new ≡ R.failures reader.old + failed_reads fault) }
-    ensures writer_failures { MatchResult result (λ _. W.failures writer.new ≡ W.failures writer.old) (λ fault. W.failures writer.new ≡ W.failures writer.old + failed_writes fault) }
+    ensures reader_failures { MatchResult result (λ _. R.failures reader.new ≡ R.failures reader.old)
+        (λ fault. R.failures reader.new ≡ R.failures reader.old + failed_reads fault) }
+    ensures writer_failures { MatchResult result (λ _. W.failures writer.new ≡ W.failures writer.old)
+        (λ fault. W.failures writer.new ≡ W.failures writer.old + failed_writes fault) }
     ensures room { stream.old.room ≤ stream.new.room }
     ensures frugal { M.wants_memory ≡ false → IsReserved stream.old → IsErrOf result LineFault.Memory → ⊥ }
 {

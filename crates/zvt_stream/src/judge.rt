@@ -8,7 +8,8 @@ ghost use Rattle.std.specs.Prelude.{◌≡◌, ℕ, ◌+◌, ◌≤◌, List, []
 ghost use Rattle.zvt_grammar.specs.Reading.{padded, shortest};
 ghost use Rattle.zvt_grammar.specs.Lengths.{reading_of};
 ghost use Rattle.zvt_stream.specs.Head.{head_of};
-ghost use Rattle.zvt_stream.specs.Judge.{start, beginning, Advances, IsJudge, StandsFor, HasLevelsIn, Stepped, Ran, HasRoomFor, kept_by, taken_by, judged_of, state_of};
+ghost use Rattle.zvt_stream.specs.Judge.{start, beginning, Advances, IsJudge, StandsFor, HasLevelsIn, Stepped, Ran};
+ghost use Rattle.zvt_stream.specs.Judge.{HasRoomFor, kept_by, taken_by, judged_of, state_of};
 
 use crate::advance::{follow, rare_step};
 use crate::head::Head;
@@ -59,8 +60,9 @@ pub enum DecodeRun {
     Refused { at: usize, why: Why },
 }
 
-/// The state of a message that is being read: the part that the next byte plays, and the open levels. Levels are the frame,
-/// the fields, a container, and objects in one another. Of each the judge counts how many of its bytes are to come.
+/// The state of a message that is being read: the part that the next byte plays, and the open levels. Levels are the
+/// frame, the fields, a container, and objects in one another. Of each the judge counts how many of its bytes are to
+/// come.
 #[derive(Drop)]
 pub struct Judge {
     /// The forms of length that it takes.
@@ -166,9 +168,11 @@ impl Judge {
         }
     }
 
-    /// Judges the next byte. After the end of a message, and after a refusal, the judge is a new one of the same lengths.
+    /// Judges the next byte. After the end of a message, and after a refusal, the judge is a new one of the same
+    /// lengths.
     pub fn step(&mut self, steps: &mut Steps, byte: u8) -> Result<Judged, Why>
-        ensures judged { (bytes : List ℕ) → StandsFor self.old bytes → Stepped self.old.reading bytes byte result self.new }
+        ensures judged { (bytes : List ℕ) → StandsFor self.old bytes → Stepped self.old.reading bytes byte
+            result self.new }
         ensures count { judged_of steps.new ≡ judged_of steps.old + 1 }
     {
         let mut now = self.goes;
@@ -202,7 +206,8 @@ impl Judge {
         requires { HasRoomFor self.old (length bytes.now) (length room.old) }
         ensures written { take (kept_by bytes.now result) room.new ≡ take (kept_by bytes.now result) bytes.now }
         ensures size { length room.new ≡ length room.old }
-        ensures judged { (held : List ℕ) → StandsFor self.old held → Ran self.old.reading held bytes.now result self.new }
+        ensures judged { (held : List ℕ) → StandsFor self.old held → Ran self.old.reading held bytes.now
+            result self.new }
         ensures count { judged_of steps.new ≡ judged_of steps.old + taken_by bytes.now result }
     {
         run(
@@ -242,7 +247,8 @@ fn run(
     requires { HasRoomFor (state_of (reading_of lengths) goes.old levels.old) (length bytes.now) (length room.old) }
     ensures written { take (kept_by bytes.now result) room.new ≡ take (kept_by bytes.now result) bytes.now }
     ensures size { length room.new ≡ length room.old }
-    ensures judged { (held : List ℕ) → StandsFor (state_of (reading_of lengths) goes.old levels.old) held → Ran (reading_of lengths) held bytes.now result (state_of (reading_of lengths) goes.new levels.new) }
+    ensures judged { (held : List ℕ) → StandsFor (state_of (reading_of lengths) goes.old levels.old) held
+        → Ran (reading_of lengths) held bytes.now result (state_of (reading_of lengths) goes.new levels.new) }
     ensures count { judged_of steps.new ≡ judged_of steps.old + taken_by bytes.now result }
 {
     let mut now = Goes {
@@ -285,7 +291,8 @@ fn step(
     byte: u8,
 ) -> Result<Judged, Why>
     requires { IsJudge (state_of (reading_of lengths) goes.old levels.old) }
-    ensures judged { (bytes : List ℕ) → StandsFor (state_of (reading_of lengths) goes.old levels.old) bytes → Advances (reading_of lengths) bytes byte result (state_of (reading_of lengths) goes.new levels.new) }
+    ensures judged { (bytes : List ℕ) → StandsFor (state_of (reading_of lengths) goes.old levels.old) bytes
+        → Advances (reading_of lengths) bytes byte result (state_of (reading_of lengths) goes.new levels.new) }
     ensures count { judged_of steps.new ≡ judged_of steps.old + 1 }
 {
     steps.judged = steps.judged.next();

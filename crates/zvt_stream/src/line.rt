@@ -27,7 +27,8 @@ impl Model for Answers {
 
     ghost view = { λ a. record { bytes = a.written.items; count = a.messages } };
 
-    ghost invariant = { λ a. (a.messages ≤ 2) × (length a.written.items ≤ 64) × (a.messages ≡ 0 → a.written.items ≡ []) };
+    ghost invariant = { λ a. (a.messages ≤ 2) × (length a.written.items ≤ 64)
+        × (a.messages ≡ 0 → a.written.items ≡ []) };
 }
 
 impl Answers {

@@ -2,7 +2,8 @@
 //!
 //! `feed_view` and `head` are `#[inline(always)]`: a reader that feeds byte by byte calls both for each byte.
 
-ghost use Rattle.std.specs.Prelude.{◌≡◌, ℕ, ◌+◌, ◌<◌, ◌≤◌, [], ◌++◌, None, IfOk, IfNone, IfSome, IsNone, IsSome, OnErr, List, length, take, false, true, MatchResult};
+ghost use Rattle.std.specs.Prelude.{◌≡◌, ℕ, ◌+◌, ◌<◌, ◌≤◌, [], ◌++◌, None, IfOk, IfNone, IfSome, IsNone, IsSome, OnErr};
+ghost use Rattle.std.specs.Prelude.{List, length, take, false, true, MatchResult};
 ghost use Rattle.std.specs.Result.{IsErrOf};
 ghost use Rattle.zvt_grammar.specs.Reading.{padded, shortest};
 ghost use Rattle.zvt_grammar.specs.Lengths.{reading_of};
@@ -37,8 +38,8 @@ pub enum Fed {
 /// Result of a chunk; the stream lends the message.
 #[derive(Clone, Copy, Debug, Drop, PartialEq, Eq)]
 pub enum FedView {
-    /// A message ended after the first `taken` bytes of the piece, and `Stream::lent` shows it. The caller feeds the rest
-    /// of the piece.
+    /// A message ended after the first `taken` bytes of the piece, and `Stream::lent` shows it. The caller feeds the
+    /// rest of the piece.
     Message { taken: usize },
     /// The whole piece was taken, and no message ended in it.
     More,
@@ -96,9 +97,18 @@ impl Model for Stream {
 
     ghost coded = { state_code };
 
-    ghost view = { λ s. record { held = held_of s.has_message s.held.bytes; stopped = s.stopped; lent = lent_of s.has_message s.held.bytes s.spelled; room = s.held.room; judged = judged_of s.steps; reading = s.judge.reading } };
+    ghost view = { λ s. record {
+      held = held_of s.has_message s.held.bytes;
+      stopped = s.stopped;
+      lent = lent_of s.has_message s.held.bytes s.spelled;
+      room = s.held.room;
+      judged = judged_of s.steps;
+      reading = s.judge.reading;
+    } };
 
-    ghost invariant = { λ s. IsSound s.judge.reading (held_of s.has_message s.held.bytes) s.stopped × StandsFor s.judge (held_of s.has_message s.held.bytes) × (s.has_message ≡ true → IsMessageIn s.judge.reading s.held.bytes) };
+    ghost invariant = { λ s. IsSound s.judge.reading (held_of s.has_message s.held.bytes) s.stopped
+        × StandsFor s.judge (held_of s.has_message s.held.bytes)
+        × (s.has_message ≡ true → IsMessageIn s.judge.reading s.held.bytes) };
 }
 
 impl Stream {
@@ -155,7 +165,8 @@ impl Stream {
 
     /// The bytes of the message that is borrowed.
     pub fn lent_bytes(&self) -> Option<&[u8]>
-        ensures some { IfSome self.now.lent (λ m. IfSome result (λ bytes. Spells self.now.reading m bytes.now) × IsSome result) }
+        ensures some { IfSome self.now.lent (λ m. IfSome result (λ bytes. Spells self.now.reading m bytes.now)
+            × IsSome result) }
         ensures none { self.now.lent ≡ None → IsNone result }
     {
         if self.has_message {
@@ -188,7 +199,8 @@ impl Stream {
         ensures err { OnErr result (Keeps self.old self.new) }
         ensures lent { self.new.lent ≡ None }
         ensures room { self.old.room ≤ self.new.room }
-        ensures count { MatchResult result (λ fed. self.new.judged ≡ self.old.judged + taken_by self.old piece.now fed) (λ _. self.new.judged ≤ self.old.judged + length piece.now) }
+        ensures count { MatchResult result (λ fed. self.new.judged ≡ self.old.judged + taken_by self.old piece.now fed)
+            (λ _. self.new.judged ≤ self.old.judged + length piece.now) }
     {
         self.give_up();
         if self.stopped {
@@ -228,7 +240,8 @@ impl Stream {
         ensures err { OnErr result (Keeps self.old self.new) }
         ensures room { self.old.room ≤ self.new.room }
         ensures frugal { IsReserved self.old → IsErrOf result FeedError.Memory → ⊥ }
-        ensures count { MatchResult result (λ fed. self.new.judged ≡ self.old.judged + taken_in_view self.old piece.now fed) (λ _. self.new.judged ≡ self.old.judged) }
+        ensures count { MatchResult result (λ fed. self.new.judged ≡ self.old.judged + taken_in_view self.old piece.now
+            fed) (λ _. self.new.judged ≡ self.old.judged) }
     {
         self.give_up();
         if self.stopped {
@@ -253,7 +266,8 @@ impl Stream {
     /// Checks that the input does not end in the middle of a message. Always succeeds after a refusal, because the
     /// stream then holds no bytes.
     pub fn finish(&self) -> Result<(), Truncated>
-        ensures { MatchResult result (λ _. self.now.held ≡ []) (λ truncated. (0 < truncated.have) × (truncated.have ≡ length self.now.held)) }
+        ensures { MatchResult result (λ _. self.now.held ≡ [])
+            (λ truncated. (0 < truncated.have) × (truncated.have ≡ length self.now.held)) }
     {
         match self.held() {
             0 => Ok(()),

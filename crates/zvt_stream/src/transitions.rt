@@ -71,7 +71,8 @@ pub(crate) struct Levels {
     pub(crate) length: LengthAt,
     /// Whether the object holds objects.
     pub(crate) nests: bool,
-    /// For each level around the innermost one, the bytes that are to come after the level in it. The frame is the first.
+    /// For each level around the innermost one, the bytes that are to come after the level in it. The frame is the
+    /// first.
     pub(crate) outer: ArrayVec<usize, 7>,
 }
 
@@ -94,7 +95,8 @@ pub(crate) fn judge_first_size(
     levels: &mut Levels,
     byte: u8,
 ) -> Result<Transition, Why>
-    ensures judges { (r : Reading) (depth : ℕ) → Judges r (at.FirstSize levels.old.high levels.old.low) goes.old.left depth byte (leads_to result goes.new levels.new) }
+    ensures judges { (r : Reading) (depth : ℕ) → Judges r (at.FirstSize levels.old.high levels.old.low) goes.old.left
+        depth byte (leads_to result goes.new levels.new) }
     ensures keeps { Keeps levels.old levels.new }
 {
     if byte == 0xFF {
@@ -110,7 +112,8 @@ pub(crate) fn judge_low_size(
     levels: &mut Levels,
     byte: u8,
 ) -> Result<Transition, Why>
-    ensures judges { (r : Reading) (depth : ℕ) → Judges r (at.LowSize levels.old.high levels.old.low) goes.old.left depth byte (leads_to result goes.new levels.new) }
+    ensures judges { (r : Reading) (depth : ℕ) → Judges r (at.LowSize levels.old.high levels.old.low) goes.old.left
+        depth byte (leads_to result goes.new levels.new) }
     ensures keeps { Keeps levels.old levels.new }
 {
     goes.part = Part::HighSize;
@@ -126,7 +129,9 @@ pub(crate) fn judge_high_size(
     lengths: Lengths,
 ) -> Result<Transition, Why>
     requires { levels.old.number < 256 }
-    ensures judges { (left depth : ℕ) → Judges (reading_of lengths) (at.HighSize levels.old.high levels.old.low levels.old.number) left depth byte (leads_to result goes.new levels.new) }
+    ensures judges { (left depth : ℕ) → Judges (reading_of lengths)
+        (at.HighSize levels.old.high levels.old.low levels.old.number) left depth byte
+        (leads_to result goes.new levels.new) }
     ensures keeps { Keeps levels.old levels.new }
 {
     let size = 256 * usize::from(byte) + levels.number;
@@ -139,7 +144,8 @@ pub(crate) fn judge_high_size(
 /// Data of that size begins.
 #[inline(always)]
 fn begin_data(goes: &mut Goes, levels: &mut Levels, size: usize) -> Result<Transition, Why>
-    ensures begins { (r : Reading) → BeginsData r levels.old.high levels.old.low size (leads_to result goes.new levels.new) }
+    ensures begins { (r : Reading) → BeginsData r levels.old.high levels.old.low size
+        (leads_to result goes.new levels.new) }
     ensures keeps { Keeps levels.old levels.new }
 {
     let layout = judge_size(levels.high, levels.low, size)?;
@@ -164,7 +170,8 @@ fn begin_data(goes: &mut Goes, levels: &mut Levels, size: usize) -> Result<Trans
 #[inline]
 pub(crate) fn judge_payload(goes: &mut Goes) -> Result<Transition, Why>
     requires { 0 < goes.old.left }
-    ensures { (levels : Levels) (r : Reading) (depth byte : ℕ) → byte < 256 → Judges r at.Payload goes.old.left depth byte (leads_to result goes.new levels) }
+    ensures { (levels : Levels) (r : Reading) (depth byte : ℕ) → byte < 256 → Judges r at.Payload goes.old.left depth
+        byte (leads_to result goes.new levels) }
 {
     if goes.left == 1 {
         goes.left = 0;
@@ -178,7 +185,8 @@ pub(crate) fn judge_payload(goes: &mut Goes) -> Result<Transition, Why>
 #[inline(always)]
 pub(crate) fn judge_head(goes: &mut Goes, levels: &mut Levels, byte: u8) -> Result<Transition, Why>
     requires { IsReady (at.Head goes.old.more levels.old.number) goes.old.left }
-    ensures judges { (r : Reading) (depth : ℕ) → Judges r (at.Head goes.old.more levels.old.number) goes.old.left depth byte (leads_to result goes.new levels.new) }
+    ensures judges { (r : Reading) (depth : ℕ) → Judges r (at.Head goes.old.more levels.old.number) goes.old.left depth
+        byte (leads_to result goes.new levels.new) }
     ensures keeps { Keeps levels.old levels.new }
 {
     judge_content_byte(goes.more == 0, byte)?;
@@ -203,7 +211,8 @@ pub(crate) fn judge_field(
     lengths: Lengths,
 ) -> Result<Transition, Why>
     requires { 2 ≤ goes.old.left }
-    ensures judges { (depth : ℕ) → Judges (reading_of lengths) at.Name goes.old.left depth byte (leads_to result goes.new levels.new) }
+    ensures judges { (depth : ℕ) → Judges (reading_of lengths) at.Name goes.old.left depth byte
+        (leads_to result goes.new levels.new) }
     ensures keeps { Keeps levels.old levels.new }
 {
     goes.left -= 1;
@@ -241,7 +250,8 @@ pub(crate) fn judge_field(
 #[inline]
 pub(crate) fn judge_count(goes: &mut Goes, levels: &mut Levels, byte: u8) -> Result<Transition, Why>
     requires { HasDigits goes.old.more levels.old.number goes.old.left }
-    ensures judges { (r : Reading) (depth : ℕ) → Judges r (at.Digit goes.old.more levels.old.number) goes.old.left depth byte (leads_to result goes.new levels.new) }
+    ensures judges { (r : Reading) (depth : ℕ) → Judges r (at.Digit goes.old.more levels.old.number) goes.old.left depth
+        byte (leads_to result goes.new levels.new) }
     ensures keeps { Keeps levels.old levels.new }
 {
     goes.left -= 1;
@@ -264,7 +274,8 @@ pub(crate) fn judge_count(goes: &mut Goes, levels: &mut Levels, byte: u8) -> Res
 #[inline]
 pub(crate) fn judge_free(goes: &mut Goes) -> Result<Transition, Why>
     requires { IsReady (at.Content false goes.old.more) goes.old.left }
-    ensures { (levels : Levels) (r : Reading) (depth byte : ℕ) → byte < 256 → Judges r (at.Content false goes.old.more) goes.old.left depth byte (leads_to result goes.new levels) }
+    ensures { (levels : Levels) (r : Reading) (depth byte : ℕ) → byte < 256 → Judges r (at.Content false goes.old.more)
+        goes.old.left depth byte (leads_to result goes.new levels) }
 {
     goes.part = Part::Content;
     goes.left -= 1;
@@ -279,7 +290,8 @@ pub(crate) fn judge_free(goes: &mut Goes) -> Result<Transition, Why>
 #[inline]
 pub(crate) fn judge_digits(goes: &mut Goes, byte: u8) -> Result<Transition, Why>
     requires { IsReady (at.Content true goes.old.more) goes.old.left }
-    ensures { (levels : Levels) (r : Reading) (depth : ℕ) → Judges r (at.Content true goes.old.more) goes.old.left depth byte (leads_to result goes.new levels) }
+    ensures { (levels : Levels) (r : Reading) (depth : ℕ) → Judges r (at.Content true goes.old.more) goes.old.left depth
+        byte (leads_to result goes.new levels) }
 {
     judge_content_byte(true, byte)?;
     goes.part = Part::Digits;
@@ -299,7 +311,8 @@ pub(crate) fn judge_container(
     lengths: Lengths,
 ) -> Result<Transition, Why>
     requires { 1 ≤ goes.old.left }
-    ensures judges { (depth : ℕ) → Judges (reading_of lengths) (at.Container levels.old.length) goes.old.left depth byte (leads_to result goes.new levels.new) }
+    ensures judges { (depth : ℕ) → Judges (reading_of lengths) (at.Container levels.old.length) goes.old.left depth byte
+        (leads_to result goes.new levels.new) }
     ensures keeps { Keeps levels.old levels.new }
 {
     goes.part = Part::Container;
@@ -326,7 +339,8 @@ pub(crate) fn judge_object_tag(
     lengths: Lengths,
 ) -> Result<Transition, Why>
     requires { 2 ≤ goes.old.left }
-    ensures judges { Judges (reading_of lengths) (at.Tag levels.old.tag) goes.old.left depth byte (leads_to result goes.new levels.new) }
+    ensures judges { Judges (reading_of lengths) (at.Tag levels.old.tag) goes.old.left depth byte
+        (leads_to result goes.new levels.new) }
     ensures keeps { Keeps levels.old levels.new }
 {
     goes.left -= 1;
@@ -353,7 +367,8 @@ pub(crate) fn judge_object_length(
     lengths: Lengths,
 ) -> Result<Transition, Why>
     requires { 1 ≤ goes.old.left }
-    ensures judges { (depth : ℕ) → Judges (reading_of lengths) (at.Length levels.old.nests levels.old.length) goes.old.left depth byte (leads_to result goes.new levels.new) }
+    ensures judges { (depth : ℕ) → Judges (reading_of lengths) (at.Length levels.old.nests levels.old.length)
+        goes.old.left depth byte (leads_to result goes.new levels.new) }
     ensures keeps { Keeps levels.old levels.new }
 {
     goes.left -= 1;
@@ -382,7 +397,8 @@ pub(crate) fn judge_object_length(
 #[inline]
 pub(crate) fn judge_object_content(goes: &mut Goes) -> Result<Transition, Why>
     requires { IsReady (at.Object goes.old.more) goes.old.left }
-    ensures { (levels : Levels) (r : Reading) (depth byte : ℕ) → byte < 256 → Judges r (at.Object goes.old.more) goes.old.left depth byte (leads_to result goes.new levels) }
+    ensures { (levels : Levels) (r : Reading) (depth byte : ℕ) → byte < 256 → Judges r (at.Object goes.old.more)
+        goes.old.left depth byte (leads_to result goes.new levels) }
 {
     goes.part = Part::Object;
     goes.left -= 1;

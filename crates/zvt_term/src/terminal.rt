@@ -1,5 +1,6 @@
 //! The terminal: its reaction to each message, and its ledger.
-ghost use Rattle.std.specs.Prelude.{◌≡◌, ◌≤◌, length, IfOk, IsOk, OnOk, OnErr, ◌++◌, option_to_list, Some, None, if◌then◌else◌};
+ghost use Rattle.std.specs.Prelude.{◌≡◌, ◌≤◌, length, IfOk, IsOk, OnOk, OnErr, ◌++◌, option_to_list, Some, None};
+ghost use Rattle.std.specs.Prelude.{if◌then◌else◌};
 ghost use Rattle.zvt_term.specs.Ledger.{NumberedFrom};
 
 use crate::answers::answers_of;
@@ -69,7 +70,10 @@ impl Model for Terminal {
 }
 
 impl Terminal {
-    ghost use Rattle.zvt_term.specs.Terminal.{most_rows, new_terminal, lost_terminal, has_capacity, next_number, is_idle, is_ready, stays, runs, writes, aborts, refuses, registers, takes_currency, decides, authorises, takes_back_row, reverses, closes, goes_on, turn_of, after};
+    ghost use Rattle.zvt_term.specs.Terminal.{most_rows, new_terminal, lost_terminal, has_capacity, next_number};
+    ghost use Rattle.zvt_term.specs.Terminal.{is_idle, is_ready, stays, runs, writes, aborts, refuses, registers};
+    ghost use Rattle.zvt_term.specs.Terminal.{takes_currency, decides, authorises, takes_back_row, reverses, closes};
+    ghost use Rattle.zvt_term.specs.Terminal.{goes_on, turn_of, after};
     ghost use Rattle.zvt_term.specs.Inside.{IsSound};
     ghost use Rattle.zvt_term.specs.Steps.{HearsAsked, IsNext, Steps, row_added};
 
@@ -325,7 +329,8 @@ impl Terminal {
     /// Writes a row down, if there is one.
     fn write_down(&mut self, row: &Option<Row>) -> Result<(), AllocError>
         requires { IsNext self.old row.now }
-        ensures written { OnOk result (self.new ≡ record self.old { ledger = self.old.ledger ++ option_to_list row.now }) }
+        ensures written { OnOk result (self.new ≡ record
+            self.old { ledger = self.old.ledger ++ option_to_list row.now }) }
         ensures frugal { row.now ≡ None → IsOk result }
         ensures err { OnErr result (self.new ≡ self.old) }
     {

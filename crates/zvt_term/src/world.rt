@@ -3,7 +3,8 @@ ghost use Rattle.std.specs.Prelude.{◌≡◌, ◌++◌, [], map, IfOk, IsTrue, 
 ghost use Rattle.zvt_term.specs.Reports.{message_of_report};
 ghost use Rattle.zvt_term.specs.Steps.{AreWritable};
 ghost use Rattle.zvt_term.specs.Terminal.{reports_of};
-ghost use Rattle.zvt_term.specs.World.{sent_out, new_ends, FitOrder, FitMove, Matches, move, orders, reaches_terminal, reaches_till, world};
+ghost use Rattle.zvt_term.specs.World.{sent_out, new_ends, FitOrder, FitMove, Matches, move, orders, reaches_terminal};
+ghost use Rattle.zvt_term.specs.World.{reaches_till, world};
 ghost use Rattle.zvt_till.specs.Till.{facts_of};
 ghost use Rattle.zvt_till.specs.Refusals.{refusal};
 ghost use Rattle.zvt_term.specs.Orderly.{are_orderly, IsAccounted};
@@ -102,7 +103,8 @@ impl World {
 
     /// Gives the till an order. One that it refuses does nothing.
     fn order(&mut self, alloc: Global, order: &Order) -> Result<(), AllocError>
-        ensures { OnOk result (ends_of self.new ≡ orders (ends_of self.old) order.now (refusal (facts_of self.old.till.state) order.now)) }
+        ensures { OnOk result (ends_of self.new ≡ orders (ends_of self.old) order.now
+            (refusal (facts_of self.old.till.state) order.now)) }
     {
         match self.till.order(*order) {
             Ok(outgoing) => keep_sent(&mut self.from_till, alloc, &Some(outgoing)),
@@ -118,7 +120,8 @@ impl World {
         index: usize,
         verdict: Verdict,
     ) -> Result<(), AllocError>
-        ensures { OnOk result (ends_of self.new ≡ reaches_terminal (ends_of self.old) verdict (slice_get self.old.from_till.items index)) }
+        ensures { OnOk result (ends_of self.new ≡ reaches_terminal (ends_of self.old) verdict
+            (slice_get self.old.from_till.items index)) }
     {
         let Some(apdu) = self.from_till.get(index) else {
             return Ok(());
@@ -130,7 +133,8 @@ impl World {
 
     /// Delivers a message of the terminal, if there is one of that number.
     fn to_till(&mut self, alloc: Global, index: usize) -> Result<(), AllocError>
-        ensures { OnOk result (ends_of self.new ≡ reaches_till (ends_of self.old) (slice_get self.old.from_terminal.items index)) }
+        ensures { OnOk result (ends_of self.new ≡ reaches_till (ends_of self.old)
+            (slice_get self.old.from_terminal.items index)) }
     {
         let Some(apdu) = self.from_terminal.get(index) else {
             return Ok(());
@@ -169,9 +173,11 @@ pub fn run_world(alloc: Global, moves: &[Move]) -> Result<World, AllocError>
     // till's currency.
     ensures matches { IfOk result (λ both. Matches both.till.state both.terminal.ledger) }
     // Over lines that keep order, each approval of an amount is booked, unclear or still awaited.
-    ensures accounted { IfOk result (λ both. IsTrue (are_orderly moves.now) → IsAccounted both.till.state both.terminal.ledger) }
+    ensures accounted { IfOk result (λ both. IsTrue (are_orderly moves.now) → IsAccounted both.till.state
+        both.terminal.ledger) }
     // Over such lines, each payment that the terminal took back is marked, unclear, known by B4, or its reversal runs.
-    ensures reversals { IfOk result (λ both. IsTrue (are_orderly moves.now) → KeepsReversals both.till.state both.terminal.ledger) }
+    ensures reversals { IfOk result (λ both. IsTrue (are_orderly moves.now) → KeepsReversals both.till.state
+        both.terminal.ledger) }
 {
     let mut both = World::new(alloc);
     for step in moves {

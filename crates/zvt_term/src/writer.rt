@@ -145,7 +145,8 @@ fn put_reversal(
 ) -> usize
     requires number { number ≤ 9999 }
     requires original { original ≤ 9999 }
-    ensures written { PutsMessage (message_of_report (Report.TakenBack amount number original currency)) out.old out.new result }
+    ensures written { PutsMessage (message_of_report (Report.TakenBack amount number original currency)) out.old
+        out.new result }
     ensures fits { result ≤ 32 }
 {
     let [a, b, c, d, e, f] = amount_digits(amount);

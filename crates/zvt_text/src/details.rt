@@ -2,7 +2,8 @@
 ghost use Rattle.std.specs.Prelude.{◌≤◌, ◌∷◌, length};
 ghost use Rattle.std.specs.Option.{option_copied};
 ghost use Rattle.hex.specs.Hex.{encode_upper};
-ghost use Rattle.zvt_text.specs.MessageTexts.{config_text, data_text, hex_part, named_currency, part_text, quoted_part, words_part};
+ghost use Rattle.zvt_text.specs.MessageTexts.{config_text, data_text, hex_part, named_currency, part_text, quoted_part};
+ghost use Rattle.zvt_text.specs.MessageTexts.{words_part};
 ghost use Rattle.zvt_text.specs.Writing.{Puts};
 
 use crate::bytes::quote;

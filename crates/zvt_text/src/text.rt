@@ -162,7 +162,8 @@ fn put_after<S: Says>(buffer: &mut [u8], size: usize, what: &S) -> Result<usize,
 /// Doubles the capacity.
 #[cold]
 fn grow(buffer: &mut Vec<u8>) -> Result<(), AllocError>
-    ensures ok { OnOk result ((length buffer.old.items < length buffer.new.items) × (take (length buffer.old.items) buffer.new.items ≡ buffer.old.items)) }
+    ensures ok { OnOk result ((length buffer.old.items < length buffer.new.items)
+        × (take (length buffer.old.items) buffer.new.items ≡ buffer.old.items)) }
     ensures err { OnErr result (buffer.new.items ≡ buffer.old.items) }
 {
     let Some(twice) = buffer.len().checked_mul(2) else {

@@ -24,7 +24,8 @@ pub struct Head {
 fn scan_tag(bytes: &[u8], room: usize, depth: usize, lengths: Lengths) -> Scan<(usize, bool)>
     requires some { 0 < room }
     requires filled { room ≢ 1 }
-    ensures { Answers (reading_of lengths) depth room bytes.now (λ t. TagFound (reading_of lengths) depth room bytes.now t.0 t.1) result }
+    ensures { Answers (reading_of lengths) depth room bytes.now
+        (λ t. TagFound (reading_of lengths) depth room bytes.now t.0 t.1) result }
 {
     let mut at = TagAt::First;
     for count in 0..bytes.len() {
@@ -47,7 +48,8 @@ fn scan_length(
     lengths: Lengths,
 ) -> Scan<Head>
     requires { TagFound (reading_of lengths) depth room bytes.now tag_size constructed }
-    ensures { Answers (reading_of lengths) depth room bytes.now (HeadFound (reading_of lengths) depth room bytes.now) result }
+    ensures { Answers (reading_of lengths) depth room bytes.now
+        (HeadFound (reading_of lengths) depth room bytes.now) result }
 {
     let mut at = LengthAt::First;
     for count in tag_size..bytes.len() {
@@ -71,7 +73,8 @@ fn scan_length(
 pub fn scan_head(bytes: &[u8], room: usize, depth: usize, lengths: Lengths) -> Scan<Head>
     requires some { 0 < room }
     requires filled { room ≢ 1 }
-    ensures { Answers (reading_of lengths) depth room bytes.now (HeadFound (reading_of lengths) depth room bytes.now) result }
+    ensures { Answers (reading_of lengths) depth room bytes.now
+        (HeadFound (reading_of lengths) depth room bytes.now) result }
 {
     match scan_tag(bytes, room, depth, lengths) {
         Scan::Whole((tag_size, constructed)) => scan_length(

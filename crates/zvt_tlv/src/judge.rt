@@ -2,7 +2,8 @@
 
 ghost use Rattle.std.specs.Prelude.{◌≡◌, ℕ, ◌+◌, ◌<◌, ◌^◌};
 ghost use Rattle.zvt_grammar.specs.Tests.{fits};
-ghost use Rattle.zvt_tlv.specs.Answers.{JudgesContent, Judges, role_of_tag, after_tag_byte, role_of_length, after_length_byte};
+ghost use Rattle.zvt_tlv.specs.Answers.{JudgesContent, Judges, role_of_tag, after_tag_byte, role_of_length};
+ghost use Rattle.zvt_tlv.specs.Answers.{after_length_byte};
 ghost use Rattle.zvt_tlv.specs.Judging.{avoids, content_fits, long_form, first_tag, second_tag, first_length};
 ghost use Rattle.zvt_grammar.specs.Lengths.{reading_of};
 
@@ -162,7 +163,8 @@ pub fn judge_length(
     byte: u8,
     lengths: Lengths,
 ) -> Result<LengthNext, Why>
-    ensures { (depth : ℕ) → Judges (reading_of lengths) depth (role_of_length nests at) left byte (after_length_byte nests) result }
+    ensures { (depth : ℕ) → Judges (reading_of lengths) depth (role_of_length nests at) left byte
+        (after_length_byte nests) result }
 {
     match at {
         LengthAt::First => judge_first_length_byte(left, nests, byte, lengths),
@@ -211,7 +213,8 @@ fn judge_first_length_byte(
     byte: u8,
     lengths: Lengths,
 ) -> Result<LengthNext, Why>
-    ensures { (depth : ℕ) → Judges (reading_of lengths) depth (first_length nests) left byte (after_length_byte nests) result }
+    ensures { (depth : ℕ) → Judges (reading_of lengths) depth (first_length nests) left byte
+        (after_length_byte nests) result }
 {
     match byte {
         0..128 => judge_content(usize::from(byte), left, nests),

@@ -1,6 +1,10 @@
 //! Laws of the grammar, each the contract of a function that does nothing.
 
-ghost use Rattle.zvt_tlv.specs.Laws.{EachSizeIsFilled, EachBeginningStands, PositionsAreOne, TestsDecide, EachSizedBeginningStands, SizedPositionsAreOne, SizedTestsDecide, AnswersAreOne, SizedAnswersAreOne, AnswersStay, SizedAnswersStay, ObjectsEndThemselves, RoomsEndThemselves, SizedEndThemselves, SpellingsAreOne, SizedSpellingsAreOne, FaultsAreOne, SpelledIsFaultless};
+ghost use Rattle.zvt_tlv.specs.Laws.{EachSizeIsFilled, EachBeginningStands, PositionsAreOne, TestsDecide};
+ghost use Rattle.zvt_tlv.specs.Laws.{EachSizedBeginningStands, SizedPositionsAreOne, SizedTestsDecide, AnswersAreOne};
+ghost use Rattle.zvt_tlv.specs.Laws.{SizedAnswersAreOne, AnswersStay, SizedAnswersStay, ObjectsEndThemselves};
+ghost use Rattle.zvt_tlv.specs.Laws.{RoomsEndThemselves, SizedEndThemselves, SpellingsAreOne, SizedSpellingsAreOne};
+ghost use Rattle.zvt_tlv.specs.Laws.{FaultsAreOne, SpelledIsFaultless};
 
 /// Some objects have exactly that size, for each size but one byte.
 pub fn each_size_is_filled()

@@ -27,7 +27,8 @@ pub fn scan(
     requires filled { room ≢ 1 }
     requires least { 1 ≤ depth }
     requires deepest { depth ≤ 6 }
-    ensures { MatchResult result (AnswersForest shortest depth room bytes.now) (λ _. TakesMemory shortest room bytes.now) }
+    ensures { MatchResult result (AnswersForest shortest depth room bytes.now)
+        (λ _. TakesMemory shortest room bytes.now) }
 {
     scan_forest(alloc, bytes, room, depth, Lengths::Shortest)
 }
@@ -87,7 +88,8 @@ fn scan_forest(
     requires filled { room ≢ 1 }
     requires least { 1 ≤ depth }
     requires deepest { depth ≤ 6 }
-    ensures { MatchResult result (AnswersForest (reading_of lengths) depth room bytes.now) (λ _. TakesMemory (reading_of lengths) room bytes.now) }
+    ensures { MatchResult result (AnswersForest (reading_of lengths) depth room bytes.now)
+        (λ _. TakesMemory (reading_of lengths) room bytes.now) }
 {
     Ok(match scan_objects(alloc, bytes, room, depth, lengths)? {
         Scan::Whole(objects) => Scan::Whole(Forest::of(objects)),
@@ -105,7 +107,8 @@ pub fn scan_sized_forest(
 ) -> Result<Scan<(Forest, usize)>, AllocError>
     requires small { room < 2 ^ 16 }
     requires begun { Alive (SizedIn (reading_of lengths) room) [] }
-    ensures { MatchResult result (AnswersSized (reading_of lengths) room bytes.now) (λ _. SizedTakesMemory (reading_of lengths) bytes.now) }
+    ensures { MatchResult result (AnswersSized (reading_of lengths) room bytes.now)
+        (λ _. SizedTakesMemory (reading_of lengths) bytes.now) }
 {
     let (start, size) = match scan_size(bytes, room, lengths) {
         Scan::Whole(found) => found,
@@ -136,7 +139,9 @@ fn scan_objects(
     requires filled { room ≢ 1 }
     requires small { room < 2 ^ 16 }
     requires depth { depth ≤ 6 }
-    ensures { MatchResult result (Answers (reading_of lengths) depth room bytes.now (λ objects. ObjectsFound (reading_of lengths) depth room bytes.now objects.items)) (λ _. TakesMemory (reading_of lengths) room bytes.now) }
+    ensures { MatchResult result (Answers (reading_of lengths) depth room bytes.now
+        (λ objects. ObjectsFound (reading_of lengths) depth room bytes.now objects.items))
+        (λ _. TakesMemory (reading_of lengths) room bytes.now) }
 {
     let mut objects = Vec::new(alloc);
     let mut taken = 0;
@@ -169,7 +174,9 @@ fn scan_object(
     requires filled { room ≢ 1 }
     requires small { room < 2 ^ 16 }
     requires depth { depth ≤ 6 }
-    ensures { MatchResult result (Answers (reading_of lengths) depth room bytes.now (λ found. ObjectFound (reading_of lengths) depth room bytes.now found.0 found.1)) (λ _. TakesMemory (reading_of lengths) room bytes.now) }
+    ensures { MatchResult result (Answers (reading_of lengths) depth room bytes.now
+        (λ found. ObjectFound (reading_of lengths) depth room bytes.now found.0 found.1))
+        (λ _. TakesMemory (reading_of lengths) room bytes.now) }
 {
     let head = match scan_head(bytes, room, depth, lengths) {
         Scan::Whole(head) => head,

@@ -4,7 +4,8 @@
 ghost use Rattle.std.specs.Prelude.{◌≡◌, ℕ, List, ◌++◌, length};
 ghost use Rattle.zvt_grammar.specs.Reading.{padded};
 ghost use Rattle.zvt_tlv.specs.Grammar.{IsTag, IsLength, Objects, Spells};
-ghost use Rattle.zvt_tlv.specs.Views.{ForestBytes, forest_once, ContentOf, content_once, TagFirst, LengthFirst, ObjectFirst, Starts};
+ghost use Rattle.zvt_tlv.specs.Views.{ForestBytes, forest_once, ContentOf, content_once, TagFirst, LengthFirst};
+ghost use Rattle.zvt_tlv.specs.Views.{ObjectFirst, Starts};
 
 use std::marker::Model;
 
@@ -104,7 +105,8 @@ fn tag_size(bytes: &[u8]) -> usize
 /// Returns the size of the length at the start, and its value.
 pub fn length_first(bytes: &[u8]) -> (usize, usize)
     requires { ∥ LengthFirst bytes.now ∥₁ }
-    ensures { (n : ℕ) (size after : List ℕ) → bytes.now ≡ size ++ after → IsLength padded n size → (result.0 ≡ length size) × (result.1 ≡ n) }
+    ensures { (n : ℕ) (size after : List ℕ) → bytes.now ≡ size ++ after → IsLength padded n size
+        → (result.0 ≡ length size) × (result.1 ≡ n) }
 {
     match bytes[0] {
         0x81 => (2, bytes[1] as usize),
@@ -116,7 +118,8 @@ pub fn length_first(bytes: &[u8]) -> (usize, usize)
 /// The tag and the content of the object that comes first, and what is after it.
 fn first_object(bytes: &[u8]) -> (&[u8], &[u8], &[u8])
     requires { ∥ ObjectFirst bytes.now ∥₁ }
-    ensures { (tag size content after : List ℕ) → Starts tag size content after bytes.now → (result.0.now ≡ tag) × (result.1.now ≡ content) × (result.2.now ≡ after) }
+    ensures { (tag size content after : List ℕ) → Starts tag size content after bytes.now → (result.0.now ≡ tag)
+        × (result.1.now ≡ content) × (result.2.now ≡ after) }
 {
     let (tag, rest) = bytes.split_at(tag_size(bytes));
     let (size, count) = length_first(rest);
