@@ -191,7 +191,8 @@ pub const TRACE: &str =
     "Append a trace of the connection to FILE: the raw bytes, including passwords and card data";
 
 pub const KEEP_BOOK: &str =
-    "Keep the till's book in FILE, so that it survives the process and any crash. FILE is created if it does not exist. Use a new file for each day: a book holds at most 10000 entries.";
+    "Keep the till's book in FILE, so that it survives the process and any crash. FILE is created if it does not \
+        exist. Use a new file for each day: a book holds at most 10000 entries.";
 
 pub const BOOK_FILES: &str =
     "Files of books; with several, every line starts with the name of its file, and the sum of the totals comes last";
@@ -221,20 +222,24 @@ pub const AUDIT_FOLLOW: &str =
 pub const CHECK: &str = "Exit with 1 if a payment is unclear";
 
 pub const CHECK_STEPS: &str =
-    "Exit with 1 if a step does not succeed: not sent, declined, refused, aborted or unclear. The total is printed all the same.";
+    "Exit with 1 if a step does not succeed: not sent, declined, refused, aborted or unclear. The total is printed \
+        all the same.";
 
 pub const TID: &str = "Terminal number, at most 99999999";
 
 pub const CONNECTIONS: &str =
-    "Serve N tills one after another, then exit; 0 for no end. Other tills wait meanwhile. The ledger is kept between tills.";
+    "Serve N tills one after another, then exit; 0 for no end. Other tills wait meanwhile. The ledger is kept between \
+        tills.";
 
 pub const TAP_LISTEN: &str =
-    "Where the till connects: PORT, or HOST:PORT with the address to listen on (default 127.0.0.1); port 0 picks a free one";
+    "Where the till connects: PORT, or HOST:PORT with the address to listen on (default 127.0.0.1); port 0 picks a \
+        free one";
 
 pub const TAP_TO: &str = "Where the terminal listens: HOST:PORT";
 
 pub const TAP_TRACE: &str =
-    "Append a trace of the connection to FILE, each chunk before it is forwarded: the raw bytes, including passwords and card data";
+    "Append a trace of the connection to FILE, each chunk before it is forwarded: the raw bytes, including passwords \
+        and card data";
 
 pub const TRACE_REQUIRED: &str =
     "Exit with 4 if the trace cannot be written, and forward nothing more";
