@@ -1,4 +1,5 @@
 //! An output that never keeps its writer waiting.
+ghost use Rattle.std.specs.Prelude.{◌≤◌, IfOk, length};
 
 use mio::unix::SourceFd;
 use mio::{Events, Interest, Poll, Token};
@@ -29,6 +30,8 @@ pub struct Screen<W> {
     held: Vec<u8>,
     /// How many bytes were dropped since a line said so.
     dropped: u64,
+    /// Whether the first of them end a line whose beginning was printed.
+    ends_line: bool,
     /// How many bytes were dropped in all.
     lost: u64,
 }
@@ -93,6 +96,7 @@ impl<W: Write> Screen<W> {
             gate: Gate::of(rt, alloc, descriptor),
             held: Vec::new(alloc),
             dropped: 0,
+            ends_line: false,
             lost: 0,
         }
     }
@@ -110,14 +114,18 @@ impl<W: Write> Screen<W> {
         written
     }
 
-    /// Holds these bytes, or drops them if too much is held.
-    fn hold(&mut self, bytes: &[u8]) {
-        let fits = bytes.len() <= MAX_HELD && self.held.len() <= MAX_HELD - bytes.len();
-        if fits && self.held.extend_from_slice(bytes).is_ok() {
+    /// Holds the rest of a text, or drops it if too much is held. `begun` says whether the text's first part was written.
+    fn hold(&mut self, rest: &[u8], begun: bool) {
+        if rest.is_empty() {
             return;
         }
-        self.dropped = self.dropped.saturating_add(bytes.len() as u64);
-        self.lost = self.lost.saturating_add(bytes.len() as u64);
+        let fits = rest.len() <= MAX_HELD && self.held.len() <= MAX_HELD - rest.len();
+        if self.dropped == 0 && fits && self.held.extend_from_slice(rest).is_ok() {
+            return;
+        }
+        self.ends_line |= begun;
+        self.dropped = self.dropped.saturating_add(rest.len() as u64);
+        self.lost = self.lost.saturating_add(rest.len() as u64);
     }
 
     /// Holds a line that says how much was dropped, if text was.
@@ -125,54 +133,74 @@ impl<W: Write> Screen<W> {
         if self.dropped == 0 {
             return;
         }
+        let start = if self.ends_line { "\n" } else { "" };
         let Ok(note) = format!(in self.alloc;
-            "# {} bytes were not printed, because nobody read this output\n",
+            "{start}# {} bytes were not printed, because nobody read this output\n",
             self.dropped
         ) else {
             return;
         };
         if self.held.extend_from_slice(note.as_bytes()).is_ok() {
             self.dropped = 0;
+            self.ends_line = false;
         }
     }
 
-    /// Whether the output takes text without waiting.
-    fn is_open(&mut self) -> bool {
-        match &mut self.gate {
-            Some(gate) => gate.is_open(),
-            None => true,
+    /// Writes what is held, and then how much was dropped, as far as the output takes it without waiting.
+    fn pass_on(&mut self) -> io::Result<()> {
+        self.pass_held()?;
+        if self.held.is_empty() && self.dropped > 0 {
+            self.note_dropped();
+            self.pass_held()?;
         }
+        Ok(())
     }
 
     /// Writes what is held, as far as the output takes it without waiting.
-    fn pass_on(&mut self) -> io::Result<()> {
-        for _part in 0..MAX_HELD {
-            if self.held.is_empty() {
-                self.note_dropped();
-            }
-            if self.held.is_empty() || !self.is_open() {
-                return Ok(());
-            }
-            let size = self.held.len().min(MAX_PART);
-            let count = self.inner.write(&self.held[..size])?;
-            if count == 0 {
-                return Err(io::Error::from(ErrorKind::WriteZero));
-            }
-            let rest = self.held.len() - count;
-            self.held.copy_within(count.., 0);
-            self.held.truncate(rest);
-        }
+    fn pass_held(&mut self) -> io::Result<()> {
+        let passed = pass(&mut self.inner, &mut self.gate, self.held.as_slice())?;
+        let rest = self.held.len() - passed;
+        self.held.copy_within(passed.., 0);
+        self.held.truncate(rest);
         Ok(())
     }
 }
 
+/// Writes as much of the text as the output takes without waiting. Returns how much that is.
+fn pass<W: Write>(inner: &mut W, gate: &mut Option<Gate>, text: &[u8]) -> io::Result<usize>
+    ensures { IfOk result (λ passed. passed ≤ length text.now) }
+{
+    let mut passed = 0;
+    'parts: while passed < text.len() {
+        let most = match gate {
+            Some(gate) => {
+                if !gate.is_open() {
+                    return Ok(passed);
+                }
+                MAX_PART
+            }
+            None => text.len(),
+        };
+        let size = (text.len() - passed).min(most);
+        let count = inner.write(&text[passed..passed + size])?;
+        if count == 0 {
+            return Err(io::Error::from(ErrorKind::WriteZero));
+        }
+        passed += count;
+    }
+    Ok(passed)
+}
+
 impl<W: Write> Write for Screen<W> {
     fn write(&mut self, bytes: &[u8]) -> io::Result<usize> {
-        if self.gate.is_none() {
-            return self.inner.write(bytes);
+        if !self.held.is_empty() || self.dropped > 0 {
+            self.pass_on()?;
         }
-        self.hold(bytes);
-        self.pass_on()?;
+        let mut passed = 0;
+        if self.held.is_empty() && self.dropped == 0 {
+            passed = pass(&mut self.inner, &mut self.gate, bytes)?;
+        }
+        self.hold(&bytes[passed..], passed > 0);
         Ok(bytes.len())
     }
 
