@@ -20,6 +20,7 @@ use crate::head::Head;
 use crate::judge::{DecodeRun, Judge, Steps};
 use std::alloc::{AllocError, Global};
 use std::marker::Model;
+use thiserror::Error;
 use zvt_apdu::{Apdu, ApduView, scan_message, view};
 use zvt_grammar::{Lengths, Scan, Why};
 
@@ -48,12 +49,14 @@ pub enum FedView {
 }
 
 /// Why a piece was not taken.
-#[derive(Clone, Copy, Debug, Drop, PartialEq, Eq)]
+#[derive(Clone, Copy, Debug, Drop, PartialEq, Eq, Error)]
 pub enum FeedError {
     /// Earlier bytes were refused.
+    #[error("the stream refused earlier bytes: make a new one for a new connection")]
     Stopped,
     /// An allocation failed. No input was consumed, so the same piece can be fed again. A message lent by an earlier
     /// call is no longer available.
+    #[error("out of memory: no input was consumed, and the same piece can be fed again")]
     Memory,
 }
 
@@ -68,7 +71,8 @@ impl From<AllocError> for FeedError {
 }
 
 /// The stream ended inside a message, after `have` of its bytes.
-#[derive(Clone, Copy, Debug, Drop, PartialEq, Eq)]
+#[derive(Clone, Copy, Debug, Drop, PartialEq, Eq, Error)]
+#[error("the input ends inside a message, after {have} of its bytes")]
 pub struct Truncated {
     pub have: usize,
 }
