@@ -19,12 +19,13 @@ use Rattle.zvt_kept.specs.Logs.{StandsFor}
 use Rattle.zvt_kept.specs.Outliving.{CallsOutlive, Did, DidAll, HappenInAll, HappensIn, IsBetween, KeptStep, connects, loses, runs}
 use Rattle.zvt_kept.specs.Runs.{RanKept}
 use Rattle.zvt_kept.specs.declared.run.KeptFault.{KeptFault}
-use Rattle.zvt_kept.specs.declared.run.KeptFault.TheVariants.{Order as OrderFault, Journal as JournalFault, Line as LineBroke}
+use Rattle.zvt_kept.specs.declared.run.KeptFault.TheVariants.{Order as OrderFault, Space, Journal as JournalFault, Line as LineBroke}
 use Rattle.zvt_kept.proofs.Logged.{keeps_lost, weaker}
 use Rattle.zvt_kept.proofs.Made.{records_are_kept}
 use Rattle.zvt_kept.proofs.Outlived.{at_first, failed_alike, failed_by, not_both, quiet}
 use Rattle.zvt_kept.proofs.Over.{loses_by}
 use Rattle.zvt_kept.proofs.RunsOutlived.{after_messages, after_order, heard_before}
+use Rattle.zvt_kept.proofs.Spaceless.{leaves_the_log, same_log}
 use Rattle.zvt_kept.proofs.Steps.{taken_up}
 
 -- ---- files between two logs
@@ -70,6 +71,7 @@ module _ {D : Type 0} (seen : D → List ℕ) (may_leave : D → List ℕ → Ty
       by_result : (result : Result Outcome KeptFault) → RanKept seen may_leave moment left_since faults order did.0 did.1 old new did.2 did.3 did.4 did.5 did.6 did.7 did.8 result → new ≡ old
       by_result (Ok outcome) ran = absurd (refused_down order old.standing.till.state down ran.sends.ordered.taken)
       by_result (Err (OrderFault why)) ran = ran.1
+      by_result (Err Space) ran = absurd (refused_down order old.standing.till.state down ran.0.taken)
       by_result (Err JournalFault) ran = ⊎_elim (λ lost. absurd (refused_down order old.standing.till.state down lost.0.taken)) (λ broke. absurd (refused_down order old.standing.till.state down broke.3.ordered.taken)) ran.3
       by_result (Err (LineBroke fault)) ran = ⊎_elim (λ unsent. absurd (refused_down order old.standing.till.state down unsent.3.taken)) (λ broke. absurd (refused_down order old.standing.till.state down broke.3.ordered.taken)) ran
 
@@ -122,6 +124,12 @@ module _ {D : Type 0} (seen : D → List ℕ) (may_leave : D → List ℕ → Ty
         let all = after_messages seen may_leave moment left_since faults only_now settings log order ran.sends.outgoing old ran.sent_till new heard.messages heard.answers has ran.sends.ordered heard.heard in
         record { happened = SentOut (sent_as settings.currency order) ∷ map hears heard.messages; by = inr (heard.messages, refl); leaves = all.0; then = all.1 }
     run_outlived settings log order old new before after coming left first last turns reads_before reads_after (Err (OrderFault why)) has ran = unchanged settings log (runs order) old new (inl refl) has ran.1
+    run_outlived settings log order old new before after coming left first last turns reads_before reads_after (Err Space) has ran = record {
+      happened = [];
+      by = inl refl;
+      leaves = leaves_the_log seen may_leave moment left_since faults order old.standing new.standing ran.0 settings log [] has;
+      then = λ whole. subst (λ l. HasLog seen may_leave moment left_since faults settings l new.standing) (sym (append-nil log)) (same_log seen may_leave moment left_since faults order old.standing new.standing ran.0 settings log has);
+    }
     run_outlived settings log order old new before after coming left first last turns reads_before reads_after (Err JournalFault) has ran = ⊎_elim
         (λ lost. record {
           happened = SentOut (sent_as settings.currency order) ∷ [];

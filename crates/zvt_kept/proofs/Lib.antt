@@ -24,7 +24,9 @@ mod RowNoteLemmas
 mod Rows
 mod RunsOutlived
 mod Sent
+mod Reserved
 mod Short
+mod Spaceless
 mod Steps
 mod WordLemmas
 mod Worlds

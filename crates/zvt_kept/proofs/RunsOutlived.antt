@@ -20,10 +20,11 @@ use Rattle.zvt_journal.specs.Device.{LeavesOnly}
 use Rattle.zvt_journal.proofs.Moments.{and_then}
 use Rattle.zvt_kept.specs.KeptTill.{HasLog, Hears, KeptValue, LeavesLogs, LosesLine, Ordered, has_failed}
 use Rattle.zvt_kept.specs.Outliving.{IsBetween, RunsOutlive}
-use Rattle.zvt_kept.specs.declared.run.KeptFault.TheVariants.{Order as OrderFault, Journal as JournalFault, Line as LineBroke}
+use Rattle.zvt_kept.specs.declared.run.KeptFault.TheVariants.{Order as OrderFault, Space, Journal as JournalFault, Line as LineBroke}
 use Rattle.zvt_kept.proofs.Logged.{weaker}
 use Rattle.zvt_kept.proofs.Made.{records_are_kept}
 use Rattle.zvt_kept.proofs.Outlived.{hearings_outlive, one_earlier, quiet, with_one}
+use Rattle.zvt_kept.proofs.Spaceless.{leaves_the_log}
 use Rattle.zvt_kept.proofs.Steps.{taken_up}
 
 pub accept_up : (s : TillState) (order : Order) → s.line_up ≡ true → (accept s order).line_up ≡ true
@@ -84,6 +85,8 @@ module _ {D : Type 0} (seen : D → List ℕ) (may_leave : D → List ℕ → Ty
         (heard.messages, (after_messages settings log order ran.sends.outgoing old ran.sent_till new heard.messages heard.answers has ran.sends.ordered heard.heard).0)
     runs_outlive settings log order before after old new coming left first last turns reads_before reads_after (Err (OrderFault why)) has ran =
         ([], subst (λ (k : KeptValue D). Left settings log order old.standing.device k.standing.device []) (sym ran.1) (quiet seen may_leave moment left_since faults only_now settings log (SentOut (sent_as settings.currency order) ∷ []) old.standing has))
+    runs_outlive settings log order before after old new coming left first last turns reads_before reads_after (Err Space) has ran =
+        ([], leaves_the_log seen may_leave moment left_since faults order old.standing new.standing ran.0 settings log (SentOut (sent_as settings.currency order) ∷ []) has)
     runs_outlive settings log order before after old new coming left first last turns reads_before reads_after (Err JournalFault) has ran = ⊎_elim
         (λ lost. ([], after_order settings log order old.standing.device new.standing.device [] (lost.0.outlives settings log has)))
         (λ broke. let heard = broke.4.course.heard in (heard.messages, (after_messages settings log order broke.3.outgoing old broke.0 new heard.messages heard.answers has broke.3.ordered heard.heard).0))

@@ -22,7 +22,7 @@ use Rattle.zvt_journal.specs.declared.device.DeviceError.TheVariants.{Memory, Fa
 use Rattle.zvt_kept.specs.Records.{Kept, IsRecordOf, opening, order_record}
 use Rattle.zvt_kept.specs.Logs.{StandsFor}
 use Rattle.zvt_kept.specs.declared.refusal.KeptRefusal.{KeptRefusal}
-use Rattle.zvt_kept.specs.declared.refusal.KeptRefusal.TheVariants.{Order as OrderRefused, Journal as JournalFailed}
+use Rattle.zvt_kept.specs.declared.refusal.KeptRefusal.TheVariants.{Order as OrderRefused, Space, Journal as JournalFailed}
 
 -- a till, and the device and the gate of its journal
 pub record Standing (D : Type 0) : Type 0 where
@@ -71,6 +71,7 @@ LeavesLogs settings before happened file =
 abbrev pub failure_after : {A : Type 0} → Option DeviceError → Result A KeptRefusal → Option DeviceError
 failure_after before (Ok a) = before
 failure_after before (Err (OrderRefused why)) = before
+failure_after before (Err Space) = before
 failure_after before (Err (JournalFailed why)) = Some why
 
 -- The cause of a record that was not made durable: the disk failed once more, or the journal has 2^60 bytes. Nothing is said of
@@ -157,9 +158,24 @@ module _ {D : Type 0} (seen : D → List ℕ) (may_leave : D → List ℕ → Ty
     pub heard : KeepsHeard old.till new.till
     pub outlives : Outlives (order_sent order) old new
 
+  -- An order would be taken, but the disk gave no room for its records. Nothing came of it: the till is as it was, but for places
+  -- that it may have gained, and so are the file and the records in it, at each moment.
+  pub record FindsNoSpace (order : Order) (old new : Standing D) : Type 0 where
+    pub cause : faults old.device < faults new.device
+    pub taken : refusal (facts_of old.till.state) order ≡ None
+    pub state : new.till.state ≡ old.till.state
+    pub room : old.till.spare ≤ new.till.spare
+    pub numbers : new.till.numbers ≡ old.till.numbers
+    pub heard : new.till.heard ≡ old.till.heard
+    pub file : seen new.device ≡ seen old.device
+    pub settled : IsSettled (seen new.device) (may_leave new.device) new.gate
+    pub leaves : LeavesOnly moment left_since old.device new.device (λ file. file ≡ seen old.device)
+    pub stays : new.gate ≡ old.gate
+
   abbrev pub Orders : Order → (old new : Standing D) → Result Outgoing KeptRefusal → Type 0
   Orders order old new (Ok outgoing) = Ordered order outgoing old new
   Orders order old new (Err (OrderRefused why)) = IsRefusedAs (facts_of old.till.state) old.till.spare order why × (new ≡ old)
+  Orders order old new (Err Space) = FindsNoSpace order old new
   Orders order old new (Err (JournalFailed why)) = OrderLost order why old new
 
   -- A message was heard by a till whose line is up, and its record is durable.

@@ -16,18 +16,20 @@ use Rattle.zvt_till.specs.Line.{till_rests}
 use Rattle.zvt_till.specs.Till.{TillState, facts_of}
 use Rattle.zvt_till.specs.View.{IsRefusedAs}
 use Rattle.zvt_journal.specs.declared.device.DeviceError.{DeviceError}
-use Rattle.zvt_kept.specs.KeptTill.{FailsOnlyBy, Hears, KeptValue, LosesLine, OrderLost, Ordered, has_failed, kept_rests}
+use Rattle.zvt_kept.specs.KeptTill.{FailsOnlyBy, FindsNoSpace, Hears, KeptValue, LosesLine, OrderLost, Ordered, has_failed, kept_rests}
 use Rattle.zvt_kept.specs.declared.run.KeptFault.{KeptFault}
-use Rattle.zvt_kept.specs.declared.run.KeptFault.TheVariants.{Order as OrderFault, Journal as JournalFault, Line as LineBroke}
+use Rattle.zvt_kept.specs.declared.run.KeptFault.TheVariants.{Order as OrderFault, Space, Journal as JournalFault, Line as LineBroke}
 
 -- how many reads and writes of the line failed
 abbrev pub reads_failed : KeptFault → ℕ
 reads_failed (OrderFault why) = 0
+reads_failed Space = 0
 reads_failed JournalFault = 0
 reads_failed (LineBroke fault) = failed_reads fault
 
 abbrev pub writes_failed : KeptFault → ℕ
 writes_failed (OrderFault why) = 0
+writes_failed Space = 0
 writes_failed JournalFault = 0
 writes_failed (LineBroke fault) = failed_writes fault
 
@@ -38,6 +40,7 @@ IsEnded state = (state.running ≡ None) × (state.line_up ≡ false) × IsSome 
 -- so it is after the journal failed or the line broke
 abbrev pub IsOver : KeptFault → TillState → Type 0
 IsOver (OrderFault why) state = Unit {0}
+IsOver Space state = Unit {0}
 IsOver JournalFault state = IsEnded state
 IsOver (LineBroke fault) state = IsEnded state
 
@@ -87,5 +90,7 @@ module _ {D : Type 0} (seen : D → List ℕ) (may_leave : D → List ℕ → Ty
   RanKept order before after old new coming left first last turns reads_before reads_after (Ok outcome) = RunsKept order outcome before after old new coming left first last turns reads_before reads_after
   RanKept order before after old new coming left first last turns reads_before reads_after (Err (OrderFault why)) =
       IsRefusedAs (facts_of old.standing.till.state) old.standing.till.spare order why × (new ≡ old) × (after ≡ before) × (left ≡ coming) × (last ≡ first) × (reads_after ≡ reads_before)
+  RanKept order before after old new coming left first last turns reads_before reads_after (Err Space) =
+      FindsNoSpace seen may_leave moment left_since faults order old.standing new.standing × (new.failure ≡ old.failure) × (after ≡ before) × (left ≡ coming) × (last ≡ first) × (reads_after ≡ reads_before)
   RanKept order before after old new coming left first last turns reads_before reads_after (Err JournalFault) = JournalBroke order before after old new coming left first last turns reads_before reads_after
   RanKept order before after old new coming left first last turns reads_before reads_after (Err (LineBroke fault)) = LineBrokeKept fault order before after old new coming left first last turns reads_before reads_after

@@ -18,12 +18,13 @@ use crate::refusal::KeptRefusal;
 use std::alloc::Global;
 use zvt_apdu::{ApduView, Brief, MAX_BRIEF_LEN};
 use zvt_bcd::Currency;
-use zvt_journal::{Device, DeviceError, Journal};
+use zvt_journal::{Device, DeviceError, Journal, NoSpace};
 use zvt_stream::Answers;
 use zvt_text::Text;
 use zvt_till::{Heard, Order, Outgoing, Till, heard_view, reply_to};
 
-/// Gives the till an order once its journal has it, and returns the message to send.
+/// Gives the till an order once its journal has it, and returns the message to send. An order that the till refuses asks for
+/// no disk space, and one for which there is none leaves the till and the journal's records as they were.
 pub(crate) fn take_order<D: Device>(
     alloc: Global,
     till: &mut Till,
@@ -38,10 +39,14 @@ pub(crate) fn take_order<D: Device>(
     ensures noted { OnOk result (HasNoted D.seen order note.now journal.old.device journal.new.device) }
 {
     has_words(till, &order);
-    let outgoing = match till.order(order) {
+    let outgoing = match till.prepare(&order) {
         Err(why) => return Err(KeptRefusal::Order(why)),
         Ok(outgoing) => outgoing,
     };
+    if let Err(NoSpace) = journal.reserve() {
+        return Err(KeptRefusal::Space);
+    }
+    till.begin(order);
     match keep_order(alloc, journal, &order, note, &outgoing) {
         Ok(()) => Ok(outgoing),
         Err(why) => {
@@ -103,6 +108,7 @@ fn keep_order<D: Device>(
     outgoing: &Outgoing,
 ) -> Result<(), DeviceError>
     requires settled { IsSettled (D.seen journal.old.device) (D.may_leave journal.old.device) journal.old.gate }
+    requires room { D.has_capacity journal.old.device ≡ true }
     requires spelled { IsSpelledOrder order.now }
     ensures recorded { Recorded D.seen D.may_leave D.moment D.left_since D.faults (ordered order.now note.now) journal.old.device journal.new.device journal.old.gate journal.new.gate result }
     ensures noted { OnOk result (HasNoted D.seen order.now note.now journal.old.device journal.new.device) }
@@ -142,6 +148,7 @@ pub(crate) fn keep_opening<D: Device>(
 {
     let mut text = Text::new(alloc);
     put_opening(&mut text, currency)?;
+    journal.reserve()?;
     journal.append(text.bytes())
 }
 

@@ -155,6 +155,8 @@ impl<D: Device> KeptTill<D> {
     }
 
     /// Starts an order and returns the message to send. The order's record, with the note, is durable by then.
+    ///
+    /// Space for the records of the order is reserved before. Without it the order is refused, and nothing changes.
     pub fn order(
         &mut self,
         alloc: Global,
@@ -169,6 +171,7 @@ impl<D: Device> KeptTill<D> {
         match take_order(alloc, &mut self.till, &mut self.journal, order, note) {
             Ok(outgoing) => Ok(outgoing),
             Err(KeptRefusal::Order(why)) => Err(KeptRefusal::Order(why)),
+            Err(KeptRefusal::Space) => Err(KeptRefusal::Space),
             Err(KeptRefusal::Journal(why)) => {
                 self.failure = Some(why);
                 Err(KeptRefusal::Journal(why))

@@ -18,6 +18,8 @@ use zvt_till::{Order, OrderRefusal, Outcome};
 pub enum KeptFault {
     /// It was refused. Nothing was sent or read, and the till is as it was.
     Order(OrderRefusal),
+    /// There was no room on the disk for the records of an order. Nothing was sent or read, and the till is as it was.
+    Space,
     /// The journal failed. Nothing was sent from then on. The till's last outcome is what became of the order.
     Journal,
     /// The line broke, which was reported to the till. The till's last outcome is what became of the order. The line is
@@ -54,6 +56,7 @@ pub fn run_order_kept<R: Source, W: Sink, D: Device>(
     let outgoing = match kept.order(alloc, order, note) {
         Ok(outgoing) => outgoing,
         Err(KeptRefusal::Order(why)) => return Err(KeptFault::Order(why)),
+        Err(KeptRefusal::Space) => return Err(KeptFault::Space),
         Err(KeptRefusal::Journal(_)) => return Err(KeptFault::Journal),
     };
     let mut buffer = [0; MAX_BRIEF_LEN];

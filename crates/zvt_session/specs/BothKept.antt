@@ -1,7 +1,7 @@
 -- Both ends of a line, which take turns, where the till keeps its book in a journal.
 use Rattle.std.specs.Prelude.{◌≡◌, ◌⊎◌, ℕ, zero, suc, ◌<◌, true, false, List, Some, None, Result, Ok, Err}
 use Rattle.zvt_journal.specs.declared.device.DeviceError.{DeviceError}
-use Rattle.zvt_kept.specs.KeptTill.{Hears, KeptValue, LosesLine, OrderLost, Ordered, has_failed, kept_rests}
+use Rattle.zvt_kept.specs.KeptTill.{FindsNoSpace, Hears, KeptValue, LosesLine, OrderLost, Ordered, has_failed, kept_rests}
 use Rattle.zvt_kept.specs.declared.run.KeptFault.{KeptFault}
 use Rattle.zvt_kept.specs.declared.run.KeptFault.TheVariants as kept
 use Rattle.zvt_stream.specs.Apdus.{Spells}
@@ -64,6 +64,8 @@ module _ {D : Type 0} (seen : D → List ℕ) (may_leave : D → List ℕ → Ty
   -- why an order was not sent
   abbrev pub NotSentKept : KeptFault → Order → EndState → KeptValue D → EndState → KeptValue D → Type 0
   NotSentKept (kept.Order why) order before old after new = IsRefusedAs (facts_of old.standing.till.state) old.standing.till.spare order why × RefusedKept old new before after
+  NotSentKept kept.Space order before old after new =
+      FindsNoSpace seen may_leave moment left_since faults order old.standing new.standing × (new.failure ≡ old.failure) × (after ≡ before)
   NotSentKept kept.Journal order before old after new = LostKept order before old after new
   NotSentKept (kept.Line fault) order before old after new = UnwrittenKept fault order before old after new
 

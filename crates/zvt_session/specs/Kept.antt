@@ -12,6 +12,7 @@ use Rattle.zvt_till.specs.View.{TillValue}
 use Rattle.zvt_till.specs.declared.entries.Entry.{Entry}
 use Rattle.zvt_till.specs.declared.line.RunFault.{RunFault}
 use Rattle.zvt_till.specs.declared.line.RunFault.TheVariants.{Order, Line}
+use Rattle.zvt_till.specs.declared.orders.OrderRefusal.TheVariants.{Memory}
 use Rattle.zvt_till.specs.declared.outcomes.Outcome.{Outcome}
 use Rattle.zvt_session.specs.declared.arguments.Step.{Step}
 use Rattle.zvt_session.specs.declared.fault.EndFault.{EndFault}
@@ -26,9 +27,11 @@ use Rattle.zvt_session.specs.Faults.{by_book}
 abbrev pub till_of : {D : Type 0} → KeptValue D → TillValue
 till_of kept = kept.standing.till
 
--- The fault of a step. A journal that failed is a line whose writes fail.
+-- The fault of a step. A journal that failed is a line whose writes fail. An order without room on the disk ends the run as one
+-- without memory: nothing was sent, and its step has no line.
 abbrev pub run_fault_of : KeptFault → RunFault
 run_fault_of (kept.Order why) = Order why
+run_fault_of kept.Space = Order Memory
 run_fault_of kept.Journal = Line line.Write
 run_fault_of (kept.Line fault) = Line fault
 

@@ -38,6 +38,7 @@ fn send_kept<A: LineEnd, D: Device>(
     let outgoing = match kept.order(alloc, order, note) {
         Ok(outgoing) => outgoing,
         Err(KeptRefusal::Order(why)) => return Err(KeptFault::Order(why)),
+        Err(KeptRefusal::Space) => return Err(KeptFault::Space),
         Err(KeptRefusal::Journal(_)) => return Err(KeptFault::Journal),
     };
     let mut buffer = [0; MAX_BRIEF_LEN];

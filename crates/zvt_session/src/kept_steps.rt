@@ -15,7 +15,7 @@ use zvt_io::Sink;
 use zvt_journal::Device;
 use zvt_kept::{KeptFault, KeptTill};
 use zvt_stream::LineFault;
-use zvt_till::{RunFault, Till};
+use zvt_till::{OrderRefusal, RunFault, Till};
 
 impl<D: Device> Keeper for KeptTill<D> {
     ghost use Rattle.zvt_session.specs.Kept.{till_of};
@@ -53,12 +53,14 @@ pub(crate) fn run_kept_steps<L: StepLine<KeptTill<D>>, D: Device, T: Sink, E: Si
     by_book(kept.has_failed(), answer)
 }
 
-/// The fault of a step. A journal that failed is a line whose writes fail.
+/// The fault of a step. A journal that failed is a line whose writes fail. An order without room on the disk ends the run as
+/// one without memory.
 pub(crate) fn run_fault(fault: KeptFault) -> RunFault
     ensures { result ≡ run_fault_of fault }
 {
     match fault {
         KeptFault::Order(why) => RunFault::Order(why),
+        KeptFault::Space => RunFault::Order(OrderRefusal::Memory),
         KeptFault::Journal => RunFault::Line(LineFault::Write),
         KeptFault::Line(fault) => RunFault::Line(fault),
     }

@@ -85,6 +85,7 @@ module _ {D : Type 0} (seen : D → List ℕ) (may_leave : D → List ℕ → Ty
           → fault_of (step_result ended) ≡ None → has_failed after.till ≡ false
       by_end (Ok outcome) ran none = ran.whole
       by_end (Err (kept.Order why)) ran none = subst (λ (k : Kept). has_failed k ≡ false) (sym ran.1) whole
+      by_end (Err kept.Space) ran none = ap (λ f. is_some f) ran.1 ∙ whole
       by_end (Err kept.Journal) ran none = absurd (cc none)
       by_end (Err (kept.Line fault)) ran none = absurd (cc none)
 

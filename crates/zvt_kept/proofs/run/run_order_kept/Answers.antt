@@ -83,6 +83,21 @@ returns-in-None g c =
     let known = subst IsKnown (sym ordered.runs) (known-accepted c.args.kept.now.standing.till.state c.args.order ordered.taken) in
     absurd (rests-known c.pump.new.machine.standing.till.state pumped.2 (known_kept V.seen V.may_leave V.moment V.left_since V.faults c.order.new.self c.pump.new.machine _ _ pumped.1.course.heard.heard known) (ap (λ t. t.state.last_outcome) (sym c.till.ensures.till) ∙ sym c.last_outcome.ensures ∙ c.in-None.is))
 
+-- there was no room on the disk
+pub returns-in-Err-Space-clause-ran : goal.returns-in-Err-Space-clause-ran
+returns-in-Err-Space-clause-ran g c =
+    let V = g.D.Device in
+    let old = c.args.kept.now in
+    let new = c.order.new.self in
+    let e = c.in-Err-Space in (
+      subst (λ (r : KeptRefusal). Orders V.seen V.may_leave V.moment V.left_since V.faults c.args.order old.standing new.standing (Err r)) e.field-0-is e.ensures.orders,
+      subst (λ (r : KeptRefusal). new.failure ≡ failure_after {A = Outgoing} old.failure (Err r)) e.field-0-is e.ensures.failure,
+      refl,
+      refl,
+      refl,
+      refl,
+    )
+
 -- the journal failed before anything was sent
 pub returns-in-Err-Journal-clause-ran : goal.returns-in-Err-Journal-clause-ran
 returns-in-Err-Journal-clause-ran g c =

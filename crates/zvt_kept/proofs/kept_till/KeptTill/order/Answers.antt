@@ -1,6 +1,7 @@
 use Rattle.std.proofs.Common.{is_some, rules}
 use Rattle.zvt_kept.specs.KeptTill.{Standing, order_sent}
 use Rattle.zvt_kept.proofs.Failing.{unfailed}
+use Rattle.zvt_kept.proofs.Spaceless.{still_kept}
 use Rattle.zvt_kept.proofs.Steps.{kept_on, taken_up, up_whole}
 use Rattle.zvt_kept.proofs.kept_till.KeptTill.order.Goals as goal
 
@@ -24,3 +25,15 @@ returns-in-Ok-clause-whole g c =
     let k = c.self.inside in
     let old : Standing g.row.D.Denot = record { till = k.till; device = k.journal.device; gate = k.journal.gate } in
     unfailed k.failure (up_whole V.seen V.may_leave V.moment V.left_since V.faults (is_some k.failure) old (taken_up k.till.state c.args.order c.in-Ok.ensures.orders.taken) c.self.invariant)
+
+-- without space all is as it was
+pub invariant_of-self-in-Err-Space : goal.invariant_of-self-in-Err-Space
+invariant_of-self-in-Err-Space g c =
+    let V = g.D.Device in
+    let k = c.self.inside in
+    let e = c.in-Err-Space in
+    let old : Standing g.row.D.Denot = record { till = k.till; device = k.journal.device; gate = k.journal.gate } in
+    let new : Standing g.row.D.Denot = record { till = c.take_order.new.till; device = c.take_order.new.journal.device; gate = c.take_order.new.journal.gate } in
+    let found = e.ensures.orders in
+    still_kept V.seen V.may_leave V.moment V.left_since V.faults (is_some k.failure) c.args.order old new
+    (up_whole V.seen V.may_leave V.moment V.left_since V.faults (is_some k.failure) old (taken_up k.till.state c.args.order found.taken) c.self.invariant) found c.self.invariant
