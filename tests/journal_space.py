@@ -4,8 +4,10 @@
 The till runs on a small tmpfs, with a terminal that is played here. In the first trial the disk is filled to its last page once
 the till has sent its order, and the book has another length each time: so each byte of what follows is once the first that
 needs a new page. The payment is to be booked. In the second trial the disk has so many free pages before the order: it is
-booked, or refused before anything is sent, with a line that says that the disk is full. An approval that was acknowledged
-and is unclear is wrong in both. At the end no file is left beside the book, and the book opens again on the full disk.
+booked, or refused before anything is sent, with a line that says that the disk is full, and the book stays as it was. An
+approval that was acknowledged and is unclear is wrong in both. At the end no file is left beside the book, and the book
+opens again on the full disk. In the third trial the disk fills up in a payment, which is booked, and the next payment is
+not sent: nothing of it is in the book, and once there is space again the same book takes it.
 
 journal_space.py [PROGRAM]: without a word the program of `rt ci`. Without root that may mount all is skipped, and said. The
 status is 1 where anything differs.
@@ -29,21 +31,23 @@ SECONDS = 20
 PAGE = 4096
 RESERVE = 16  # pages that a till holds back
 FAILED = 4
-APPROVAL = status(7, 2, 2)
-PAYMENT = [ACK, message(b"\x04\xFF", b"\x0A"), APPROVAL, message(b"\x06\xD1", b"\0APPROVED 7, THANK YOU"), message(COMPLETION)]
+TIME = " at 2026-11-28T09:14:03Z"
+THANKS = message(b"\x06\xD1", b"\0APPROVED 7, THANK YOU")
 FULL = b"the disk is full"
+NO_SPACE = b"-> not sent: NoSpace\n"
+
+
+def payment(number):
+    """What a terminal answers to a payment of 7 that it approves with this number."""
+    return [ACK, message(b"\x04\xFF", b"\x0A"), status(7, number, number), THANKS, message(COMPLETION)]
 
 
 def book_of(length):
-    """A journal of a payment, whose file has this length: lines that were lost fill it up."""
+    """A journal of a payment, whose file has this length: a remark fills it up."""
     of = journal_dialogues.Dialogue()
     of.registered()
     of.paid(1000, 1)
-    if (length - len(of.file())) % 2:
-        of.paid(10, 3)
-        of.paid(2, 4) if (length - len(of.file())) % 2 else None
-    while len(of.file()) < length:
-        of.lost()
+    of.remark((length - len(of.file()) - 3) * "x")
     return of.file()
 
 
@@ -52,10 +56,12 @@ def growth():
     of = journal_dialogues.Dialogue()
     start = len(of.file())
     of.lost()
+    of.note = TIME
     of.registered()
+    of.note = TIME
     of.pay(7)
     ordered = len(of.file())
-    for answer in PAYMENT:
+    for answer in payment(2):
         of.hear(answer, *([None] if answer == ACK else []))
     return ordered - start, len(of.file()) - start
 
@@ -68,8 +74,8 @@ class Terminal:
         self.server.settimeout(SECONDS)
         self.port = self.server.getsockname()[1]
 
-    def serves(self, at_payment):
-        """Answers a registration, and a payment after `at_payment` was called. It tells what the till sent."""
+    def serves(self, at_payment, number=2):
+        """Answers a registration, and a payment with this number after `at_payment` was called. It tells what the till sent."""
         line, _ = self.server.accept()
         line.settimeout(SECONDS)
         sent = []
@@ -80,7 +86,7 @@ class Terminal:
                     plan = [ACK, message(COMPLETION)]
                 elif apdu[:2] == b"\x06\x01":
                     at_payment()
-                    plan = PAYMENT
+                    plan = payment(number)
                 else:
                     continue
                 for answer in plan:
@@ -135,6 +141,8 @@ class Trial(Checks):
             self.differs(name, f"an approval was acknowledged, and the book has {after}", out, errors)
         if not paid and (till.returncode != FAILED or FULL not in errors or any(apdu[:2] == b"\x06\x01" for apdu in sent)):
             self.differs(name, "it is not paid, and not refused as on a full disk", till.returncode, out, errors, sent)
+        if not paid and (b"# pay 7 " in self.path.read_bytes() or (after.entries, after.unclear) != (before.entries, before.unclear)):
+            self.differs(name, "it is not paid, and the book has something of it", after)
         if paid and till.returncode != 0:
             self.differs(name, "it is paid, and the status is", till.returncode, out, errors)
         if sorted(os.listdir(self.folder)) != ["book", "filler"]:
@@ -143,6 +151,40 @@ class Trial(Checks):
             self.opens_again(name)
         (self.folder / "filler").unlink()
         return paid
+
+    def makes(self, file, steps, at_payment, number):
+        """A till with a book of these bytes makes these steps; `at_payment` is called once a payment was ordered. It answers how the
+        program ended, and what was sent."""
+        terminal = Terminal()
+        words = [ZVT, "till", "--port", str(terminal.port), "--book", str(self.path), *steps]
+        self.path.write_bytes(file)
+        till = subprocess.Popen(words, stdin=subprocess.DEVNULL, stdout=subprocess.PIPE, stderr=subprocess.PIPE)
+        sent = terminal.serves(at_payment, number)
+        out, errors = till.communicate(timeout=SECONDS)
+        return till.returncode, out, errors, sent
+
+    def after_a_payment(self):
+        """A payment uses the space that was held back for it, and the next one finds none."""
+        (self.folder / "filler").write_bytes(b"")
+        ordered, paid = growth()
+        for behind in range(ordered + 1, paid, 20):
+            name = f"a second payment, the first {behind} bytes before a page's end"
+            file = book_of(2 * PAGE - behind)
+            before = journal_model.book_of(file)
+            status, out, errors, sent = self.makes(file, ("register", "pay:7", "pay:8"), lambda: fill(self.folder), 2)
+            full = self.path.read_bytes()
+            after = journal_model.book_of(full)
+            asked = [apdu for apdu in sent if apdu[:2] == b"\x06\x01"]
+            if (status, len(asked)) != (FAILED, 1) or b"pay:8 " + NO_SPACE not in out or FULL not in errors:
+                self.differs(name, "it is not refused for want of space", status, out, errors, sent)
+            if len(after.entries) != len(before.entries) + 1 or after.unclear != before.unclear or b"# pay 8 " in full:
+                self.differs(name, "the book has more than the first payment", after)
+            (self.folder / "filler").unlink()
+            status, out, errors, sent = self.makes(full, ("register", "pay:7"), lambda: None, 3)
+            again = journal_model.book_of(self.path.read_bytes())
+            if status != 0 or len(again.entries) != len(after.entries) + 1:
+                self.differs(name, "the same book does not take a payment once there is space", status, out, errors)
+            self.runs += 2
 
     def opens_again(self, name):
         """On the full disk the book opens, and is as it was."""
@@ -174,6 +216,7 @@ class Trial(Checks):
     def run(self):
         self.at_each_byte()
         self.before_it()
+        self.after_a_payment()
         print(f"{self.verdict}: payments on a disk that fills up: {self.runs} runs, {self.refused} refused before they were sent, {self.wrong} wrong")
         return self.status
 

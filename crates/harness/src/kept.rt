@@ -1,14 +1,15 @@
 //! Payments of a till that keeps its book in a file, which `bench/journal` times.
 ghost use Rattle.std.specs.Prelude.{◌≤◌};
 
+use crate::ordering::order_at;
 use crate::timed::{APPROVED, REGISTERED, approved, price};
 use std::alloc::Global;
 use std::io::{self, Cursor};
 use zvt_io::Over;
 use zvt_journal::{FileDevice, open_file};
-use zvt_kept::{KeptTill, Note, run_order_kept};
+use zvt_kept::KeptTill;
 use zvt_stream::{Endpoint, Stream};
-use zvt_till::{Order, TillSettings};
+use zvt_till::{Keeper, Order, TillSettings};
 
 /// Takes that many payments, 10,000 at most, with a new book in this file, and prints what came of it.
 pub fn run(rt: &HostRuntime, path: &str, payments: u32) -> io::Result<()> {
@@ -34,7 +35,7 @@ fn new_book(rt: &HostRuntime, path: &str) -> Option<KeptTill<FileDevice>> {
     let Ok(mut kept) = KeptTill::create(rt.alloc(), &TillSettings::default(), opened.device) else {
         return None;
     };
-    match kept.connected(rt.alloc()) {
+    match kept.connect(rt.alloc()) {
         Ok(()) => Some(kept),
         Err(_) => None,
     }
@@ -49,7 +50,7 @@ fn ordered(alloc: Global, kept: &mut KeptTill<FileDevice>, payments: u32) -> Opt
         writer: Over::new(Vec::new(alloc)),
         stream: Stream::new(alloc),
     };
-    run_order_kept(alloc, &mut end, kept, Order::Register, &Note::none(), 1).ok()?;
+    order_at(alloc, &mut end, kept, Order::Register, 1).ok()?;
     let mut end = Endpoint {
         reader: Over::new(Cursor::new(APPROVED)),
         writer: end.writer,
@@ -57,7 +58,7 @@ fn ordered(alloc: Global, kept: &mut KeptTill<FileDevice>, payments: u32) -> Opt
     };
     for number in 0..payments {
         end.reader = Over::new(Cursor::new(approved(number)));
-        run_order_kept(alloc, &mut end, kept, Order::Pay(price()), &Note::none(), 1).ok()?;
+        order_at(alloc, &mut end, kept, Order::Pay(price()), 1).ok()?;
     }
     Some(())
 }

@@ -10,8 +10,8 @@ use zvt_io::{Over, Sink, Source};
 use zvt_stream::{Endpoint, LineFault, Stream};
 use zvt_term::{Input, Terminal, Verdict};
 use zvt_till::{
-    Cause, CurrencyFact, Heard, Order, OrderRefusal, Original, Outcome, RunFault, StatusFacts,
-    Till, run_order,
+    Cause, CurrencyFact, Heard, Keeper, Order, OrderRefusal, Original, Outcome, RunFault,
+    StatusFacts, Till, run_order,
 };
 
 const REGISTRATION: [u8; 9] = [0x06, 0x00, 0x06, 0x00, 0x00, 0x00, 0xBE, 0x09, 0x78];
@@ -164,10 +164,10 @@ fn pays(alloc: Global, till: &mut Till, price: Amount) -> Result<Outcome, RunFau
 }
 
 /// Gives the till an order at this end of a line, and hears it out.
-pub(crate) fn order_at<R: Source, W: Sink>(
+pub(crate) fn order_at<R: Source, W: Sink, K: Keeper>(
     alloc: Global,
     end: &mut Endpoint<R, W>,
-    till: &mut Till,
+    till: &mut K,
     order: Order,
     turns: u64,
 ) -> Result<Outcome, RunFault> {

@@ -33,7 +33,9 @@ fn a_file_is_made_and_opened_again(rt: HostRuntime) -> Result<(), Fail> {
         device,
         gate,
     };
+    journal.reserve()?;
     journal.append(OPENING)?;
+    journal.reserve()?;
     journal.append(b"# pay 1234\n> 0601\n")?;
     let again = open_file(alloc, path.as_bytes()).answer;
     assert!(rt; matches!(again, Err(JournalFileError::InUse)));

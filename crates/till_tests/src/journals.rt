@@ -48,6 +48,7 @@ fn records_are_added(rt: HostRuntime) -> Result<(), Fail> {
         device,
         gate,
     };
+    journal.reserve()?;
     journal.append(b"# pay 1234\n> 0601\n")?;
     journal.append(b"!\n")?;
     assert_equal(
@@ -109,6 +110,7 @@ fn each_tear_leaves_whole_records(rt: HostRuntime) -> Result<(), Fail> {
         device,
         gate,
     };
+    journal.reserve()?;
     journal.append(b"# pay 1\n")?;
     let mut old: &[u8] = b"!\n\n pay";
     let before = b"!\n".as_slice();

@@ -7,16 +7,15 @@ use crate::assertions::assert_equal;
 use std::alloc::Global;
 use std::test::Fail;
 use zvt_bcd::{Amount, Currency};
-use zvt_io::Over;
+use zvt_io::{Over, Sink, Source};
 use zvt_journal::{Memory, open};
 use zvt_kept::{
     Entry, KeptTill, MAX_REFERENCE_LEN, Note, RecordError, RecoveryError, opening_is_taken,
     put_heard, put_lost, put_opening, put_order, read_records, records_are_kept, recover,
-    run_order_kept,
 };
 use zvt_stream::{Endpoint, Stream};
 use zvt_text::Text;
-use zvt_till::{Cause, Order, Outcome, TillSettings};
+use zvt_till::{Cause, Keeper, Order, Outcome, RunFault, TillSettings, run_order};
 
 #[test]
 fn records_are_read_back(rt: HostRuntime) -> Result<(), Fail> {
@@ -215,6 +214,16 @@ fn empty(alloc: Global) -> Result<Memory, Fail>
     Ok(file)
 }
 
+/// Registers a till with its journal.
+fn register<R: Source, W: Sink>(
+    alloc: Global,
+    end: &mut Endpoint<R, W>,
+    kept: &mut KeptTill<Memory>,
+) -> Result<Outcome, RunFault> {
+    let (reader, writer, stream) = (&mut end.reader, &mut end.writer, &mut end.stream);
+    run_order(alloc, reader, writer, stream, kept, Order::Register, 4)
+}
+
 #[test]
 fn an_order_and_its_answers_are_kept(rt: HostRuntime) -> Result<(), Fail> {
     let alloc = rt.alloc();
@@ -222,7 +231,7 @@ fn an_order_and_its_answers_are_kept(rt: HostRuntime) -> Result<(), Fail> {
     let mut kept = KeptTill::create(alloc, &settings, empty(alloc)?).map_err(
         |unbegun| unbegun.why,
     )?;
-    assert!(rt; kept.connected(alloc).is_ok());
+    assert!(rt; kept.connect(alloc).is_ok());
     let mut end = Endpoint {
         reader: Over::new(REGISTERED.as_slice()),
         writer: Over::new(Vec::new(alloc)),
@@ -232,7 +241,8 @@ fn an_order_and_its_answers_are_kept(rt: HostRuntime) -> Result<(), Fail> {
         assert!(rt; false, "no note");
         return Ok(());
     };
-    let ran = run_order_kept(alloc, &mut end, &mut kept, Order::Register, &note, 4);
+    kept.note_next(note);
+    let ran = register(alloc, &mut end, &mut kept);
     assert!(rt; matches!(ran, Ok(Outcome::Registered)), "another outcome");
     assert!(rt; !kept.has_failed());
     assert_equal(
@@ -296,20 +306,13 @@ fn a_till_goes_on_over_its_book(rt: HostRuntime) -> Result<(), Fail> {
     let mut file = Memory::new(alloc, text.to_vec(alloc)?);
     let records = open(&mut file, text.to_vec(alloc)?)?;
     let mut kept = KeptTill::open(alloc, &settings, file, &records)?;
-    assert!(rt; kept.connected(alloc).is_ok());
+    assert!(rt; kept.connect(alloc).is_ok());
     let mut end = Endpoint {
         reader: Over::new(REGISTERED.as_slice()),
         writer: Over::new(Vec::new(alloc)),
         stream: Stream::new(alloc),
     };
-    let ran = run_order_kept(
-        alloc,
-        &mut end,
-        &mut kept,
-        Order::Register,
-        &Note::none(),
-        4,
-    );
+    let ran = register(alloc, &mut end, &mut kept);
     assert!(rt; matches!(ran, Ok(Outcome::Registered)), "another outcome");
     assert_equal(
         &rt,

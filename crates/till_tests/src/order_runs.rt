@@ -122,7 +122,11 @@ fn an_order_that_is_sent(rt: HostRuntime) {
     let mut till = connected_till(&rt, rt.alloc());
     let refused = RunFault::Order(OrderRefusal::NotRegistered);
     for (order, sent) in [(Order::CloseDay, Err(refused)), (Order::Register, Ok(()))] {
-        assert_equal(&rt, &send_order(&mut writer, &mut till, order), &sent);
+        assert_equal(
+            &rt,
+            &send_order(rt.alloc(), &mut writer, &mut till, order),
+            &sent,
+        );
     }
     assert_equal(&rt, &till.running(), &Some(Order::Register));
     assert_equal(&rt, &writer.inner.as_slice(), &REGISTRATION.as_slice());

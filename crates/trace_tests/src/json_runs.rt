@@ -5,10 +5,10 @@ use std::alloc::Global;
 use std::test::Fail;
 use zvt_io::Over;
 use zvt_json::Form;
-use zvt_session::{EndFault, Endpoint, Ends, StepOptions, StepRun, plan, run_till_end};
+use zvt_session::{EndFault, Endpoint, Ends, NoNotes, StepOptions, StepRun, plan, run_till_end};
 use zvt_stream::{LineFault, Stream};
 use zvt_tcp::{LoopRun, run_loop};
-use zvt_till::TillSettings;
+use zvt_till::Till;
 
 const DEFAULT_STEPS: &str = r#"{"outcome":"registered","step":"register"}
 {"outcome":"paid","receipt":"0001","step":"pay:1000","trace":1}
@@ -35,7 +35,16 @@ fn looped(rt: &HostRuntime, words: &[&str]) -> Result<(Result<(), EndFault>, Vec
     };
     let mut writer = Over::new(Vec::new(rt.alloc()));
     let mut report = Over::new(Vec::new(rt.alloc()));
-    let ended = run_loop(rt, rt.alloc(), &run, &mut writer, &mut report);
+    let mut till = Till::with_defaults(rt.alloc());
+    let ended = run_loop(
+        rt,
+        rt.alloc(),
+        &run,
+        &mut till,
+        &NoNotes,
+        &mut writer,
+        &mut report,
+    );
     Ok((ended, writer.inner))
 }
 
@@ -112,13 +121,14 @@ fn answered(alloc: Global) -> Result<(Result<(), EndFault>, Vec<u8>), EndFault> 
         writer: Over::new(Vec::new(alloc)),
         stream: Stream::new(alloc),
     };
-    let settings = TillSettings::default();
+    let mut till = Till::with_defaults(alloc);
     let mut writer = Over::new(Vec::new(alloc));
     let mut report = Over::new(Vec::new(alloc));
     let ended = run_till_end(
         alloc,
         &mut line,
-        &settings,
+        &mut till,
+        &NoNotes,
         &steps,
         &mut writer,
         &mut report,

@@ -5,10 +5,10 @@ use std::io::{self, Read, Write};
 use std::test::Fail;
 use zvt_io::Over;
 use zvt_json::Form;
-use zvt_session::{EndFault, Endpoint, Ends, StepOptions, StepRun, plan, run_till_end};
+use zvt_session::{EndFault, Endpoint, Ends, NoNotes, StepOptions, StepRun, plan, run_till_end};
 use zvt_stream::{LineFault, Stream};
 use zvt_tcp::{LoopRun, run_loop};
-use zvt_till::TillSettings;
+use zvt_till::Till;
 
 /// A writer that takes nothing.
 #[derive(Drop)]
@@ -37,7 +37,16 @@ fn a_text_that_cannot_be_written(rt: HostRuntime) -> Result<(), Fail> {
             check: false,
         },
     };
-    let ended = run_loop(&rt, rt.alloc(), &run, &mut writer, &mut report);
+    let mut till = Till::with_defaults(rt.alloc());
+    let ended = run_loop(
+        &rt,
+        rt.alloc(),
+        &run,
+        &mut till,
+        &NoNotes,
+        &mut writer,
+        &mut report,
+    );
     assert!(rt; matches!(ended, Err(EndFault::Write)));
     Ok(())
 }
@@ -96,7 +105,7 @@ fn reverses<E: Write>(
         stream: Stream::new(alloc),
     };
     let mut writer = Over::new(Vec::new(alloc));
-    let settings = TillSettings::default();
+    let mut till = Till::with_defaults(alloc);
     let steps = StepRun {
         plan: plan.as_slice(),
         options: StepOptions {
@@ -104,7 +113,15 @@ fn reverses<E: Write>(
             check: false,
         },
     };
-    let ended = run_till_end(alloc, &mut line, &settings, &steps, &mut writer, report);
+    let ended = run_till_end(
+        alloc,
+        &mut line,
+        &mut till,
+        &NoNotes,
+        &steps,
+        &mut writer,
+        report,
+    );
     Ok((ended, writer.inner))
 }
 

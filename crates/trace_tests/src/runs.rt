@@ -11,13 +11,13 @@ use zvt_io::{Over, Sink, Source};
 use zvt_json::Form;
 use zvt_recorder::Recorded;
 use zvt_session::{
-    BothEnds, EndFault, Ends, NetFault, Planned, StepOptions, StepRun, config_of, currency_of,
-    password_of, plan, run_both_ends, run_till_end, serve,
+    BothEnds, EndFault, Ends, NetFault, NoNotes, Planned, StepOptions, StepRun, config_of,
+    currency_of, password_of, plan, run_both_ends, run_till_end, serve,
 };
 use zvt_stream::{Endpoint, LineFault, Stream};
 use zvt_tcp::{LoopRun, TillRun, run_loop, run_till};
 use zvt_term::{Served, Terminal, Verdict};
-use zvt_till::TillSettings;
+use zvt_till::{Till, TillSettings};
 use zvt_trace::Direction;
 
 const DEFAULT_STEPS: &str = r#"register -> registered
@@ -70,7 +70,16 @@ fn looped(rt: &HostRuntime, words: &[&str]) -> (Result<(), EndFault>, Vec<u8>) {
             check: false,
         },
     };
-    let ended = run_loop(rt, rt.alloc(), &run, &mut writer, &mut report);
+    let mut till = Till::with_defaults(rt.alloc());
+    let ended = run_loop(
+        rt,
+        rt.alloc(),
+        &run,
+        &mut till,
+        &NoNotes,
+        &mut writer,
+        &mut report,
+    );
     (ended, writer.inner)
 }
 
@@ -109,7 +118,8 @@ fn registers_and_pays(
     let ended = run_till_end(
         alloc,
         &mut line,
-        &TillSettings::default(),
+        &mut Till::with_defaults(alloc),
+        &NoNotes,
         &as_text(plan.as_slice()),
         &mut writer,
         &mut report,
@@ -192,13 +202,14 @@ fn registers_endlessly(
             verdict: Verdict::Approve,
         },
     };
-    let settings = TillSettings::default();
+    let mut till = Till::with_defaults(alloc);
     let mut writer = Over::new(Vec::new(alloc));
     let mut report = Over::new(Vec::new(alloc));
     let ended = run_both_ends(
         alloc,
         &mut line,
-        &settings,
+        &mut till,
+        &NoNotes,
         &as_text(plan.as_slice()),
         &mut writer,
         &mut report,
@@ -280,7 +291,6 @@ fn till_at(rt: &HostRuntime, port: u16, words: &[&str]) -> (Result<(), EndFault>
         host: "127.0.0.1",
         port,
         seconds: 1,
-        settings: TillSettings::default(),
         lengths: Lengths::Shortest,
         trace: None,
         show: None,
@@ -290,7 +300,16 @@ fn till_at(rt: &HostRuntime, port: u16, words: &[&str]) -> (Result<(), EndFault>
             check: false,
         },
     };
-    let ended = run_till(rt, rt.alloc(), &run, &mut writer, &mut report);
+    let mut till = Till::with_defaults(rt.alloc());
+    let ended = run_till(
+        rt,
+        rt.alloc(),
+        &run,
+        &mut till,
+        &NoNotes,
+        &mut writer,
+        &mut report,
+    );
     (ended, writer.inner)
 }
 
@@ -345,10 +364,12 @@ fn registers_recorded(
     };
     let mut writer = Over::new(Vec::new(alloc));
     let mut report = Over::new(Vec::new(alloc));
+    let mut till = Till::new(alloc, settings.password, settings.config, settings.currency);
     let ended = run_till_end(
         alloc,
         &mut line,
-        settings,
+        &mut till,
+        &NoNotes,
         &as_text(plan.as_slice()),
         &mut writer,
         &mut report,

@@ -88,5 +88,6 @@ fn print_order<R: Source, W: Sink>(
         Ok(_) => println!(rt; "pay: the terminal did not do it"),
         Err(RunFault::Order(_)) => println!(rt; "pay: the till refused the order"),
         Err(RunFault::Line(_)) => println!(rt; "pay: the line broke"),
+        Err(RunFault::Book(_)) => println!(rt; "pay: the book could not be kept"),
     }
 }

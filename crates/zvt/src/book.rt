@@ -287,7 +287,7 @@ fn report_book(rt: &HostRuntime, path: &str, till: &Till) -> io::Result<()> {
 
 /// Reports why the book could not be written, if it could not.
 pub fn report_failure(rt: &HostRuntime, device: &FileDevice) -> io::Result<()> {
-    match device.failure() {
+    match device.failure().or(device.shortage()) {
         Some(FileFailure::Displaced) => report(rt, DISPLACED),
         Some(FileFailure::Io(error) | FileFailure::Unreserved(error)) if is_full(&error) => {
             report(rt, FULL_DISK)

@@ -9,10 +9,9 @@ use crate::settings::{settings, verdict};
 use crate::{book, trace_file};
 use std::io;
 use zvt_io::Over;
-use zvt_tcp::{
-    BookRun, LoopRun, TerminalRun, TillRun, run_loop, run_loop_kept, run_terminal, run_till,
-    run_till_kept,
-};
+use zvt_session::{Clocked, NoNotes};
+use zvt_tcp::{LoopRun, TerminalRun, TillRun, run_loop, run_terminal, run_till};
+use zvt_till::Till;
 use zvt_tool::command::{connections_by, form_by, lengths_by};
 use zvt_tool::statuses::WORDS;
 use zvt_tool::{
@@ -52,17 +51,7 @@ pub fn both_ends(
         plan: plan.as_slice(),
         options,
     };
-    let mut writer = Over::new(Output::new(io::writer(rt)));
-    let mut report = Over::new(rt.stderr());
-    let answer = match kept {
-        None => run_loop(rt, rt.alloc(), &run, &mut writer, &mut report),
-        Some(mut kept) => {
-            let answer = run_loop_kept(rt, rt.alloc(), &run, &mut kept, &mut writer, &mut report);
-            crate::book::report_failure(rt, kept.device())?;
-            answer
-        }
-    };
-    let status = finish_run(rt, writer.inner.broken_pipe, answer)?;
+    let status = loop_status(rt, &run, &settings, kept)?;
     trace_file::mend_after(rt, trace, run.trace, status)
 }
 
@@ -93,7 +82,6 @@ pub fn till(rt: &HostRuntime, options: &TillOptions<'_>) -> io::Result<u8> {
         host: options.host,
         port: options.port,
         seconds: options.timeout,
-        settings,
         lengths: lengths_by(options.loose),
         trace: file.as_ref(),
         show: if options.show {
@@ -110,10 +98,7 @@ pub fn till(rt: &HostRuntime, options: &TillOptions<'_>) -> io::Result<u8> {
     if options.steps.is_empty() {
         report(rt, NO_STEPS)?;
     }
-    let status = match kept {
-        None => till_alone(rt, &run)?,
-        Some(kept) => till_with_book(rt, &run, kept)?,
-    };
+    let status = till_status(rt, &run, &settings, kept)?;
     trace_file::mend_after(rt, options.trace, run.trace, status)
 }
 
@@ -130,35 +115,94 @@ fn report_zero(rt: &HostRuntime, options: &TillOptions<'_>) -> io::Result<bool> 
     Ok(false)
 }
 
-/// Runs a new till, and answers the exit status.
-fn till_alone(rt: &HostRuntime, run: &TillRun<'_, '_>) -> io::Result<u8> {
+/// Runs both ends with the till of a book, or with a new till, and returns the exit status.
+fn loop_status(
+    rt: &HostRuntime,
+    run: &LoopRun<'_, '_>,
+    settings: &TillSettings,
+    kept: Option<KeptTill<FileDevice>>,
+) -> io::Result<u8> {
     let mut writer = Over::new(Output::new(io::writer(rt)));
     let mut report = Over::new(rt.stderr());
-    let answer = run_till(rt, rt.alloc(), run, &mut writer, &mut report);
+    let answer = match kept {
+        None => {
+            let mut till = new_till(rt, settings);
+            run_loop(
+                rt,
+                rt.alloc(),
+                run,
+                &mut till,
+                &NoNotes,
+                &mut writer,
+                &mut report,
+            )
+        }
+        Some(mut till) => {
+            let notes = Clocked { clock: rt };
+            let answer = run_loop(
+                rt,
+                rt.alloc(),
+                run,
+                &mut till,
+                &notes,
+                &mut writer,
+                &mut report,
+            );
+            book::report_failure(rt, till.device())?;
+            answer
+        }
+    };
     finish_run(rt, writer.inner.broken_pipe, answer)
 }
 
-/// Runs the till of a book, and answers the exit status.
-fn till_with_book(
+/// Runs the till of a book, or a new till, and returns the exit status.
+fn till_status(
     rt: &HostRuntime,
     run: &TillRun<'_, '_>,
-    mut kept: KeptTill<FileDevice>,
+    settings: &TillSettings,
+    kept: Option<KeptTill<FileDevice>>,
 ) -> io::Result<u8> {
-    let run = BookRun {
-        host: run.host,
-        port: run.port,
-        seconds: run.seconds,
-        lengths: run.lengths,
-        trace: run.trace,
-        show: run.show,
-        plan: run.plan,
-        options: run.options,
-    };
     let mut writer = Over::new(Output::new(io::writer(rt)));
     let mut report = Over::new(rt.stderr());
-    let answer = run_till_kept(rt, rt.alloc(), &run, &mut kept, &mut writer, &mut report);
-    book::report_failure(rt, kept.device())?;
+    let answer = match kept {
+        None => {
+            let mut till = new_till(rt, settings);
+            run_till(
+                rt,
+                rt.alloc(),
+                run,
+                &mut till,
+                &NoNotes,
+                &mut writer,
+                &mut report,
+            )
+        }
+        Some(mut till) => {
+            let notes = Clocked { clock: rt };
+            let answer = run_till(
+                rt,
+                rt.alloc(),
+                run,
+                &mut till,
+                &notes,
+                &mut writer,
+                &mut report,
+            );
+            book::report_failure(rt, till.device())?;
+            answer
+        }
+    };
     finish_run(rt, writer.inner.broken_pipe, answer)
+}
+
+/// Returns a new till of these settings.
+fn new_till(rt: &HostRuntime, settings: &TillSettings) -> Till {
+    Till::new(
+        rt.alloc(),
+        settings.password,
+        settings.config,
+        settings.currency,
+    )
 }
 
 /// Serves tills as a simulated terminal and returns the exit status. Reports text on standard error, or JSON on

@@ -1,6 +1,6 @@
 //! A file as the journal uses it: what a read returns, and what a crash may leave.
-ghost use Rattle.std.specs.Prelude.{◌≡◌, ◌≤◌, ◌<◌, Bool, true, List, [], ◌∷◌, ℕ, length, take, OnOk};
-ghost use Rattle.zvt_journal.specs.declared.device.DeviceError.TheVariants.{Memory};
+ghost use Rattle.std.specs.Prelude.{◌≡◌, ◌≤◌, ◌<◌, Bool, true, List, [], ◌∷◌, ℕ, length, take, OnErr, OnOk};
+ghost use Rattle.zvt_journal.specs.declared.device.DeviceError.TheVariants.{Failed, Memory};
 ghost use Rattle.zvt_journal.specs.Device.{Only, Follows, Torn, Swapped, Cut, Over, Elapses, HasCause};
 
 use std::alloc::{AllocError, AllocFailed};
@@ -15,6 +15,18 @@ pub enum DeviceError {
     Failed,
     /// The file has 2^60 bytes or more, or the record more than [`MAX_RECORD_LEN`](crate::MAX_RECORD_LEN). Nothing was written.
     Full,
+}
+
+/// No disk space could be reserved for the records of a payment. The file is as it was, and can still be written.
+#[derive(Clone, Copy, Debug, PartialEq, Eq)]
+pub struct NoSpace;
+
+impl From<NoSpace> for DeviceError {
+    ghost from_gives = { λ _ e. e ≡ Failed };
+
+    fn from(_: NoSpace) -> Self {
+        DeviceError::Failed
+    }
 }
 
 impl From<AllocError> for DeviceError {
@@ -59,12 +71,14 @@ pub trait Device {
     ghost has_capacity: { Self → Bool };
 
     /// Reserves disk space for the records of a payment. Does not change the file.
-    fn reserve(&mut self) -> Result<(), DeviceError>
+    fn reserve(&mut self) -> Result<(), NoSpace>
         ensures room { OnOk result (has_capacity self.new ≡ true) }
         ensures seen { seen self.new ≡ seen self.old }
         ensures crash { (file : List ℕ) → may_leave self.new file → may_leave self.old file }
-        ensures time { Elapses (moment self.old) (moment self.new) (left_since self.old) (left_since self.new) (may_leave self.new) }
-        ensures cause { HasCause (faults self.old) (faults self.new) result };
+        ensures time { Elapses (moment self.old) (moment self.new) (left_since self.old) (left_since self.new)
+            (may_leave self.new) }
+        ensures later { faults self.old ≤ faults self.new }
+        ensures cause { OnErr result (faults self.old < faults self.new) };
 
     /// Writes over the file, and past its end. Until the next `sync` a crash may leave any of them.
     fn write_at(&mut self, at: usize, bytes: &[u8]) -> Result<(), DeviceError>

@@ -1,11 +1,8 @@
 //! Changes of a file that are durable when they are done: one call on the device, and a sync.
-ghost use Rattle.std.specs.Prelude.{◌≡◌, ◌≤◌, ◌<◌, true, [], ◌∷◌, length, take, OnOk, IsErrOf};
+ghost use Rattle.std.specs.Prelude.{◌≡◌, ◌≤◌, ◌<◌, [], ◌∷◌, length, take, OnOk, IsErrOf};
 ghost use Rattle.zvt_journal.specs.Device.{Only, Torn, Swapped, Cut, Over, LeavesOnly};
 
 use crate::{Device, DeviceError};
-
-/// The first byte of the record of an order.
-const ORDER_MARK: u8 = b'#';
 
 /// Writes bytes, and makes them durable.
 pub(crate) fn write_synced<D: Device>(
@@ -57,22 +54,4 @@ pub(crate) fn cut_synced<D: Device>(device: &mut D, len: usize) -> Result<(), De
 {
     device.cut(len)?;
     device.sync()
-}
-
-/// Reserves disk space before the record of an order, so that the records after it do not find the disk full.
-pub(crate) fn reserve_for<D: Device>(device: &mut D, first: u8) -> Result<(), DeviceError>
-    requires durable { Only (D.seen device.old) (D.may_leave device.old) }
-
-    ensures room { OnOk result (first ≡ 35 → D.has_capacity device.new ≡ true) }
-    ensures seen { D.seen device.new ≡ D.seen device.old }
-    ensures durable { Only (D.seen device.new) (D.may_leave device.new) }
-    ensures any_moment { LeavesOnly D.moment D.left_since device.old device.new (λ file. file ≡ D.seen device.old) }
-    ensures failed { IsErrOf result DeviceError.Failed → D.faults device.old < D.faults device.new }
-    ensures faults { D.faults device.old ≤ D.faults device.new }
-    ensures full { IsErrOf result DeviceError.Full → ⊥ }
-{
-    if first != ORDER_MARK {
-        return Ok(());
-    }
-    device.reserve()
 }

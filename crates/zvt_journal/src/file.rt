@@ -3,13 +3,14 @@
 //! No contract of std says what a file holds. So the device notes each call and its answer in a record that contracts
 //! alone see, and what a read returns and what a crash may leave are read off that record. It is trusted that each call
 //! is made that is noted, that a file is as the crash model of `Device` says, and that nobody else writes it.
-ghost use Rattle.std.specs.Prelude.{◌≡◌, ◌↔◌, [], length, is_ok, is_some, IfErr, IfOk, IsOk, IsNone, OnOk, OnErr, MatchResult, Some};
+ghost use Rattle.std.specs.Prelude.{◌≡◌, ◌↔◌, [], ◌∷◌, length, is_err, is_ok, is_some, IfErr, IfOk, IsOk, IsNone, IsSome, OnOk, OnErr, MatchResult, Some};
 ghost use Rattle.zvt_journal.specs.Calls.{seen_after, may_leave_after, left_since_after, failed_among, counts_now, only_now, SeenMayBeLeft};
 
+use crate::call::{Call, Step};
 use crate::calls::GhostCalls;
 use crate::noted::{self, Usable};
 use crate::spare::Spare;
-use crate::{Device, DeviceError};
+use crate::{Device, DeviceError, NoSpace};
 use std::io;
 use std::os::fd::OwnedFd;
 
@@ -35,7 +36,7 @@ impl From<io::Error> for FileFailure {
 }
 
 /// A file of the operating system. After a call has failed, it makes no further calls, and each of them returns
-/// `Failed`.
+/// `Failed`. Only a reservation may fail without that.
 ///
 /// A write fails if its name now belongs to another file, or if the file does not end where the bytes belong. A write
 /// that finds the disk full uses the reserved space.
@@ -44,6 +45,8 @@ pub struct FileDevice {
     file: OwnedFd,
     spare: Spare,
     failure: Option<FileFailure>,
+    /// Why the last reservation failed, if it did.
+    shortage: Option<FileFailure>,
     pub(crate) calls: GhostCalls,
 }
 
@@ -57,15 +60,40 @@ impl FileDevice {
             file,
             spare,
             failure: None,
+            shortage: None,
             calls: GhostCalls::none(bytes),
         }
     }
 
-    /// Why the first call that failed did so.
+    /// Why the first call that failed did so, reservations left aside. The device makes no calls from then on.
     pub fn failure(&self) -> Option<FileFailure>
         ensures { result ≡ self.now.failure }
     {
         self.failure
+    }
+
+    /// Why the last reservation of disk space failed, if it did.
+    pub fn shortage(&self) -> Option<FileFailure>
+        ensures { result ≡ self.now.shortage }
+    {
+        self.shortage
+    }
+
+    /// Reserves disk space. If there is none, the device can still make calls.
+    fn hold(&mut self) -> Result<(), NoSpace>
+        ensures start { self.new.calls.start ≡ self.old.calls.start }
+        ensures made { self.new.calls.made ≡ (Call.Aside Step.Reserved, [], is_ok result) ∷ self.old.calls.made }
+        ensures room { OnOk result (IsSome self.new.spare.held) }
+        ensures usable { self.new.failure ≡ self.old.failure }
+        ensures told { is_some self.new.shortage ≡ is_err result }
+    {
+        let file = usable(&self.file, self.failure);
+        let answer = noted::reserve(&mut self.calls, file, &mut self.spare);
+        self.shortage = answer.err();
+        match answer {
+            Ok(()) => Ok(()),
+            Err(_) => Err(NoSpace),
+        }
     }
 
     /// Remembers why a call failed.
@@ -113,10 +141,8 @@ impl Device for FileDevice {
 
     ghost only_now = { λ f file left. only_now f.calls.start f.calls.made file left };
 
-    fn reserve(&mut self) -> Result<(), DeviceError> {
-        let file = usable(&self.file, self.failure);
-        let answer = noted::reserve(&mut self.calls, file, &mut self.spare);
-        self.remember(answer)
+    fn reserve(&mut self) -> Result<(), NoSpace> {
+        self.hold()
     }
 
     fn write_at(&mut self, at: usize, bytes: &[u8]) -> Result<(), DeviceError> {

@@ -5,8 +5,8 @@ ghost use Rattle.zvt_journal.specs.Files.{GoOn, GoesOn, IsKnown, IsKnownAsBefore
 ghost use Rattle.zvt_journal.specs.Opening.{NoneIsRefused};
 ghost use Rattle.zvt_journal.specs.Text.{whole, begins_marked, recovered, IsRecord, IsSettled, IsWithOrWithout, IsAsBefore, joined, HasFirst, LinesAreRecovered, RecoveredIsLines};
 
-use crate::durable::{cut_synced, reserve_for, set_synced, write_synced};
-use crate::{Device, DeviceError};
+use crate::durable::{cut_synced, set_synced, write_synced};
+use crate::{Device, DeviceError, NoSpace};
 use std::alloc::{AllocError, Global};
 
 pub(crate) const LINE_FEED: u8 = b'\n';
@@ -27,41 +27,32 @@ pub struct Journal<D: Device> {
 }
 
 impl<D: Device> Journal<D> {
-    /// Appends a record, consisting of complete lines, and makes it durable.
+    /// Reserves disk space, so that the next record and those that follow from it do not find the disk full. The file
+    /// stays as it is.
+    ///
+    /// An error comes only if the disk failed to give the space. The journal can still be used after it.
+    pub fn reserve(&mut self) -> Result<(), NoSpace>
+        requires { IsSettled (D.seen self.old.device) (D.may_leave self.old.device) self.old.gate }
+
+        ensures room { OnOk result (D.has_capacity self.new.device ≡ true) }
+        ensures seen { D.seen self.new.device ≡ D.seen self.old.device }
+        ensures settled { IsSettled (D.seen self.new.device) (D.may_leave self.new.device) self.new.gate }
+        ensures any_moment { LeavesOnly D.moment D.left_since self.old.device self.new.device
+            (λ file. file ≡ D.seen self.old.device) }
+        ensures cause { OnErr result (D.faults self.old.device < D.faults self.new.device) }
+        ensures faults { D.faults self.old.device ≤ D.faults self.new.device }
+        ensures gate { self.new.gate ≡ self.old.gate }
+    {
+        self.device.reserve()
+    }
+
+    /// Appends a record, consisting of complete lines, and makes it durable. Disk space has to be reserved for a record
+    /// that begins with `#`, as that of an order does: see [`reserve`](Journal::reserve).
     ///
     /// After `Ok`, every later crash leaves a file that contains the record. After `Err`, the file contains the
     /// earlier records, with or without the new one. `Full` and `Memory` write nothing. After `Failed`, do not use
     /// this journal again.
     pub fn append(&mut self, entry: &[u8]) -> Result<(), DeviceError>
-        requires settled { IsSettled (D.seen self.old.device) (D.may_leave self.old.device) self.old.gate }
-        requires entry { IsRecord entry.now }
-
-        ensures settled { OnOk result (IsSettled (D.seen self.new.device) (D.may_leave self.new.device) self.new.gate) }
-        ensures acknowledged { OnOk result (recovered (D.seen self.new.device) ≡ recovered (D.seen self.old.device) ++ entry.now) }
-        ensures longest { OnOk result (length entry.now ≤ 2 ^ 18) }
-
-        // A crash at any moment of the call leaves the text from before it, with the record or without.
-        ensures any_moment { LeavesOnly D.moment D.left_since self.old.device self.new.device
-            (IsWithOrWithout (recovered (D.seen self.old.device)) entry.now) }
-
-        // Opening repairs that file: no more comes after its whole lines than a record and one byte, and no line.
-        ensures repairable { LeavesOnly D.moment D.left_since self.old.device self.new.device IsRepairable }
-
-        // And opening takes it for a journal's file, if the record goes behind others or is the opening of a new one.
-        ensures known { GoesOn (recovered (D.seen self.old.device)) entry.now → LeavesOnly D.moment D.left_since self.old.device self.new.device IsKnown }
-
-        // It doesn't give up by itself.
-        ensures failed { IsErrOf result DeviceError.Failed → D.faults self.old.device < D.faults self.new.device }
-        ensures full { IsErrOf result DeviceError.Full → (2 ^ 60 ≤ self.old.gate) ⊎ (2 ^ 18 < length entry.now) }
-        ensures faults { D.faults self.old.device ≤ D.faults self.new.device }
-        ensures gate { OnErr result (self.new.gate ≡ self.old.gate) }
-    {
-        reserve_for(&mut self.device, entry[0])?;
-        self.add(entry)
-    }
-
-    /// Adds a record, for which there is room.
-    fn add(&mut self, entry: &[u8]) -> Result<(), DeviceError>
         requires settled { IsSettled (D.seen self.old.device) (D.may_leave self.old.device) self.old.gate }
         requires entry { IsRecord entry.now }
         requires room { get_or entry.now 0 0 ≡ 35 → D.has_capacity self.old.device ≡ true }
@@ -115,6 +106,7 @@ impl<D: Device> Journal<D> {
         ensures faults { D.faults self.old.device ≤ D.faults self.new.device }
     {
         for entry in entries {
+            self.reserve()?;
             self.append(entry)?;
         }
         Ok(())

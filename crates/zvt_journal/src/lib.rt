@@ -22,7 +22,7 @@ mod spare;
 mod tears;
 
 pub use create::{Noted, Opened, open_file, read_book};
-pub use device::{Device, DeviceError};
+pub use device::{Device, DeviceError, NoSpace};
 pub use error::JournalFileError;
 pub use file::{FileDevice, FileFailure, a_read_may_be_left};
 pub use journal::{

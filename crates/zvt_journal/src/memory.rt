@@ -4,7 +4,7 @@ ghost use Rattle.std.proofs.Common.{inl};
 ghost use Rattle.zvt_journal.specs.Device.{Over};
 ghost use Rattle.zvt_journal.specs.Past.{Was, only_last};
 
-use crate::{Device, DeviceError};
+use crate::{Device, DeviceError, NoSpace};
 use std::alloc::{AllocError, Global};
 
 /// A file in memory. It keeps each past content, so that a test can open what each crash would have left.
@@ -89,7 +89,7 @@ impl Device for Memory {
 
     ghost only_now = { λ m file left. only_last m.past.items m.bytes.items file left };
 
-    fn reserve(&mut self) -> Result<(), DeviceError> {
+    fn reserve(&mut self) -> Result<(), NoSpace> {
         Ok(())
     }
 

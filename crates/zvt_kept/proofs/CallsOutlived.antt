@@ -1,10 +1,19 @@
 -- What a crash leaves of a journal over many orders and lines.
 use Rattle.std.proofs.Common.{◌≡◌, ⊎_elim, inl, inr, ℕ, Bool, true, false, List, [], ◌∷◌, ◌++◌, map, Option, None, Result, Ok, Err, refl, sym, ap, subst, ◌∙◌, append_assoc}
 use Rattle.std.proofs.lemmas.List.{append-nil}
+use Rattle.zvt_stream.specs.LineRun.{Reported}
 use Rattle.zvt_stream.specs.StreamState.{StreamState}
+use Rattle.zvt_stream.specs.declared.line.LineFault.{LineFault}
+use Rattle.zvt_stream.specs.declared.line.LineFault.TheVariants.{Read, Write, Ended, Turns, Malformed, Memory, Stopped}
+use Rattle.zvt_till.specs.Line.{NotSent}
+use Rattle.zvt_till.specs.declared.keeper.BookFault.TheVariants.{NoSpace, Failed as BookFailed}
+use Rattle.zvt_till.specs.declared.line.RunFault.{RunFault}
+use Rattle.zvt_till.specs.declared.line.RunFault.TheVariants.{Order as OrderFault, Line as LineBroke, Book as BookBroke}
+use Rattle.zvt_till.proofs.Keepers.{heard-before}
 use Rattle.zvt_till.specs.declared.happenings.Happening.{Happening}
 use Rattle.zvt_till.specs.declared.happenings.Happening.TheVariants.{Connected, Sent as SentOut, Lost}
 use Rattle.zvt_till.specs.declared.orders.Order.{Order}
+use Rattle.zvt_till.specs.declared.orders.Outgoing.{Outgoing}
 use Rattle.zvt_till.specs.declared.outcomes.Outcome.{Outcome}
 use Rattle.zvt_till.specs.Events.{hears}
 use Rattle.zvt_till.specs.Refusals.{refusal, sent_as}
@@ -14,17 +23,16 @@ use Rattle.zvt_journal.specs.Device.{LeavesOnly}
 use Rattle.zvt_journal.specs.Text.{recovered}
 use Rattle.zvt_journal.specs.declared.device.DeviceError.{DeviceError}
 use Rattle.zvt_journal.proofs.Moments.{and_then}
-use Rattle.zvt_kept.specs.KeptTill.{Connects, HasLog, Hears, IsKept, Keeps, KeptValue, LeavesLogs, LosesLine, has_failed}
+use Rattle.zvt_kept.specs.Keeping.{kept_orders}
+use Rattle.zvt_kept.specs.KeptTill.{Connects, HasLog, Hears, IsKept, Keeps, KeptValue, LeavesLogs, LosesLine, Ordered, has_failed, with_note}
 use Rattle.zvt_kept.specs.Logs.{StandsFor}
 use Rattle.zvt_kept.specs.Outliving.{CallsOutlive, Did, DidAll, HappenInAll, HappensIn, IsBetween, KeptStep, connects, loses, runs}
 use Rattle.zvt_kept.specs.Runs.{RanKept}
-use Rattle.zvt_kept.specs.declared.run.KeptFault.{KeptFault}
-use Rattle.zvt_kept.specs.declared.run.KeptFault.TheVariants.{Order as OrderFault, Journal as JournalFault, Line as LineBroke}
 use Rattle.zvt_kept.proofs.Logged.{keeps_lost, weaker}
 use Rattle.zvt_kept.proofs.Made.{records_are_kept}
 use Rattle.zvt_kept.proofs.Outlived.{at_first, failed_alike, failed_by, not_both, quiet}
-use Rattle.zvt_kept.proofs.Over.{loses_by}
-use Rattle.zvt_kept.proofs.RunsOutlived.{after_messages, after_order, heard_before}
+use Rattle.zvt_kept.proofs.RunsOutlived.{after_messages, unsent_outlives}
+use Rattle.zvt_kept.proofs.Spaceless.{leaves_the_log, same_log}
 use Rattle.zvt_kept.proofs.Steps.{taken_up}
 
 -- ---- files between two logs
@@ -50,6 +58,15 @@ module _ {D : Type 0} (seen : D → List ℕ) (may_leave : D → List ℕ → Ty
   abbrev Loses : KeptValue D → KeptValue D → Type 0
   Loses = LosesLine seen may_leave moment left_since faults
 
+  loses_by : (fault : LineFault) (middle new : KeptValue D) → Reported Loses Loses fault middle new → Loses middle new
+  loses_by Read middle new r = r
+  loses_by (Ended have) middle new r = r
+  loses_by Turns middle new r = r
+  loses_by (Malformed place why) middle new r = r
+  loses_by Memory middle new r = r
+  loses_by Write middle new r = r
+  loses_by Stopped middle new r = r
+
   lost_log : (settings : Settings) (log : List Happening) (old new : KeptValue D) → Loses old new → HasLog seen may_leave moment left_since faults settings log old.standing → HasLog seen may_leave moment left_since faults settings log new.standing
   lost_log settings log old new l has =
       let d = old.standing.device in
@@ -64,20 +81,34 @@ module _ {D : Type 0} (seen : D → List ℕ) (may_leave : D → List ℕ → Ty
   refused_down : (order : Order) (state : TillState) → state.line_up ≡ false → refusal (facts_of state) order ≡ None → ⊥
   refused_down order state down none = not_both state.line_up (taken_up state order none) down
 
-  stuck_run : (order : Order) (old new : KeptValue D) → old.standing.till.state.line_up ≡ false → Did seen may_leave moment left_since faults (runs order) old new → new ≡ old
-  stuck_run order old new down did = by_result did.9 did.10
-    where
-      by_result : (result : Result Outcome KeptFault) → RanKept seen may_leave moment left_since faults order did.0 did.1 old new did.2 did.3 did.4 did.5 did.6 did.7 did.8 result → new ≡ old
-      by_result (Ok outcome) ran = absurd (refused_down order old.standing.till.state down ran.sends.ordered.taken)
-      by_result (Err (OrderFault why)) ran = ran.1
-      by_result (Err JournalFault) ran = ⊎_elim (λ lost. absurd (refused_down order old.standing.till.state down lost.0.taken)) (λ broke. absurd (refused_down order old.standing.till.state down broke.3.ordered.taken)) ran.3
-      by_result (Err (LineBroke fault)) ran = ⊎_elim (λ unsent. absurd (refused_down order old.standing.till.state down unsent.3.taken)) (λ broke. absurd (refused_down order old.standing.till.state down broke.3.ordered.taken)) ran
+  -- so no order is taken
+  none_taken : (order : Order) (outgoing : Outgoing) (old new : KeptValue D) → old.standing.till.state.line_up ≡ false → Ordered seen may_leave moment left_since faults order outgoing old.standing new.standing → ⊥
+  none_taken order outgoing old new down o = refused_down order old.standing.till.state down o.taken
+
+  stuck_unsent : (order : Order) (fault : RunFault) (old new : KeptValue D) (first last : Option (List ℕ)) → old.standing.till.state.line_up ≡ false
+      → NotSent (kept_orders seen may_leave moment left_since faults) (LosesLine seen may_leave moment left_since faults) fault order old new first last → new ≡ old
+  stuck_unsent order (OrderFault why) old new first last down n = n.0.1
+  stuck_unsent order (BookBroke NoSpace) old new first last down n = absurd (refused_down order old.standing.till.state down n.0.0.taken)
+  stuck_unsent order (BookBroke BookFailed) old new first last down n = absurd (refused_down order old.standing.till.state down n.0.2.taken)
+  stuck_unsent order (LineBroke fault) old new first last down n = absurd (none_taken order n.1 old n.2 down n.3.0.0)
+
+  stuck_run : (order : Order) (old new : KeptValue D) (before after : StreamState) (coming left first last : Option (List ℕ)) (turns reads_before reads_after : ℕ) (result : Result Outcome RunFault)
+      → old.standing.till.state.line_up ≡ false → RanKept seen may_leave moment left_since faults order before after old new coming left first last turns reads_before reads_after result → new ≡ old
+  stuck_run order old new before after coming left first last turns reads_before reads_after (Ok outcome) down ran =
+      absurd (none_taken order ran.comes.sends.outgoing old ran.comes.sent_till down ran.comes.sends.ordered.0.0)
+  stuck_run order old new before after coming left first last turns reads_before reads_after (Err fault) down ran = ⊎_elim
+      (λ unsent. stuck_unsent order fault old new first last down unsent.0)
+      (λ more. ⊎_elim
+      (λ broke. absurd (none_taken order broke.2.sends.outgoing old broke.2.sent_till down broke.2.sends.ordered.0.0))
+      (λ failed. absurd (none_taken order failed.2.sends.outgoing old failed.2.sent_till down failed.2.sends.ordered.0.0))
+      more)
+      ran
 
   -- a till whose journal failed leaves its file alone
   stuck : (step : KeptStep) (old new : KeptValue D) → has_failed old ≡ true → old.standing.till.state.line_up ≡ false → Did seen may_leave moment left_since faults step old new
       → (has_failed new ≡ true) × (new.standing.device ≡ old.standing.device)
   stuck (runs order) old new failed down did =
-      let same = stuck_run order old new down did in
+      let same = stuck_run order (with_note old did.0) new did.1 did.2 did.3 did.4 did.5 did.6 did.7 did.8 did.9 did.10 down did.11 in
       (ap (λ (k : KeptValue D). has_failed k) same ∙ failed, ap (λ (k : KeptValue D). k.standing.device) same)
   stuck connects old new failed down did = by_result did.0 did.1
     where
@@ -115,44 +146,56 @@ module _ {D : Type 0} (seen : D → List ℕ) (may_leave : D → List ℕ → Ty
     lost_after : (settings : Settings) (log : List Happening) (middle new : KeptValue D) → Loses middle new → (has_failed middle ≡ false → HasLog seen may_leave moment left_since faults settings log middle.standing) → has_failed new ≡ false → HasLog seen may_leave moment left_since faults settings log new.standing
     lost_after settings log middle new l has whole = lost_log settings log middle new l (has (sym (failed_alike new middle l.3) ∙ whole))
 
-    run_outlived : (settings : Settings) (log : List Happening) (order : Order) (old new : KeptValue D) (before after : StreamState) (coming left first last : Option (List ℕ)) (turns reads_before reads_after : ℕ) (result : Result Outcome KeptFault)
+    -- an order that was not sent
+    unsent_outlived : (settings : Settings) (log : List Happening) (order : Order) (fault : RunFault) (old new : KeptValue D) (first last : Option (List ℕ))
+        → HasLog seen may_leave moment left_since faults settings log old.standing → NotSent (kept_orders seen may_leave moment left_since faults) (LosesLine seen may_leave moment left_since faults) fault order old new first last → Outlived settings log (runs order) old new
+    unsent_outlived settings log order (OrderFault why) old new first last has n = unchanged settings log (runs order) old new (inl refl) has n.0.1
+    unsent_outlived settings log order (BookBroke NoSpace) old new first last has n = record {
+      happened = [];
+      by = inl refl;
+      leaves = leaves_the_log seen may_leave moment left_since faults order old.standing new.standing n.0.0 settings log [] has;
+      then = λ whole. subst (λ l. HasLog seen may_leave moment left_since faults settings l new.standing) (sym (append-nil log)) (same_log seen may_leave moment left_since faults order old.standing new.standing n.0.0 settings log has);
+    }
+    unsent_outlived settings log order (BookBroke BookFailed) old new first last has n = record {
+      happened = SentOut (sent_as settings.currency order) ∷ [];
+      by = inr ([], refl);
+      leaves = unsent_outlives seen may_leave moment left_since faults only_now settings log order (BookBroke BookFailed) old new first last has n;
+      then = λ whole. absurd (not_both (has_failed new) (failed_by new n.0.0 n.0.1) whole);
+    }
+    unsent_outlived settings log order (LineBroke fault) old new first last has n = record {
+      happened = SentOut (sent_as settings.currency order) ∷ [];
+      by = inr ([], refl);
+      leaves = unsent_outlives seen may_leave moment left_since faults only_now settings log order (LineBroke fault) old new first last has n;
+      then = lost_after settings (log ++ SentOut (sent_as settings.currency order) ∷ []) n.2 new n.4 (λ whole. n.3.0.0.logs settings log has);
+    }
+
+    run_outlived : (settings : Settings) (log : List Happening) (order : Order) (old new : KeptValue D) (before after : StreamState) (coming left first last : Option (List ℕ)) (turns reads_before reads_after : ℕ) (result : Result Outcome RunFault)
         → HasLog seen may_leave moment left_since faults settings log old.standing → RanKept seen may_leave moment left_since faults order before after old new coming left first last turns reads_before reads_after result → Outlived settings log (runs order) old new
     run_outlived settings log order old new before after coming left first last turns reads_before reads_after (Ok outcome) has ran =
-        let heard = ran.pumped.course.heard in
-        let all = after_messages seen may_leave moment left_since faults only_now settings log order ran.sends.outgoing old ran.sent_till new heard.messages heard.answers has ran.sends.ordered heard.heard in
+        let comes = ran.comes in
+        let heard = comes.pumped.course.heard in
+        let all = after_messages seen may_leave moment left_since faults only_now settings log order comes.sends.outgoing old comes.sent_till new heard.messages heard.answers has comes.sends.ordered.0.0 heard.heard in
         record { happened = SentOut (sent_as settings.currency order) ∷ map hears heard.messages; by = inr (heard.messages, refl); leaves = all.0; then = all.1 }
-    run_outlived settings log order old new before after coming left first last turns reads_before reads_after (Err (OrderFault why)) has ran = unchanged settings log (runs order) old new (inl refl) has ran.1
-    run_outlived settings log order old new before after coming left first last turns reads_before reads_after (Err JournalFault) has ran = ⊎_elim
-        (λ lost. record {
-          happened = SentOut (sent_as settings.currency order) ∷ [];
-          by = inr ([], refl);
-          leaves = after_order seen may_leave moment left_since faults only_now settings log order old.standing.device new.standing.device [] (lost.0.outlives settings log has);
-          then = λ whole. absurd (not_both (has_failed new) (failed_by new ran.0 ran.1) whole);
-        })
+    run_outlived settings log order old new before after coming left first last turns reads_before reads_after (Err fault) has ran = ⊎_elim
+        (λ unsent. unsent_outlived settings log order fault old new first last has unsent.0)
+        (λ more. ⊎_elim
         (λ broke.
-        let heard = broke.4.course.heard in
-        let all = after_messages seen may_leave moment left_since faults only_now settings log order broke.3.outgoing old broke.0 new heard.messages heard.answers has broke.3.ordered heard.heard in
-        record { happened = SentOut (sent_as settings.currency order) ∷ map hears heard.messages; by = inr (heard.messages, refl); leaves = all.0; then = all.1 })
-        ran.3
-    run_outlived settings log order old new before after coming left first last turns reads_before reads_after (Err (LineBroke fault)) has ran = ⊎_elim
-        (λ unsent. record {
-          happened = SentOut (sent_as settings.currency order) ∷ [];
-          by = inr ([], refl);
-          leaves = subst (λ (d : D). LeavesOnly moment left_since old.standing.device d (IsBetween settings.currency log (SentOut (sent_as settings.currency order) ∷ []))) (sym unsent.4.1)
-              (after_order seen may_leave moment left_since faults only_now settings log order old.standing.device unsent.2.standing.device [] (unsent.3.outlives settings log has));
-          then = lost_after settings (log ++ SentOut (sent_as settings.currency order) ∷ []) unsent.2 new unsent.4 (λ whole. unsent.3.logs settings log has);
-        })
-        (λ broke.
-        let middle = broke.2 in
-        let h = heard_before (Hears seen may_leave moment left_since faults) fault before after broke.4.read broke.4.written broke.0 middle broke.4.breaks in
-        let all = after_messages seen may_leave moment left_since faults only_now settings log order broke.3.outgoing old broke.0 middle h.0 h.1 has broke.3.ordered h.2 in
-        let gone = loses_by seen may_leave moment left_since faults fault middle new broke.5 in
+        let b = broke.2 in
+        let h = heard-before (Hears seen may_leave moment left_since faults) broke.0 before after b.broken.read b.broken.written b.sent_till b.middle b.broken.breaks in
+        let all = after_messages seen may_leave moment left_since faults only_now settings log order b.sends.outgoing old b.sent_till b.middle h.0 h.1 has b.sends.ordered.0.0 h.2 in
+        let gone = loses_by broke.0 b.middle new b.reported in
         record {
           happened = SentOut (sent_as settings.currency order) ∷ map hears h.0;
           by = inr (h.0, refl);
           leaves = subst (λ (d : D). LeavesOnly moment left_since old.standing.device d (IsBetween settings.currency log (SentOut (sent_as settings.currency order) ∷ map hears h.0))) (sym gone.1) all.0;
-          then = lost_after settings (log ++ SentOut (sent_as settings.currency order) ∷ map hears h.0) middle new gone all.1;
+          then = lost_after settings (log ++ SentOut (sent_as settings.currency order) ∷ map hears h.0) b.middle new gone all.1;
         })
+        (λ failed.
+        let comes = failed.2 in
+        let heard = comes.pumped.course.heard in
+        let all = after_messages seen may_leave moment left_since faults only_now settings log order comes.sends.outgoing old comes.sent_till new heard.messages heard.answers has comes.sends.ordered.0.0 heard.heard in
+        record { happened = SentOut (sent_as settings.currency order) ∷ map hears heard.messages; by = inr (heard.messages, refl); leaves = all.0; then = all.1 })
+        more)
         ran
 
     all_or_none : (settings : Settings) (log happened : List Happening) (file : List ℕ) → LeavesLogs settings log happened file → IsBetween settings.currency log happened file
@@ -187,7 +230,9 @@ module _ {D : Type 0} (seen : D → List ℕ) (may_leave : D → List ℕ → Ty
         c
 
     call_outlived : (settings : Settings) (log : List Happening) (step : KeptStep) (old new : KeptValue D) → HasLog seen may_leave moment left_since faults settings log old.standing → Did seen may_leave moment left_since faults step old new → Outlived settings log step old new
-    call_outlived settings log (runs order) old new has did = run_outlived settings log order old new did.0 did.1 did.2 did.3 did.4 did.5 did.6 did.7 did.8 did.9 has did.10
+    call_outlived settings log (runs order) old new has did =
+        let o = run_outlived settings log order (with_note old did.0) new did.1 did.2 did.3 did.4 did.5 did.6 did.7 did.8 did.9 did.10 has did.11 in
+        record { happened = o.happened; by = o.by; leaves = o.leaves; then = o.then }
     call_outlived settings log connects old new has did = connect_outlived settings log old new did.0 has did.1
     call_outlived settings log loses old new has did = record {
       happened = [];

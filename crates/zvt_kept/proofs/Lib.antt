@@ -5,7 +5,6 @@ mod CheckLemmas
 mod Crashed
 mod Failing
 mod Kept
-pub mod Known
 mod LineLemmas
 mod Logged
 mod Made
@@ -14,8 +13,7 @@ mod OpeningLemmas
 mod Numbers
 mod Opened
 mod Outlived
-mod Over
-mod Places
+mod Ordered
 mod ReadLines
 mod Recovering
 mod Relived
@@ -23,8 +21,9 @@ mod Remarked
 mod RowNoteLemmas
 mod Rows
 mod RunsOutlived
-mod Sent
+mod Reserved
 mod Short
+mod Spaceless
 mod Steps
 mod WordLemmas
 mod Worlds

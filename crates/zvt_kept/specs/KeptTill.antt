@@ -4,6 +4,9 @@ use Rattle.zvt_apdu.specs.Message.{Message}
 use Rattle.zvt_stream.specs.Answered.{Answered}
 use Rattle.zvt_till.specs.declared.happenings.Happening.{Happening}
 use Rattle.zvt_till.specs.declared.happenings.Happening.TheVariants.{Connected, Sent as SentOut, Lost}
+use Rattle.zvt_till.specs.declared.keeper.BookFault.TheVariants.{NoSpace, Failed as BookFailed}
+use Rattle.zvt_till.specs.declared.keeper.Untaken.{Untaken}
+use Rattle.zvt_till.specs.declared.keeper.Untaken.TheVariants.{Order as Refused, Book as Unkept}
 use Rattle.zvt_till.specs.declared.orders.Order.{Order}
 use Rattle.zvt_till.specs.declared.orders.Outgoing.{Outgoing}
 use Rattle.zvt_till.specs.Events.{hears}
@@ -21,8 +24,6 @@ use Rattle.zvt_journal.specs.declared.device.DeviceError.{DeviceError}
 use Rattle.zvt_journal.specs.declared.device.DeviceError.TheVariants.{Memory, Failed, Full}
 use Rattle.zvt_kept.specs.Records.{Kept, IsRecordOf, opening, order_record}
 use Rattle.zvt_kept.specs.Logs.{StandsFor}
-use Rattle.zvt_kept.specs.declared.refusal.KeptRefusal.{KeptRefusal}
-use Rattle.zvt_kept.specs.declared.refusal.KeptRefusal.TheVariants.{Order as OrderRefused, Journal as JournalFailed}
 
 -- a till, and the device and the gate of its journal
 pub record Standing (D : Type 0) : Type 0 where
@@ -35,6 +36,15 @@ pub record KeptValue (D : Type 0) : Type 0 where
   pub standing : Standing D
   -- why the journal failed, if it did
   pub failure : Option DeviceError
+  -- the note of the next order
+  pub note : List ℕ
+
+-- the till, without its journal
+abbrev pub till_of : {D : Type 0} → KeptValue D → TillValue
+till_of kept = kept.standing.till
+
+abbrev pub with_note : {D : Type 0} → KeptValue D → List ℕ → KeptValue D
+with_note kept note = record kept { note = note }
 
 -- a till with its journal rests where no order runs
 abbrev pub kept_rests : {D : Type 0} → KeptValue D → Bool
@@ -66,12 +76,6 @@ IsKept true seen may_leave gate state = state.line_up ≡ false
 abbrev pub LeavesLogs : Settings → (before happened : List Happening) → List ℕ → Type 0
 LeavesLogs settings before happened file =
     StandsFor settings.currency (recovered file) before ⊎ StandsFor settings.currency (recovered file) (before ++ happened)
-
--- why the journal has failed, if it did, after an order was answered so
-abbrev pub failure_after : {A : Type 0} → Option DeviceError → Result A KeptRefusal → Option DeviceError
-failure_after before (Ok a) = before
-failure_after before (Err (OrderRefused why)) = before
-failure_after before (Err (JournalFailed why)) = Some why
 
 -- The cause of a record that was not made durable: the disk failed once more, or the journal has 2^60 bytes. Nothing is said of
 -- memory, which may always be refused.
@@ -157,10 +161,26 @@ module _ {D : Type 0} (seen : D → List ℕ) (may_leave : D → List ℕ → Ty
     pub heard : KeepsHeard old.till new.till
     pub outlives : Outlives (order_sent order) old new
 
-  abbrev pub Orders : Order → (old new : Standing D) → Result Outgoing KeptRefusal → Type 0
-  Orders order old new (Ok outgoing) = Ordered order outgoing old new
-  Orders order old new (Err (OrderRefused why)) = IsRefusedAs (facts_of old.till.state) old.till.spare order why × (new ≡ old)
-  Orders order old new (Err (JournalFailed why)) = OrderLost order why old new
+  -- An order would be taken, but the disk gave no room for its records. Nothing came of it: the till is as it was, but for places
+  -- that it may have gained, and so are the file and the records in it, at each moment.
+  pub record FindsNoSpace (order : Order) (old new : Standing D) : Type 0 where
+    pub cause : faults old.device < faults new.device
+    pub taken : refusal (facts_of old.till.state) order ≡ None
+    pub state : new.till.state ≡ old.till.state
+    pub room : old.till.spare ≤ new.till.spare
+    pub numbers : new.till.numbers ≡ old.till.numbers
+    pub heard : new.till.heard ≡ old.till.heard
+    pub file : seen new.device ≡ seen old.device
+    pub settled : IsSettled (seen new.device) (may_leave new.device) new.gate
+    pub leaves : LeavesOnly moment left_since old.device new.device (λ file. file ≡ seen old.device)
+    pub stays : new.gate ≡ old.gate
+
+  -- An order was answered so, and why the journal failed before and after, if it did.
+  abbrev pub Orders : Order → (note : List ℕ) → (old new : Standing D) → (was is : Option DeviceError) → Result Outgoing Untaken → Type 0
+  Orders order note old new was is (Ok outgoing) = Ordered order outgoing old new × (is ≡ was) × HasNoted seen order note old.device new.device
+  Orders order note old new was is (Err (Refused why)) = IsRefusedAs (facts_of old.till.state) old.till.spare order why × (new ≡ old) × (is ≡ was)
+  Orders order note old new was is (Err (Unkept NoSpace)) = FindsNoSpace order old new × (is ≡ was)
+  Orders order note old new was is (Err (Unkept BookFailed)) = (why : DeviceError) × (is ≡ Some why) × OrderLost order why old new
 
   -- A message was heard by a till whose line is up, and its record is durable.
   pub record HeardKept (message : Message) (answered : Answered) (old new : Standing D) : Type 0 where

@@ -10,4 +10,5 @@ pub mod Records
 pub mod Recovery
 pub mod Remarks
 pub mod RowNotes
+pub mod Keeping
 pub mod Runs

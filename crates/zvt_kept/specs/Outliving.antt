@@ -6,6 +6,7 @@ use Rattle.zvt_stream.specs.Hearing.{Hears as HearsAll}
 use Rattle.zvt_stream.specs.StreamState.{StreamState}
 use Rattle.zvt_till.specs.declared.happenings.Happening.{Happening}
 use Rattle.zvt_till.specs.declared.happenings.Happening.TheVariants.{Connected, Sent as SentOut, Lost}
+use Rattle.zvt_till.specs.declared.line.RunFault.{RunFault}
 use Rattle.zvt_till.specs.declared.orders.Order.{Order}
 use Rattle.zvt_till.specs.declared.outcomes.Outcome.{Outcome}
 use Rattle.zvt_till.specs.Events.{hears}
@@ -20,9 +21,8 @@ use Rattle.zvt_journal.specs.Text.{recovered}
 use Rattle.zvt_kept.specs.Crashes.{KeptMove, crashes, kept_world}
 use Rattle.zvt_kept.specs.Logs.{StandsFor}
 use Rattle.zvt_kept.specs.Recovery.{Recovers}
-use Rattle.zvt_kept.specs.KeptTill.{Connects, HasLog, Hears, IsKept, KeptValue, LosesLine, has_failed}
+use Rattle.zvt_kept.specs.KeptTill.{Connects, HasLog, Hears, IsKept, KeptValue, LosesLine, has_failed, with_note}
 use Rattle.zvt_kept.specs.Runs.{RanKept}
-use Rattle.zvt_kept.specs.declared.run.KeptFault.{KeptFault}
 use Rattle.zvt_kept.specs.declared.recovery.RecoveryError.{RecoveryError}
 use Rattle.zvt_kept.specs.declared.recovery.RecoveryError.TheVariants.{Opening, Check, Line, Record, Memory}
 
@@ -33,7 +33,7 @@ pub record IsBetween (currency : ℕ) (first happened : List Happening) (file : 
   pub is_part : happened ≡ part ++ rest
   pub recorded : StandsFor currency (recovered file) (first ++ part)
 
--- a call of a till with its journal: it runs an order, has a line, or loses it
+-- a call of a till with its journal: it runs an order, with a note that it may have been given, has a line, or loses it
 pub data KeptStep : Type 0 where
   runs : (order : Order) → KeptStep
   connects : KeptStep
@@ -83,7 +83,7 @@ module _ {D : Type 0} (seen : D → List ℕ) (may_leave : D → List ℕ → Ty
   -- ones of the messages that were read.
   abbrev pub RunsOutlive : Type 0
   RunsOutlive =
-      (settings : Settings) (log : List Happening) (order : Order) (before after : StreamState) (old new : KeptValue D) (coming left first last : Option (List ℕ)) (turns reads_before reads_after : ℕ) (result : Result Outcome KeptFault)
+      (settings : Settings) (log : List Happening) (order : Order) (before after : StreamState) (old new : KeptValue D) (coming left first last : Option (List ℕ)) (turns reads_before reads_after : ℕ) (result : Result Outcome RunFault)
       → HasLog seen may_leave moment left_since faults settings log old.standing → RanKept seen may_leave moment left_since faults order before after old new coming left first last turns reads_before reads_after result
       → (messages : List Message) × LeavesOnly moment left_since old.standing.device new.standing.device (IsBetween settings.currency log (SentOut (sent_as settings.currency order) ∷ map hears messages))
 
@@ -92,7 +92,7 @@ module _ {D : Type 0} (seen : D → List ℕ) (may_leave : D → List ℕ → Ty
   -- what a till with its journal did, by one of its calls
   abbrev pub Did : KeptStep → (old new : KeptValue D) → Type 0
   Did (runs order) old new =
-      (before after : StreamState) × (coming left first last : Option (List ℕ)) × (turns reads_before reads_after : ℕ) × (result : Result Outcome KeptFault) × RanKept seen may_leave moment left_since faults order before after old new coming left first last turns reads_before reads_after result
+      (note : List ℕ) × (before after : StreamState) × (coming left first last : Option (List ℕ)) × (turns reads_before reads_after : ℕ) × (result : Result Outcome RunFault) × RanKept seen may_leave moment left_since faults order before after (with_note old note) new coming left first last turns reads_before reads_after result
   Did connects old new = (result : Result Unit DeviceError) × Connects seen may_leave moment left_since faults old new result
   Did loses old new = LosesLine seen may_leave moment left_since faults old new
 

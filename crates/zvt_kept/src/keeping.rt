@@ -14,39 +14,45 @@ ghost use Rattle.zvt_till.specs.Till.{facts_of};
 
 use crate::note::Note;
 use crate::records::{put_heard, put_lost, put_opening, put_order};
-use crate::refusal::KeptRefusal;
 use std::alloc::Global;
 use zvt_apdu::{ApduView, Brief, MAX_BRIEF_LEN};
 use zvt_bcd::Currency;
-use zvt_journal::{Device, DeviceError, Journal};
+use zvt_journal::{Device, DeviceError, Journal, NoSpace};
 use zvt_stream::Answers;
 use zvt_text::Text;
-use zvt_till::{Heard, Order, Outgoing, Till, heard_view, reply_to};
+use zvt_till::{BookFault, Heard, Order, Outgoing, Till, Untaken, heard_view, reply_to};
 
-/// Gives the till an order once its journal has it, and returns the message to send.
+/// Gives the till an order once its journal has it, and returns the message to send. An order that the till refuses asks for
+/// no disk space, and one for which there is none leaves the till and the journal's records as they were. If the journal
+/// fails, `failure` says why.
 pub(crate) fn take_order<D: Device>(
     alloc: Global,
     till: &mut Till,
     journal: &mut Journal<D>,
+    failure: &mut Option<DeviceError>,
     order: Order,
     note: &Note,
-) -> Result<Outgoing, KeptRefusal>
+) -> Result<Outgoing, Untaken>
     requires { till.old.state.line_up ≡ true → KeepsSome (D.seen journal.old.device) (D.may_leave journal.old.device) journal.old.gate till.old.state }
-    ensures orders { Orders D.seen D.may_leave D.moment D.left_since D.faults order
+    ensures { Orders D.seen D.may_leave D.moment D.left_since D.faults order note.now
         (record { till = till.old; device = journal.old.device; gate = journal.old.gate })
-        (record { till = till.new; device = journal.new.device; gate = journal.new.gate }) result }
-    ensures noted { OnOk result (HasNoted D.seen order note.now journal.old.device journal.new.device) }
+        (record { till = till.new; device = journal.new.device; gate = journal.new.gate }) failure.old failure.new result }
 {
     has_words(till, &order);
-    let outgoing = match till.order(order) {
-        Err(why) => return Err(KeptRefusal::Order(why)),
+    let outgoing = match till.prepare(&order) {
+        Err(why) => return Err(Untaken::Order(why)),
         Ok(outgoing) => outgoing,
     };
+    if let Err(NoSpace) = journal.reserve() {
+        return Err(Untaken::Book(BookFault::NoSpace));
+    }
+    till.begin(order);
     match keep_order(alloc, journal, &order, note, &outgoing) {
         Ok(()) => Ok(outgoing),
         Err(why) => {
             let _ = till.lost();
-            Err(KeptRefusal::Journal(why))
+            *failure = Some(why);
+            Err(Untaken::Book(BookFault::Failed))
         }
     }
 }
@@ -103,6 +109,7 @@ fn keep_order<D: Device>(
     outgoing: &Outgoing,
 ) -> Result<(), DeviceError>
     requires settled { IsSettled (D.seen journal.old.device) (D.may_leave journal.old.device) journal.old.gate }
+    requires room { D.has_capacity journal.old.device ≡ true }
     requires spelled { IsSpelledOrder order.now }
     ensures recorded { Recorded D.seen D.may_leave D.moment D.left_since D.faults (ordered order.now note.now) journal.old.device journal.new.device journal.old.gate journal.new.gate result }
     ensures noted { OnOk result (HasNoted D.seen order.now note.now journal.old.device journal.new.device) }
@@ -142,6 +149,7 @@ pub(crate) fn keep_opening<D: Device>(
 {
     let mut text = Text::new(alloc);
     put_opening(&mut text, currency)?;
+    journal.reserve()?;
     journal.append(text.bytes())
 }
 

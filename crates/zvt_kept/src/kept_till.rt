@@ -4,13 +4,12 @@ ghost use Rattle.std.specs.Prelude.{◌≡◌};
 use crate::keeping::{keep_lost, keep_opening, take_message, take_order};
 use crate::note::Note;
 use crate::recovery::{Recovered, RecoveryError, recover};
-use crate::refusal::KeptRefusal;
 use std::alloc::{AllocError, Global};
 use std::marker::Model;
 use zvt_apdu::ApduView;
 use zvt_journal::{Device, DeviceError, Journal};
 use zvt_stream::{Answers, Machine};
-use zvt_till::{Order, Outgoing, Till, TillSettings};
+use zvt_till::{BookFault, Keeper, Order, Outgoing, Till, TillSettings, Untaken};
 
 /// A till that writes ahead: an order is durable before you get the bytes to send, and a message is durable before the
 /// till processes it. If the journal fails, the till drops its connection and sends nothing more.
@@ -20,6 +19,8 @@ pub struct KeptTill<D: Device> {
     journal: Journal<D>,
     /// Why the journal failed, if it did.
     failure: Option<DeviceError>,
+    /// The note of the next order.
+    note: Note,
 }
 
 /// Why no journal was begun, and its device.
@@ -35,7 +36,7 @@ impl<D: Device> Model for KeptTill<D> {
 
     ghost Value = { KeptValue D };
 
-    ghost view = { λ k. record { standing = record { till = k.till; device = k.journal.device; gate = k.journal.gate }; failure = k.failure } };
+    ghost view = { λ k. record { standing = record { till = k.till; device = k.journal.device; gate = k.journal.gate }; failure = k.failure; note = k.note } };
 
     ghost invariant = { λ k. IsKept (is_some k.failure) (D.seen k.journal.device) (D.may_leave k.journal.device) k.journal.gate k.till.state };
 }
@@ -87,6 +88,7 @@ impl<D: Device + Drop> KeptTill<D> {
             till,
             journal,
             failure: None,
+            note: Note::none(),
         })
     }
 
@@ -117,13 +119,13 @@ impl<D: Device + Drop> KeptTill<D> {
             till,
             journal,
             failure: None,
+            note: Note::none(),
         })
     }
 }
 
 impl<D: Device> KeptTill<D> {
-    ghost use Rattle.std.specs.Prelude.{None, OnOk};
-    ghost use Rattle.zvt_kept.specs.KeptTill.{HasNoted, IsKept, Orders, Connects, LosesLine, failure_after, has_failed};
+    ghost use Rattle.zvt_kept.specs.KeptTill.{Connects, IsKept, LosesLine, has_failed, with_note};
 
     /// The till, to look at.
     pub fn till(&self) -> &Till
@@ -140,13 +142,6 @@ impl<D: Device> KeptTill<D> {
         &self.journal.device
     }
 
-    /// Whether the journal failed. The till's line is down then, and stays so.
-    pub fn has_failed(&self) -> bool
-        ensures { result ≡ has_failed self.now }
-    {
-        self.failure.is_some()
-    }
-
     /// Why the journal failed, if it did.
     pub fn failure(&self) -> Option<DeviceError>
         ensures { result ≡ self.now.failure }
@@ -154,30 +149,15 @@ impl<D: Device> KeptTill<D> {
         self.failure
     }
 
-    /// Starts an order and returns the message to send. The order's record, with the note, is durable by then.
-    pub fn order(
-        &mut self,
-        alloc: Global,
-        order: Order,
-        note: &Note,
-    ) -> Result<Outgoing, KeptRefusal>
-        ensures orders { Orders D.seen D.may_leave D.moment D.left_since D.faults order self.old.standing self.new.standing result }
-        ensures failure { self.new.failure ≡ failure_after self.old.failure result }
-        ensures whole { OnOk result (self.new.failure ≡ None) }
-        ensures noted { OnOk result (HasNoted D.seen order note.now self.old.standing.device self.new.standing.device) }
+    /// Gives the next orders this note, which their records have.
+    pub fn note_next(&mut self, note: Note)
+        ensures { self.new ≡ with_note self.old note }
     {
-        match take_order(alloc, &mut self.till, &mut self.journal, order, note) {
-            Ok(outgoing) => Ok(outgoing),
-            Err(KeptRefusal::Order(why)) => Err(KeptRefusal::Order(why)),
-            Err(KeptRefusal::Journal(why)) => {
-                self.failure = Some(why);
-                Err(KeptRefusal::Journal(why))
-            }
-        }
+        self.note = note;
     }
 
     /// The line is up. A record says that an earlier line was lost. Nothing changes where the line is up.
-    pub fn connected(&mut self, alloc: Global) -> Result<(), DeviceError>
+    fn connected(&mut self, alloc: Global) -> Result<(), DeviceError>
         ensures { Connects D.seen D.may_leave D.moment D.left_since D.faults self.old self.new result }
     {
         if self.failure.is_some() {
@@ -207,8 +187,7 @@ impl<D: Device> KeptTill<D> {
 /// journal fails.
 impl<D: Device> Machine for KeptTill<D> {
     ghost use Rattle.std.specs.Prelude.{false};
-    ghost use Rattle.zvt_kept.specs.KeptTill.{Hears, LosesLine};
-    ghost use Rattle.zvt_till.specs.Line.{till_rests};
+    ghost use Rattle.zvt_kept.specs.KeptTill.{Hears, LosesLine, kept_rests};
 
     ghost hears = { λ old message answered new. Hears D.seen D.may_leave D.moment D.left_since D.faults old message answered new };
 
@@ -216,7 +195,7 @@ impl<D: Device> Machine for KeptTill<D> {
 
     ghost malforms = { λ old new. LosesLine D.seen D.may_leave D.moment D.left_since D.faults old new };
 
-    ghost is_resting = { λ k. till_rests k.standing.till };
+    ghost is_resting = { kept_rests };
 
     ghost wants_memory = { false };
 
@@ -243,5 +222,47 @@ impl<D: Device> Machine for KeptTill<D> {
 
     fn malformed(&mut self) {
         self.line_lost();
+    }
+}
+
+/// Each order is durable, with its note, before you get the message to send. Space for all records of an order is reserved
+/// before: without it the order is not taken, and nothing changes.
+impl<D: Device> Keeper for KeptTill<D> {
+    ghost use Rattle.std.specs.Prelude.{refl};
+    ghost use Rattle.zvt_kept.specs.Keeping.{kept_connects, kept_follows, kept_orders};
+    ghost use Rattle.zvt_kept.specs.KeptTill.{has_failed, till_of};
+
+    ghost till = { till_of };
+
+    ghost failed = { has_failed };
+
+    ghost orders = { λ old order result new.
+        kept_orders D.seen D.may_leave D.moment D.left_since D.faults old order result new };
+
+    ghost connects = { λ old result new.
+        kept_connects D.seen D.may_leave D.moment D.left_since D.faults old result new };
+
+    ghost follows = { kept_follows D.seen D.may_leave D.moment D.left_since D.faults };
+
+    ghost frugal = { refl };
+
+    fn look(&self) -> &Till {
+        &self.till
+    }
+
+    fn has_failed(&self) -> bool {
+        self.failure.is_some()
+    }
+
+    fn order(&mut self, alloc: Global, order: Order) -> Result<Outgoing, Untaken> {
+        let (till, journal) = (&mut self.till, &mut self.journal);
+        take_order(alloc, till, journal, &mut self.failure, order, &self.note)
+    }
+
+    fn connect(&mut self, alloc: Global) -> Result<(), BookFault> {
+        match self.connected(alloc) {
+            Ok(()) => Ok(()),
+            Err(_) => Err(BookFault::Failed),
+        }
     }
 }

@@ -13,9 +13,7 @@ mod lines;
 mod note;
 mod records;
 mod recovery;
-mod refusal;
 mod row_notes;
-mod run;
 mod words;
 
 pub use keeping::answers_to;
@@ -29,6 +27,4 @@ pub use lines::{RecordError, read_records};
 pub use note::{MAX_REFERENCE_LEN, Note, is_reference};
 pub use records::{Entry, put_heard, put_lost, put_opening, put_order};
 pub use recovery::{Recovered, RecoveryError, recover};
-pub use refusal::KeptRefusal;
-pub use run::{KeptFault, run_order_kept};
 pub use words::size_before;

@@ -3,9 +3,9 @@ pub mod Runs
 pub mod ObjectLemmas
 pub mod NamedSteps
 pub mod Turns
-pub mod TurnsKept
-pub mod KeptRuns
 pub mod Seen
+pub mod Alone
+pub mod There
 pub mod Parts
 pub mod Unclear
 pub mod BookObjects

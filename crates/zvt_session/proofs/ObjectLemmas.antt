@@ -8,7 +8,8 @@ use Rattle.zvt_json.specs.Fields.{words_of}
 use Rattle.zvt_json.specs.Strings.{byte_value, line_text}
 use Rattle.zvt_text.specs.Results.{meaning_of}
 use Rattle.zvt_till.specs.declared.line.RunFault.{RunFault}
-use Rattle.zvt_till.specs.declared.line.RunFault.TheVariants.{Order, Line}
+use Rattle.zvt_till.specs.declared.keeper.BookFault.TheVariants.{NoSpace, Failed}
+use Rattle.zvt_till.specs.declared.line.RunFault.TheVariants.{Order, Line, Book as BookBroke}
 use Rattle.zvt_till.specs.declared.outcomes.Outcome.{Outcome}
 use Rattle.zvt_till.specs.declared.outcomes.Outcome.TheVariants.{Registered, Paid, Declined, Refused, Aborted, Unclear, Reversed, DayClosed}
 use Rattle.zvt_session.specs.Objects.{ended_so, outcome_value, step_value, total_value}
@@ -39,3 +40,6 @@ step_whole word (Ok outcome) last = outcome_whole word outcome
 step_whole word (Err (Order why)) last = refl
 step_whole word (Err (Line fault)) None = refl
 step_whole word (Err (Line fault)) (Some outcome) = outcome_whole word outcome
+step_whole word (Err (BookBroke NoSpace)) last = refl
+step_whole word (Err (BookBroke Failed)) None = refl
+step_whole word (Err (BookBroke Failed)) (Some outcome) = outcome_whole word outcome

@@ -4,34 +4,41 @@ use Rattle.std.proofs.Math.Seq.{take-suc}
 use Rattle.std.proofs.lemmas.List.{take-append-drop, flat_map_more}
 use Rattle.std.proofs.lemmas.Option.{same_Some}
 use Rattle.std.specs.Io.KnownBytes.{Appends}
+use Rattle.std.specs.String.{string_bytes}
 use Rattle.zvt_io.specs.Devices.{IsPrefix}
 use Rattle.zvt_session.specs.declared.plans.StepOptions.{StepOptions}
 use Rattle.zvt_stream.proofs.HearingLemmas.{appends_none}
 use Rattle.std.proofs.KnownBytes.{Appends-trans}
-use Rattle.zvt_stream.specs.declared.line.LineFault.{LineFault}
 use Rattle.zvt_till.proofs.Segments.{list_any-snoc}
 use Rattle.zvt_till.specs.Marks.{total}
 use Rattle.zvt_till.specs.View.{TillValue}
 use Rattle.zvt_till.specs.declared.line.RunFault.{RunFault}
-use Rattle.zvt_till.specs.declared.line.RunFault.TheVariants.{Order, Line}
+use Rattle.zvt_till.specs.declared.line.RunFault.TheVariants.{Order, Line, Book as BookBroke}
 use Rattle.zvt_till.specs.declared.outcomes.Outcome.{Outcome}
 use Rattle.zvt_session.specs.declared.fault.EndFault.{EndFault}
 use Rattle.zvt_session.specs.declared.fault.EndFault.TheVariants.{BadStep, Book, Line as LineBroke, Memory, Net, Silent, Trace, Unsuccessful, Write}
 use Rattle.zvt_session.specs.declared.plans.Planned.{Planned}
-use Rattle.zvt_session.specs.Made.{Made, fault_of, fell_short, made_line, made_lines, some_short}
+use Rattle.zvt_session.specs.Made.{Made, fell_short, made_line, made_lines, some_short, stop_of}
 use Rattle.zvt_session.specs.Notes.{made_note, notes_text}
 use Rattle.zvt_session.specs.Objects.{total_line}
-use Rattle.zvt_session.specs.Runs.{Answers, AnswersText, BreaksIn, GoesOn, IsMissing, Law, MakesAll, MakesTo, Ran, Standing, WritesPart, made_of}
+use Rattle.zvt_session.specs.Runs.{Answers, AnswersText, BreaksIn, GoesOn, IsMissing, Law, MakesAll, MakesTo, Ran, Standing, StepLaw, WritesPart, made_of, noting}
+use Rattle.zvt_session.specs.Words.{IsNoteOf}
+
+-- a till that was given the note of its step's word made the step
+pub noted_by : {L T : Type 0} (noted : T → List ℕ → T) (makes : StepLaw L T) (line : L) (till ready : T) (planned : Planned) (result : Result Outcome RunFault) (left : L) (new : T) (word : List ℕ)
+    → word ≡ string_bytes planned.word → (note : List ℕ) × IsNoteOf word note × (ready ≡ noted till note) → makes line ready planned.step result left new → noting noted makes line till planned result left new
+noted_by {T = T} noted makes line till ready planned result left new word is n made =
+    (n.0, subst (λ (w : List ℕ). IsNoteOf w n.0) is n.1, subst (λ (t : T). makes line t planned.step result left new) n.2 made)
 
 -- one step more
 makes_one_more : {L T : Type 0} (seen : T → TillValue) (makes : Law L T) (plan : List Planned) (planned : Planned) (result : Result Outcome RunFault) (before middle after : Standing L T) (all : List Made)
-    → MakesAll seen makes plan before middle all → makes middle.line middle.till planned.step result after.line after.till → GoesOn result
+    → MakesAll seen makes plan before middle all → makes middle.line middle.till planned result after.line after.till → GoesOn result
     → MakesAll seen makes (plan ++ planned ∷ []) before after (all ++ made_of seen planned result after.till ∷ [])
 makes_one_more {L} {T} seen makes [] planned result before middle after all made one goes = (
   result,
   after,
   [],
-  subst (λ (s : Standing L T). makes s.line s.till planned.step result after.line after.till) made.0 one,
+  subst (λ (s : Standing L T). makes s.line s.till planned result after.line after.till) made.0 one,
   goes,
   (refl, refl),
   ap (λ (ms : List Made). ms ++ made_of seen planned result after.till ∷ []) made.1,
@@ -70,7 +77,7 @@ pub record Then {L T : Type 0} (seen : T → TillValue) (makes : Law L T) (optio
   pub middle : Standing L T
   pub earlier : List Made
   pub all : MakesAll seen makes done before middle earlier
-  pub made : makes middle.line middle.till planned.step result after.line after.till
+  pub made : makes middle.line middle.till planned result after.line after.till
   pub appended : Appends old now (made_lines options.form earlier)
   pub fell : short ≡ some_short earlier
   pub noted : Noted (notes_text (earlier ++ made_of seen planned result after.till ∷ []))
@@ -83,7 +90,7 @@ taken xs i x below is = rw add-one (take-suc xs i x below ∙ ap (λ y. take i x
 
 -- a step was made and its note reported
 pub then : {L T : Type 0} (seen : T → TillValue) (makes : Law L T) (options : StepOptions) (Noted Now : List ℕ → Type 0) (done : List Planned) (planned : Planned) (result : Result Outcome RunFault) (short : Bool) (before middle after : Standing L T) (old now : Option (List ℕ))
-    → SoFar seen makes options Noted done short before middle old now → makes middle.line middle.till planned.step result after.line after.till
+    → SoFar seen makes options Noted done short before middle old now → makes middle.line middle.till planned result after.line after.till
     → ((text : List ℕ) → Noted text → Now (text ++ made_note (made_of seen planned result after.till)))
     → Then seen makes options Now done planned result before after old now short
 then seen makes options Noted Now done planned result short before middle after old now so one note = record {
@@ -117,14 +124,9 @@ one_more {L} {T} seen makes options Noted plan i planned result short next befor
       noted = so.noted;
     })
 
-broken_by : (result : Result Outcome RunFault) (fault : LineFault) → fault_of result ≡ Some fault → result ≡ Err (Line fault)
-broken_by (Ok outcome) fault h = absurd (cc)
-broken_by (Err (Order why)) fault h = absurd (cc)
-broken_by (Err (Line broken)) fault h = ap (λ (f : LineFault). Err (Line f)) (same_Some broken fault h)
-
--- the step in which the line broke
-breaks_in : {L T : Type 0} (seen : T → TillValue) (makes : Law L T) (options : StepOptions) (Noted : List ℕ → Type 0) (plan : List Planned) (i : ℕ) (planned : Planned) (result : Result Outcome RunFault) (fault : LineFault) (short : Bool) (before after : Standing L T) (old now : Option (List ℕ))
-    → i < length plan → planned ≡ get_or plan i planned → fault_of result ≡ Some fault → (so : Then seen makes options Noted (take i plan) planned result before after old now short)
+-- the step that stopped the run
+breaks_in : {L T : Type 0} (seen : T → TillValue) (makes : Law L T) (options : StepOptions) (Noted : List ℕ → Type 0) (plan : List Planned) (i : ℕ) (planned : Planned) (result : Result Outcome RunFault) (fault : EndFault) (short : Bool) (before after : Standing L T) (old now : Option (List ℕ))
+    → i < length plan → planned ≡ get_or plan i planned → stop_of result ≡ Some fault → (so : Then seen makes options Noted (take i plan) planned result before after old now short)
     → BreaksIn seen makes plan fault before after (so.earlier ++ made_of seen planned result after.till ∷ [])
 breaks_in {L} {T} seen makes options Noted plan i planned result fault short before after old now below is some so = record {
   done = take i plan;
@@ -134,23 +136,37 @@ breaks_in {L} {T} seen makes options Noted plan i planned result fault short bef
   earlier = so.earlier;
   cut = cut_at plan i planned below is;
   made = so.all;
-  breaks = subst (λ (r : Result Outcome RunFault). makes so.middle.line so.middle.till planned.step r after.line after.till) (broken_by result fault some) so.made;
-  whole = ap (λ (r : Result Outcome RunFault). so.earlier ++ made_of seen planned r after.till ∷ []) (broken_by result fault some);
+  result = result;
+  breaks = so.made;
+  stops = some;
+  whole = refl;
 }
 
-pub broke : {L T : Type 0} (seen : T → TillValue) (makes : Law L T) (options : StepOptions) (Noted : List ℕ → Type 0) (plan : List Planned) (i : ℕ) (planned : Planned) (result : Result Outcome RunFault) (fault : LineFault) (short : Bool) (before after : Standing L T) (old now next new : Option (List ℕ))
-    → i < length plan → planned ≡ get_or plan i planned → fault_of result ≡ Some fault → Then seen makes options Noted (take i plan) planned result before after old now short
+-- a run that was stopped answers why
+stopped : {L T : Type 0} (seen : T → TillValue) (makes : Law L T) (options : StepOptions) (Noted : List ℕ → Type 0) (plan : List Planned) (before after : Standing L T) (old new : Option (List ℕ)) (result : Result Outcome RunFault) (fault : EndFault)
+    → stop_of result ≡ Some fault → Ran seen makes options Noted plan (Some fault) before after old new → Answers seen makes options Noted plan before after old new (Err fault)
+stopped seen makes options Noted plan before after old new (Ok outcome) fault some run = absurd (cc)
+stopped seen makes options Noted plan before after old new (Err (Order why)) fault some run = absurd (cc)
+stopped seen makes options Noted plan before after old new (Err (Line broken)) fault some run =
+    let is : LineBroke broken ≡ fault = same_Some (LineBroke broken) fault some in
+    subst (λ (f : EndFault). Answers seen makes options Noted plan before after old new (Err f)) is (subst (λ (f : EndFault). Ran seen makes options Noted plan (Some f) before after old new) (sym is) run)
+stopped seen makes options Noted plan before after old new (Err (BookBroke why)) fault some run =
+    let is : Book ≡ fault = same_Some Book fault some in
+    subst (λ (f : EndFault). Answers seen makes options Noted plan before after old new (Err f)) is (subst (λ (f : EndFault). Ran seen makes options Noted plan (Some f) before after old new) (sym is) run)
+
+pub broke : {L T : Type 0} (seen : T → TillValue) (makes : Law L T) (options : StepOptions) (Noted : List ℕ → Type 0) (plan : List Planned) (i : ℕ) (planned : Planned) (result : Result Outcome RunFault) (fault : EndFault) (short : Bool) (before after : Standing L T) (old now next new : Option (List ℕ))
+    → i < length plan → planned ≡ get_or plan i planned → stop_of result ≡ Some fault → Then seen makes options Noted (take i plan) planned result before after old now short
     → Appends now next (made_line options.form (made_of seen planned result after.till))
-    → Appends next new (total_line options.form (total (seen after.till).state.book)) → Ran seen makes options Noted plan (Some fault) before after old new
+    → Appends next new (total_line options.form (total (seen after.till).state.book)) → Answers seen makes options Noted plan before after old new (Err fault)
 broke seen makes options Noted plan i planned result fault short before after old now next new below is some so line trailing =
     let m = made_of seen planned result after.till in
-    record {
+    stopped seen makes options Noted plan before after old new result fault some (record {
       all = so.earlier ++ m ∷ [];
       made = breaks_in seen makes options Noted plan i planned result fault short before after old now below is some so;
       appended = Appends-trans old next new (made_lines options.form (so.earlier ++ m ∷ [])) (total_line options.form (total (seen after.till).state.book))
           (subst (λ t. Appends old next t) (lines_more options so.earlier m) (Appends-trans old now next (made_lines options.form so.earlier) (made_line options.form m) so.appended line)) trailing;
       noted = so.noted;
-    }
+    })
 
 -- ---- where a text could not be written whole
 
@@ -180,7 +196,7 @@ line_stops seen makes options Noted plan i planned result short before after old
 -- neither the line nor the note of a step
 pub runs_out : {L T : Type 0} (seen : T → TillValue) (makes : Law L T) (options : StepOptions) (Noted : List ℕ → Type 0) (plan : List Planned) (i : ℕ) (planned : Planned) (result : Result Outcome RunFault) (short : Bool) (before middle after : Standing L T) (old now : Option (List ℕ))
     → i < length plan → planned ≡ get_or plan i planned → SoFar seen makes options Noted (take i plan) short before middle old now
-    → makes middle.line middle.till planned.step result after.line after.till → Answers seen makes options Noted plan before after old now (Err Memory)
+    → makes middle.line middle.till planned result after.line after.till → Answers seen makes options Noted plan before after old now (Err Memory)
 runs_out seen makes options Noted plan i planned result short before middle after old now below is so made = inl (record {
   done = take i plan;
   planned = planned;
@@ -196,7 +212,7 @@ runs_out seen makes options Noted plan i planned result short before middle afte
 })
 
 -- the total
-stops_in_total : {L T : Type 0} (seen : T → TillValue) (makes : Law L T) (options : StepOptions) (Noted : List ℕ → Type 0) (plan : List Planned) (broken : Option LineFault) (all : List Made) (before after : Standing L T) (old now new : Option (List ℕ)) (fault : EndFault)
+stops_in_total : {L T : Type 0} (seen : T → TillValue) (makes : Law L T) (options : StepOptions) (Noted : List ℕ → Type 0) (plan : List Planned) (broken : Option EndFault) (all : List Made) (before after : Standing L T) (old now new : Option (List ℕ)) (fault : EndFault)
     → MakesTo seen makes plan broken before after all → Appends old now (made_lines options.form all) → Noted (notes_text all)
     → AnswersText (total_line options.form (total (seen after.till).state.book)) now new (Err fault) → Answers seen makes options Noted plan before after old new (Err fault)
 stops_in_total seen makes options Noted plan broken all before after old now new Write made appended noted text = inr (record { broken = broken; all = all; between = now; made = made; appended = appended; partly = text; noted = noted })
@@ -209,8 +225,8 @@ stops_in_total seen makes options Noted plan broken all before after old now new
 stops_in_total seen makes options Noted plan broken all before after old now new Book made appended noted text = absurd text
 stops_in_total seen makes options Noted plan broken all before after old now new Unsuccessful made appended noted text = absurd text
 
-pub broken_total_stops : {L T : Type 0} (seen : T → TillValue) (makes : Law L T) (options : StepOptions) (Noted : List ℕ → Type 0) (plan : List Planned) (i : ℕ) (planned : Planned) (result : Result Outcome RunFault) (fault : LineFault) (short : Bool) (before after : Standing L T) (old now next new : Option (List ℕ)) (stop : EndFault)
-    → i < length plan → planned ≡ get_or plan i planned → fault_of result ≡ Some fault → Then seen makes options Noted (take i plan) planned result before after old now short
+pub broken_total_stops : {L T : Type 0} (seen : T → TillValue) (makes : Law L T) (options : StepOptions) (Noted : List ℕ → Type 0) (plan : List Planned) (i : ℕ) (planned : Planned) (result : Result Outcome RunFault) (fault : EndFault) (short : Bool) (before after : Standing L T) (old now next new : Option (List ℕ)) (stop : EndFault)
+    → i < length plan → planned ≡ get_or plan i planned → stop_of result ≡ Some fault → Then seen makes options Noted (take i plan) planned result before after old now short
     → Appends now next (made_line options.form (made_of seen planned result after.till))
     → AnswersText (total_line options.form (total (seen after.till).state.book)) next new (Err stop) → Answers seen makes options Noted plan before after old new (Err stop)
 broken_total_stops seen makes options Noted plan i planned result fault short before after old now next new stop below is some so line text =

@@ -9,8 +9,7 @@ pub mod Runs
 pub mod LineEnd
 pub mod TillEnd
 pub mod BothEnds
-pub mod Kept
-pub mod BothKept
+pub mod TillRuns
 pub mod Books
 pub mod BookObjects
 pub mod Service

@@ -1,6 +1,5 @@
 -- One end of a line, at which a machine has its turns.
-use Rattle.std.specs.Prelude.{◌≡◌, ℕ, ◌+◌, Bool, List, Option}
-use Rattle.std.specs.Io.KnownBytes.{Appends}
+use Rattle.std.specs.Prelude.{◌≡◌, ℕ, ◌+◌, Bool, List, Option, Result}
 use Rattle.zvt_apdu.specs.Message.{Message}
 use Rattle.zvt_stream.specs.Answered.{Answered}
 use Rattle.zvt_stream.specs.LineRun.{Broken, Reported, failed_reads, failed_writes}
@@ -10,9 +9,10 @@ use Rattle.zvt_stream.specs.declared.line.LineFault.{LineFault}
 use Rattle.zvt_stream.specs.declared.line.Until.{Until}
 use Rattle.zvt_stream.specs.declared.line.Until.TheVariants.{Sent}
 use Rattle.zvt_till.specs.Line.{NotSent, Sends, writes_failed}
-use Rattle.zvt_till.specs.View.{TillValue}
+use Rattle.zvt_till.specs.declared.keeper.Untaken.{Untaken}
 use Rattle.zvt_till.specs.declared.line.RunFault.{RunFault}
 use Rattle.zvt_till.specs.declared.orders.Order.{Order}
+use Rattle.zvt_till.specs.declared.orders.Outgoing.{Outgoing}
 
 -- an end, as contracts see its devices: how many reads were made, failed ones included, and how many reads and writes failed
 pub record EndState : Type 0 where
@@ -44,20 +44,15 @@ pub record OneFails (fault : LineFault) (old new : EndState) : Type 0 where
   pub reads : new.failed_reads ≡ old.failed_reads + failed_reads fault
   pub writes : new.failed_writes ≡ old.failed_writes + failed_writes fault
 
--- a message was written, and nothing read
-pub record Wrote (message : List ℕ) (before after : EndState) : Type 0 where
-  pub appended : Appends before.written after.written message
-  pub reads_nothing : ReadsNothing before after
-
 -- the order was taken and written
-pub record Ordered (order : Order) (before : EndState) (old : TillValue) (after : EndState) (new : TillValue) : Type 0 where
-  pub sends : Sends order old new before.written after.written
+pub record Ordered {K : Type 0} (orders : K → Order → Result Outgoing Untaken → K → Type 0) (order : Order) (before : EndState) (old : K) (after : EndState) (new : K) : Type 0 where
+  pub sends : Sends orders order old new before.written after.written
   pub reads_nothing : ReadsNothing before after
   pub written_whole : after.failed_writes ≡ before.failed_writes
 
--- the order was refused, or could not be written
-pub record NotOrdered (fault : RunFault) (order : Order) (before : EndState) (old : TillValue) (after : EndState) (new : TillValue) : Type 0 where
-  pub not_sent : NotSent fault order old new before.written after.written
+-- the order was not taken, or could not be written
+pub record NotOrdered {K : Type 0} (orders : K → Order → Result Outgoing Untaken → K → Type 0) (loses : K → K → Type 0) (fault : RunFault) (order : Order) (before : EndState) (old : K) (after : EndState) (new : K) : Type 0 where
+  pub not_sent : NotSent orders loses fault order old new before.written after.written
   pub reads_nothing : ReadsNothing before after
   pub failed_write : after.failed_writes ≡ before.failed_writes + writes_failed fault
 

@@ -3,14 +3,15 @@ use Rattle.std.specs.Prelude.{◌==◌, not, ℕ, Bool, true, false, List, Optio
 use Rattle.std.specs.List.{flat_map, list_any}
 use Rattle.std.specs.String.{string_bytes}
 use Rattle.zvt_json.specs.declared.form.Form.{Form}
-use Rattle.zvt_stream.specs.declared.line.LineFault.{LineFault}
 use Rattle.zvt_till.specs.View.{TillValue}
 use Rattle.zvt_till.specs.declared.line.RunFault.{RunFault}
-use Rattle.zvt_till.specs.declared.line.RunFault.TheVariants.{Order, Line}
+use Rattle.zvt_till.specs.declared.line.RunFault.TheVariants.{Order, Line, Book as BookBroke}
 use Rattle.zvt_till.specs.declared.orders.OrderRefusal.{OrderRefusal}
 use Rattle.zvt_till.specs.declared.orders.OrderRefusal.TheVariants.{Memory as NoMemory}
 use Rattle.zvt_till.specs.declared.outcomes.Outcome.{Outcome}
 use Rattle.zvt_till.specs.declared.outcomes.Outcome.TheVariants.{Registered, Paid, Declined, Aborted, Reversed, DayClosed}
+use Rattle.zvt_session.specs.declared.fault.EndFault.{EndFault}
+use Rattle.zvt_session.specs.declared.fault.EndFault.TheVariants.{Book, Line as LineBroke}
 use Rattle.zvt_session.specs.declared.plans.Planned.{Planned}
 use Rattle.zvt_session.specs.declared.arguments.Step.{Step}
 use Rattle.zvt_session.specs.declared.arguments.Step.TheVariants.{Register, Pay, Reverse, CloseDay, Decline}
@@ -22,11 +23,12 @@ pub record Made : Type 0 where
   pub result : Result Outcome RunFault
   pub till : TillValue
 
--- how the line broke, if it did
-abbrev pub fault_of : Result Outcome RunFault → Option LineFault
-fault_of (Ok outcome) = None
-fault_of (Err (Order why)) = None
-fault_of (Err (Line fault)) = Some fault
+-- why no further step is made, if so: the line broke, or the book could not be kept
+abbrev pub stop_of : Result Outcome RunFault → Option EndFault
+stop_of (Ok outcome) = None
+stop_of (Err (Order why)) = None
+stop_of (Err (Line fault)) = Some (LineBroke fault)
+stop_of (Err (BookBroke why)) = Some Book
 
 -- the order was not sent where memory runs out
 abbrev pub is_memory : OrderRefusal → Bool
@@ -37,6 +39,7 @@ abbrev pub wants_memory : Result Outcome RunFault → Bool
 wants_memory (Ok outcome) = false
 wants_memory (Err (Order why)) = is_memory why
 wants_memory (Err (Line fault)) = false
+wants_memory (Err (BookBroke why)) = false
 
 -- a step succeeded: its order ended as it was meant to; a payment that the terminal was to decline ended with that code
 abbrev pub succeeded : Step → Outcome → Bool

@@ -9,7 +9,8 @@ use Rattle.zvt_till.specs.Names.{cause_name, cause_words, refusal_name, refusal_
 use Rattle.zvt_till.specs.View.{TillValue}
 use Rattle.zvt_till.specs.declared.entries.Entry.{Entry}
 use Rattle.zvt_till.specs.declared.line.RunFault.{RunFault}
-use Rattle.zvt_till.specs.declared.line.RunFault.TheVariants.{Order, Line}
+use Rattle.zvt_till.specs.declared.keeper.BookFault.TheVariants.{NoSpace, Failed}
+use Rattle.zvt_till.specs.declared.line.RunFault.TheVariants.{Order, Line, Book as BookBroke}
 use Rattle.zvt_till.specs.declared.numbers.Numbers.{Numbers}
 use Rattle.zvt_till.specs.declared.orders.OrderRefusal.{OrderRefusal}
 use Rattle.zvt_till.specs.declared.outcomes.Cause.{Cause}
@@ -94,6 +95,11 @@ why_unsent why = codes " (" ++ refusal_name why ++ codes "): " ++ refusal_words 
 abbrev pub unsent_note : List ℕ → OrderRefusal → List ℕ
 unsent_note word why = codes "zvt: " ++ word ++ codes " was not sent" ++ why_unsent why
 
+-- of an order for whose records the book had no room, after the word of its step
+abbrev pub no_space_note : List ℕ → List ℕ
+no_space_note word =
+    codes "zvt: " ++ word ++ codes " was not sent (NoSpace): the disk of the book has no room for the records of a payment: free some space, then run the step again\n"
+
 -- of an order that the till says ended so, if it does
 abbrev pub last_note : Step → Option Outcome → TillValue → List ℕ
 last_note step None till = []
@@ -104,6 +110,8 @@ abbrev pub step_note : (word : List ℕ) → Step → Result Outcome RunFault �
 step_note word step (Ok outcome) till = outcome_note step outcome till
 step_note word step (Err (Order why)) till = unsent_note word why
 step_note word step (Err (Line fault)) till = last_note step till.state.last_outcome till
+step_note word step (Err (BookBroke NoSpace)) till = no_space_note word
+step_note word step (Err (BookBroke Failed)) till = last_note step till.state.last_outcome till
 
 abbrev pub made_note : Made → List ℕ
 made_note made = step_note (string_bytes made.planned.word) made.planned.step made.result made.till

@@ -12,14 +12,14 @@ use Rattle.zvt_text.specs.Results.{meaning_of}
 use Rattle.zvt_stream.specs.declared.line.LineFault.TheVariants.{Turns}
 use Rattle.zvt_till.specs.Names.{cause_name, refusal_name}
 use Rattle.zvt_till.specs.declared.line.RunFault.{RunFault}
-use Rattle.zvt_till.specs.declared.line.RunFault.TheVariants.{Order, Line}
-use Rattle.zvt_till.specs.declared.orders.OrderRefusal.{OrderRefusal}
+use Rattle.zvt_till.specs.declared.keeper.BookFault.TheVariants.{NoSpace, Failed}
+use Rattle.zvt_till.specs.declared.line.RunFault.TheVariants.{Order, Line, Book as BookBroke}
 use Rattle.zvt_till.specs.declared.orders.OrderRefusal.TheVariants.{NotRegistered}
 use Rattle.zvt_till.specs.declared.outcomes.Cause.{Cause}
 use Rattle.zvt_till.specs.declared.outcomes.Cause.TheVariants.{NoStatus}
 use Rattle.zvt_till.specs.declared.outcomes.Outcome.{Outcome}
 use Rattle.zvt_till.specs.declared.outcomes.Outcome.TheVariants.{Registered, Paid, Declined, Refused, Aborted, Unclear, Reversed, DayClosed}
-use Rattle.zvt_session.specs.Outcomes.{ending_text, step_text, total_text}
+use Rattle.zvt_session.specs.Outcomes.{ending_text, no_space, step_text, total_text}
 
 -- the word of a step, and what comes after it
 abbrev pub of_step : List ℕ → Members → Members
@@ -60,11 +60,11 @@ outcome_value word (Unclear cause) = unclear_value word cause
 outcome_value word Reversed = ended_value (codes "reversed") word
 outcome_value word DayClosed = ended_value (codes "day closed") word
 
--- a step whose order was not sent
-abbrev pub unsent_value : List ℕ → OrderRefusal → Data
-unsent_value word why = object (member (codes "outcome") (string (codes "not sent")) (member (codes "reason") (string (refusal_name why)) (of_step word no_members)))
+-- a step whose order was not sent for this reason
+abbrev pub unsent_value : (word reason : List ℕ) → Data
+unsent_value word reason = object (member (codes "outcome") (string (codes "not sent")) (member (codes "reason") (string reason) (of_step word no_members)))
 
--- a step in which the line broke, where the till says how its order ended
+-- a step in which the line broke or the book failed, where the till says how its order ended
 abbrev pub broken_value : List ℕ → Option Outcome → Data
 broken_value word None = object (of_step word no_members)
 broken_value word (Some outcome) = outcome_value word outcome
@@ -72,8 +72,10 @@ broken_value word (Some outcome) = outcome_value word outcome
 -- what became of a step, where the till says so of the order that ended last
 abbrev pub step_value : List ℕ → Result Outcome RunFault → Option Outcome → Data
 step_value word (Ok outcome) last = outcome_value word outcome
-step_value word (Err (Order why)) last = unsent_value word why
+step_value word (Err (Order why)) last = unsent_value word (refusal_name why)
 step_value word (Err (Line fault)) last = broken_value word last
+step_value word (Err (BookBroke NoSpace)) last = unsent_value word no_space
+step_value word (Err (BookBroke Failed)) last = broken_value word last
 
 abbrev pub total_value : ℕ → Data
 total_value total = object (member (codes "total") (count_value total) no_members)
@@ -116,6 +118,10 @@ an_unclear_payment = refl
 not_sent : step_line Json (codes "pay:1") (Err (Order NotRegistered)) (Some Reversed) ≡ codes "{\"outcome\":\"not sent\",\"reason\":\"NotRegistered\",\"step\":\"pay:1\"}\n"
 unfolding escape_byte
 not_sent = refl
+
+without_room : step_line Json (codes "pay:1") (Err (BookBroke NoSpace)) (Some Reversed) ≡ codes "{\"outcome\":\"not sent\",\"reason\":\"NoSpace\",\"step\":\"pay:1\"}\n"
+unfolding escape_byte
+without_room = refl
 
 -- a line that broke in an order
 broken_off : step_line Json (codes "close") (Err (Line Turns)) (Some DayClosed) ≡ codes "{\"outcome\":\"day closed\",\"step\":\"close\"}\n"

@@ -5,7 +5,8 @@ use Rattle.zvt_text.specs.Numbers.{numbers_text}
 use Rattle.zvt_text.specs.Results.{result_words}
 use Rattle.zvt_till.specs.Names.{cause_name, refusal_name}
 use Rattle.zvt_till.specs.declared.line.RunFault.{RunFault}
-use Rattle.zvt_till.specs.declared.line.RunFault.TheVariants.{Order, Line}
+use Rattle.zvt_till.specs.declared.keeper.BookFault.TheVariants.{NoSpace, Failed}
+use Rattle.zvt_till.specs.declared.line.RunFault.TheVariants.{Order, Line, Book as BookBroke}
 use Rattle.zvt_till.specs.declared.outcomes.Outcome.{Outcome}
 use Rattle.zvt_till.specs.declared.outcomes.Outcome.TheVariants.{Registered, Paid, Declined, Refused, Aborted, Unclear, Reversed, DayClosed}
 
@@ -27,7 +28,11 @@ outcome_text (Unclear cause) = codes "unclear " ++ cause_name cause
 outcome_text Reversed = codes "reversed"
 outcome_text DayClosed = codes "day closed"
 
--- what became of the order of a line that broke
+-- the name of the fault that a book has no room for the records of an order
+abbrev pub no_space : List ℕ
+no_space = codes "NoSpace"
+
+-- what became of the order of a line that broke, or of a book that failed
 abbrev pub broken_text : Option Outcome → List ℕ
 broken_text None = []
 broken_text (Some outcome) = outcome_text outcome
@@ -37,6 +42,8 @@ abbrev pub ending_text : Result Outcome RunFault → Option Outcome → List ℕ
 ending_text (Ok outcome) last = outcome_text outcome
 ending_text (Err (Order why)) last = codes "not sent: " ++ refusal_name why
 ending_text (Err (Line fault)) last = broken_text last
+ending_text (Err (BookBroke NoSpace)) last = codes "not sent: " ++ no_space
+ending_text (Err (BookBroke Failed)) last = broken_text last
 
 -- the line of a step
 abbrev pub step_text : List ℕ → List ℕ → List ℕ

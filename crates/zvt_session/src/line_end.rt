@@ -1,13 +1,11 @@
 //! One end of a connection, at which a machine takes its turns.
-ghost use Rattle.std.specs.Prelude.{◌≡◌, MatchResult};
-ghost use Rattle.zvt_till.specs.View.{TillValue};
-ghost use Rattle.zvt_till.specs.declared.line.RunFault.{RunFault};
-ghost use Rattle.zvt_session.specs.LineEnd.{EndState, NotOrdered, Ordered, ReadsNothing, Turn, TurnBreaks, Wrote};
+ghost use Rattle.std.specs.Prelude.{MatchResult};
+ghost use Rattle.zvt_session.specs.LineEnd.{EndState, NotOrdered, Ordered, Turn, TurnBreaks};
 
 use std::alloc::Global;
 use zvt_io::{Sink, Source};
 use zvt_stream::{Endpoint, LineFault, Machine, Until, pump};
-use zvt_till::{Order, RunFault, Till, send_order};
+use zvt_till::{Keeper, Order, RunFault, send_order};
 
 /// The reads of one turn.
 const READS_OF_A_TURN: u64 = 1_000;
@@ -17,17 +15,16 @@ pub trait LineEnd {
     /// Its stream, what is to come, what was written, the reads made, and how many reads and writes failed.
     ghost state: { Self → EndState };
 
-    /// Gives the till an order, and writes its message. Where that fails the till has lost its line.
-    fn order(&mut self, till: &mut Till, order: Order) -> Result<(), RunFault>
+    /// Gives the till an order, and writes its message. If the write fails, the till has lost its line and the fault is `Write`.
+    fn order<K: Keeper>(
+        &mut self,
+        alloc: Global,
+        till: &mut K,
+        order: Order,
+    ) -> Result<(), RunFault>
         ensures { MatchResult result
-            (λ _. Ordered order (state self.old) till.old (state self.new) till.new)
-            (λ fault. NotOrdered fault order (state self.old) till.old (state self.new) till.new) };
-
-    /// Writes a message. Its only fault is `Write`, which is reported to no machine.
-    fn send(&mut self, message: &[u8]) -> Result<(), LineFault>
-        ensures { MatchResult result
-            (λ _. Wrote message.now (state self.old) (state self.new))
-            (λ fault. (fault ≡ LineFault.Write) × ReadsNothing (state self.old) (state self.new)) };
+            (λ _. Ordered K.orders order (state self.old) till.old (state self.new) till.new)
+            (λ fault. NotOrdered K.orders K.loses fault order (state self.old) till.old (state self.new) till.new) };
 
     /// The machine reads until it has written a message or rests. It hears of a fault.
     fn turn<M: Machine>(&mut self, alloc: Global, machine: &mut M) -> Result<(), LineFault>
@@ -41,12 +38,13 @@ impl<R: Source, W: Sink> LineEnd for Endpoint<R, W> {
 
     ghost state = { λ end. end_state end.stream (R.remaining end.reader) (W.written end.writer) (R.reads end.reader) (R.failures end.reader) (W.failures end.writer) };
 
-    fn order(&mut self, till: &mut Till, order: Order) -> Result<(), RunFault> {
-        send_order(&mut self.writer, till, order)
-    }
-
-    fn send(&mut self, message: &[u8]) -> Result<(), LineFault> {
-        zvt_stream::send(&mut self.writer, message)
+    fn order<K: Keeper>(
+        &mut self,
+        alloc: Global,
+        till: &mut K,
+        order: Order,
+    ) -> Result<(), RunFault> {
+        send_order(alloc, &mut self.writer, till, order)
     }
 
     fn turn<M: Machine>(&mut self, alloc: Global, machine: &mut M) -> Result<(), LineFault> {

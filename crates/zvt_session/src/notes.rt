@@ -3,7 +3,7 @@ ghost use Rattle.std.specs.Prelude.{◌≡◌, ◌++◌, IfErr, IfOk, List, OnOk
 ghost use Rattle.std.specs.String.{string_bytes};
 ghost use Rattle.hex.specs.Hex.{encode_upper};
 ghost use Rattle.zvt_session.specs.Reporting.{ReportedSoFar};
-ghost use Rattle.zvt_session.specs.Notes.{closing_note, entry_numbers, heard_text, named_text, of_payment, outcome_note, payment_note, registration_note, reversal_note, reversing, row_note, step_note, unsent_note, why_unclear, why_unsent};
+ghost use Rattle.zvt_session.specs.Notes.{closing_note, entry_numbers, heard_text, last_note, named_text, no_space_note, of_payment, outcome_note, payment_note, registration_note, reversal_note, reversing, row_note, step_note, unsent_note, why_unclear, why_unsent};
 
 use crate::arguments::Step;
 use crate::fault::EndFault;
@@ -12,7 +12,7 @@ use std::alloc::{AllocError, Global};
 use zvt_bcd::Amount;
 use zvt_io::Sink;
 use zvt_text::Text;
-use zvt_till::{Cause, Entry, Numbers, OrderRefusal, Outcome, RunFault, Till};
+use zvt_till::{BookFault, Cause, Entry, Numbers, OrderRefusal, Outcome, RunFault, Till};
 
 /// Returns what a person has to know of a step that came to this, and what to do: of an order that is unclear, which numbers
 /// the terminal named; of one that was not sent, why not. Of other steps there is nothing to say. The only fault is
@@ -54,10 +54,19 @@ fn say_note(
     match made {
         Ok(outcome) => say_outcome(text, &planned.step, outcome, till),
         Err(RunFault::Order(why)) => say_unsent(text, planned.word.as_str(), *why),
-        Err(RunFault::Line(_)) => match till.last_outcome() {
-            Some(outcome) => say_outcome(text, &planned.step, &outcome, till),
-            None => Ok(()),
-        },
+        Err(RunFault::Book(BookFault::NoSpace)) => say_no_space(text, planned.word.as_str()),
+        Err(RunFault::Book(BookFault::Failed)) => say_last(text, &planned.step, till),
+        Err(RunFault::Line(_)) => say_last(text, &planned.step, till),
+    }
+}
+
+/// Adds what there is to say of an order that was cut off.
+fn say_last(text: &mut Text, step: &Step, till: &Till) -> Result<(), AllocError>
+    ensures { OnOk result (text.new ≡ text.old ++ last_note step.now till.now.state.last_outcome till.now) }
+{
+    match till.last_outcome() {
+        Some(outcome) => say_outcome(text, step, &outcome, till),
+        None => Ok(()),
     }
 }
 
@@ -69,6 +78,17 @@ fn say_unsent(text: &mut Text, word: &str, why: OrderRefusal) -> Result<(), Allo
     text.word(word.as_bytes())?;
     text.word(b" was not sent")?;
     say_why_unsent(text, why)
+}
+
+/// Adds that an order was not sent because the book has no room for its records, and what to do.
+fn say_no_space(text: &mut Text, word: &str) -> Result<(), AllocError>
+    ensures { OnOk result (text.new ≡ text.old ++ no_space_note word.now) }
+{
+    text.word(b"zvt: ")?;
+    text.word(word.as_bytes())?;
+    text.word(
+        b" was not sent (NoSpace): the disk of the book has no room for the records of a payment: free some space, then run the step again\n",
+    )
 }
 
 /// Adds why an order was not sent.

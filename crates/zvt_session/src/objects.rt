@@ -2,13 +2,13 @@
 ghost use Rattle.std.specs.Prelude.{◌≡◌, ◌++◌, IfOk, OnOk};
 ghost use Rattle.serde_json.specs.View.{view};
 ghost use Rattle.zvt_json.specs.Strings.{line_text};
-ghost use Rattle.zvt_session.specs.Objects.{coded_value, ended_value, outcome_value, paid_value, step_value, total_value};
+ghost use Rattle.zvt_session.specs.Objects.{broken_value, coded_value, ended_value, outcome_value, paid_value, step_value, total_value};
 
 use serde_json::{Value, json};
 use std::alloc::{AllocError, Global};
 use zvt_bcd::Trace;
 use zvt_text::Text;
-use zvt_till::{Outcome, RunFault};
+use zvt_till::{BookFault, Outcome, RunFault};
 
 /// Adds the object of a step: its word, and what became of it, where the till says this of the order that ended last.
 pub(crate) fn say_step_object(
@@ -49,10 +49,21 @@ fn step_object(
         Err(RunFault::Order(why)) => {
             json!(in alloc; {"outcome": "not sent", "reason": why.name(), "step": word})
         }
-        Err(RunFault::Line(_)) => match &last {
-            Some(outcome) => outcome_object(alloc, word, outcome),
-            None => json!(in alloc; {"step": word}),
-        },
+        Err(RunFault::Book(BookFault::NoSpace)) => {
+            json!(in alloc; {"outcome": "not sent", "reason": "NoSpace", "step": word})
+        }
+        Err(RunFault::Book(BookFault::Failed)) => broken_object(alloc, word, last),
+        Err(RunFault::Line(_)) => broken_object(alloc, word, last),
+    }
+}
+
+/// The object of a step whose order was cut off.
+fn broken_object(alloc: Global, word: &str, last: Option<Outcome>) -> Result<Value, AllocError>
+    ensures { IfOk result (λ object. view object ≡ broken_value word.now last) }
+{
+    match &last {
+        Some(outcome) => outcome_object(alloc, word, outcome),
+        None => json!(in alloc; {"step": word}),
     }
 }
 

@@ -1,48 +1,63 @@
-//! The notes of orders that a journal keeps: the time, and the reference that a step's word gives.
-ghost use Rattle.std.specs.Prelude.{◌≡◌, option_map};
-ghost use Rattle.zvt_session.specs.Words.{reference_of};
+//! The notes of orders that a book keeps: the time, and the reference that a step's word gives.
+ghost use Rattle.std.specs.Prelude.{◌≡◌, List, option_map, ℕ};
+ghost use Rattle.zvt_session.specs.Words.{IsNoteOf, reference_of};
 
 use arrayvec::ArrayString;
 use jiff::Timestamp;
 use jiff_fmt::temporal::DateTimePrinter;
 use std::rt::Clock;
 use std::time::SystemTime;
-use zvt_kept::{Note, size_before};
+use zvt_journal::Device;
+use zvt_kept::{KeptTill, Note, size_before};
 
-/// What gives the orders of a run their notes.
-pub(crate) trait NoteSource {
-    ghost use Rattle.zvt_session.specs.Words.{IsNoteOf};
+/// What gives the orders of a till their notes.
+pub trait NoteSource<K> {
+    /// The till, with this note for its next order.
+    ghost noted: { K → List ℕ → K };
 
-    /// The note of the order of a step, which this word names.
-    fn note(&self, word: &[u8]) -> Note
-        ensures { IsNoteOf word.now result };
+    /// Gives the till the note of its next order, that of the step which this word names.
+    fn note_next(&self, till: &mut K, word: &[u8])
+        ensures { (note : List ℕ) × IsNoteOf word.now note × (till.new ≡ noted till.old note) };
 }
 
-/// No notes: the till has no journal.
+/// No notes, as of a till alone: it has no book that could hold them.
 #[derive(Clone, Copy)]
-pub(crate) struct NoNotes;
+pub struct NoNotes;
 
-impl NoteSource for NoNotes {
-    fn note(&self, _word: &[u8]) -> Note {
-        Note::none()
-    }
+impl<K> NoteSource<K> for NoNotes {
+    ghost use Rattle.zvt_session.specs.TillRuns.{forgets};
+
+    ghost noted = { forgets };
+
+    fn note_next(&self, _till: &mut K, _word: &[u8]) {}
 }
 
 /// The time by this clock, and the reference that the word gives. Without a clock that can be read there is no time.
 #[derive(Clone, Copy)]
-pub(crate) struct Clocked<'a, C> {
-    pub(crate) clock: &'a C,
+pub struct Clocked<'a, C> {
+    pub clock: &'a C,
 }
 
-impl<C: Clock> NoteSource for Clocked<'_, C> {
-    fn note(&self, word: &[u8]) -> Note {
-        let time = moment(self.clock);
-        let at = time.as_ref().map(|text| text.as_str().as_bytes());
-        if let Some(note) = Note::new(at, reference(word)) {
-            return note;
-        }
-        Note::none()
+impl<D: Device, C: Clock> NoteSource<KeptTill<D>> for Clocked<'_, C> {
+    ghost use Rattle.zvt_kept.specs.KeptTill.{with_note};
+
+    ghost noted = { with_note };
+
+    fn note_next(&self, till: &mut KeptTill<D>, word: &[u8]) {
+        till.note_next(note_of(self.clock, word));
     }
+}
+
+/// The note of the step which this word names.
+fn note_of<C: Clock>(clock: &C, word: &[u8]) -> Note
+    ensures { IsNoteOf word.now result }
+{
+    let time = moment(clock);
+    let at = time.as_ref().map(|text| text.as_str().as_bytes());
+    if let Some(note) = Note::new(at, reference(word)) {
+        return note;
+    }
+    Note::none()
 }
 
 /// The time to the second, in UTC.

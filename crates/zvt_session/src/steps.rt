@@ -2,18 +2,14 @@
 ghost use Rattle.std.specs.Prelude.{◌≡◌, ◌<◌, ◌++◌, Err, IfErr, IfOk, OnOk, Result, false};
 ghost use Rattle.std.specs.String.{string_bytes};
 ghost use Rattle.zvt_till.specs.Marks.{total};
-ghost use Rattle.zvt_till.specs.Till.{new_till, step};
-ghost use Rattle.zvt_till.specs.View.{TillValue};
-ghost use Rattle.zvt_till.specs.declared.happenings.Happening.TheVariants.{Connected};
 ghost use Rattle.zvt_till.specs.declared.line.RunFault.{RunFault};
 ghost use Rattle.zvt_till.specs.declared.outcomes.Outcome.{Outcome};
 ghost use Rattle.zvt_session.specs.declared.arguments.Step.{Step};
 ghost use Rattle.zvt_session.specs.Objects.{step_line, total_line};
-ghost use Rattle.zvt_session.specs.Outcomes.{ending_text, step_text, total_text};
-ghost use Rattle.zvt_till.specs.Settings.{settings_of};
-ghost use Rattle.zvt_session.specs.Made.{fault_of, fell_short, succeeded, wants_memory};
+ghost use Rattle.zvt_session.specs.Outcomes.{broken_text, ending_text, step_text, total_text};
+ghost use Rattle.zvt_session.specs.Made.{fell_short, stop_of, succeeded, wants_memory};
 ghost use Rattle.zvt_session.specs.Reporting.{Reports};
-ghost use Rattle.zvt_session.specs.Runs.{Answers, AnswersText, standing};
+ghost use Rattle.zvt_session.specs.Runs.{Answers, AnswersText, noting, standing};
 
 use crate::arguments::Step;
 use crate::fault::EndFault;
@@ -25,30 +21,8 @@ use crate::plans::{Planned, StepOptions, StepRun};
 use std::alloc::{AllocError, Global};
 use zvt_io::Sink;
 use zvt_json::Form;
-use zvt_kept::Note;
-use zvt_stream::LineFault;
 use zvt_text::Text;
-use zvt_till::{OrderRefusal, Outcome, RunFault, Till, TillSettings};
-
-/// A till, alone or with its journal.
-pub(crate) trait Keeper {
-    /// The till, as contracts see it.
-    ghost till: { Self → TillValue };
-
-    /// The till, to look at.
-    fn look(&self) -> &Till
-        ensures { result.now ≡ till self.now };
-}
-
-impl Keeper for Till {
-    ghost use Rattle.zvt_session.specs.Runs.{itself};
-
-    ghost till = { itself };
-
-    fn look(&self) -> &Till {
-        self
-    }
-}
+use zvt_till::{BookFault, Keeper, OrderRefusal, Outcome, RunFault, Till};
 
 /// A line on which each step of a till is made from end to end.
 pub(crate) trait StepLine<K: Keeper> {
@@ -57,14 +31,7 @@ pub(crate) trait StepLine<K: Keeper> {
 
     /// Gives the till the order of the step, and goes on with the line until no order runs. It answers the order's outcome.
     /// On `RunFault::Line`, the till knows of the fault, and its last outcome is the result of the order. Give up the line then.
-    /// A journal has the note beside the order.
-    fn make(
-        &mut self,
-        alloc: Global,
-        till: &mut K,
-        step: &Step,
-        note: &Note,
-    ) -> Result<Outcome, RunFault>
+    fn make(&mut self, alloc: Global, till: &mut K, step: &Step) -> Result<Outcome, RunFault>
         ensures { makes self.old till.old step.now result self.new till.new };
 }
 
@@ -72,11 +39,12 @@ pub(crate) trait StepLine<K: Keeper> {
 /// till's total. `steps` has the form of these lines. A step whose order is unclear or was not sent is reported besides, with
 /// what to do.
 ///
-/// After a connection that failed no further step is made, and the fault is `Line`. A run that checks its steps ends with
+/// After a connection that failed no further step is made, and the fault is `Line`. After a book that could not be kept none is
+/// made either, and the fault is `Book`. A run that checks its steps ends with
 /// `Unsuccessful` if one did not succeed. An order that is not sent is another fault only if memory runs out. The other
 /// faults are `Write` and `Memory`: then no further step is made, and the lines of all steps before the last were written.
 /// After `Write` a prefix of its own line may be written. A failure of `report` is no fault, and nothing more is reported.
-pub(crate) fn run_steps<L: StepLine<K>, K: Keeper, W: Sink, E: Sink, N: NoteSource>(
+pub(crate) fn run_steps<L: StepLine<K>, K: Keeper, W: Sink, E: Sink, N: NoteSource<K>>(
     alloc: Global,
     line: &mut L,
     till: &mut K,
@@ -85,21 +53,21 @@ pub(crate) fn run_steps<L: StepLine<K>, K: Keeper, W: Sink, E: Sink, N: NoteSour
     writer: &mut W,
     report: &mut E,
 ) -> Result<(), EndFault>
-    ensures run { Answers K.till L.makes steps.now.options (λ notes. Reports notes (E.written report.old) (E.written report.new) (E.failures report.old) (E.failures report.new)) steps.now.plan.now (standing line.old till.old) (standing line.new till.new) (W.written writer.old) (W.written writer.new) result }
+    ensures run { Answers K.till (noting N.noted L.makes) steps.now.options (λ notes. Reports notes (E.written report.old) (E.written report.new) (E.failures report.old) (E.failures report.new)) steps.now.plan.now (standing line.old till.old) (standing line.new till.new) (W.written writer.old) (W.written writer.new) result }
     ensures write { result ≡ Err EndFault.Write → W.failures writer.old < W.failures writer.new }
 {
     let mut short = false;
     let mut reports = true;
     'steps: for planned in steps.plan {
-        let named = notes.note(planned.word.as_bytes());
-        let made = line.make(alloc, till, &planned.step, &named);
+        notes.note_next(till, planned.word.as_bytes());
+        let made = line.make(alloc, till, &planned.step);
         let text = line_of(alloc, steps.options.form, planned, &made, till.look())?;
         let note = note_of(alloc, planned, &made, till.look())?;
         reports = report_note(reports, &note, report);
         writer.write_all(text.bytes())?;
-        if let Some(fault) = fault_of(&made) {
+        if let Some(fault) = stop_of(&made) {
             write_total(alloc, till, steps.options.form, writer)?;
-            return Err(EndFault::Line(fault));
+            return Err(fault);
         }
         short |= fell_short(&planned.step, &made);
     }
@@ -108,15 +76,6 @@ pub(crate) fn run_steps<L: StepLine<K>, K: Keeper, W: Sink, E: Sink, N: NoteSour
         return Err(EndFault::Unsuccessful);
     }
     Ok(())
-}
-
-/// A new till of these settings, whose line is up.
-pub(crate) fn connected_till(alloc: Global, settings: &TillSettings) -> Till
-    ensures { result.state ≡ step (new_till (settings_of settings.now)) Connected }
-{
-    let mut till = Till::new(alloc, settings.password, settings.config, settings.currency);
-    till.connected();
-    till
 }
 
 /// Returns the line of a step in this form. The only fault is `Memory`, also if its order was not sent because memory ran out.
@@ -213,21 +172,31 @@ fn say_ending(
             text.word(b"not sent: ")?;
             text.word(why.name().as_bytes())
         }
-        Err(RunFault::Line(_)) => match &last {
-            Some(outcome) => outcome_text(text, outcome),
-            None => Ok(()),
-        },
+        Err(RunFault::Book(BookFault::NoSpace)) => text.word(b"not sent: NoSpace"),
+        Err(RunFault::Book(BookFault::Failed)) => say_last(text, last),
+        Err(RunFault::Line(_)) => say_last(text, last),
     }
 }
 
-/// How the line broke, if it did.
-fn fault_of(made: &Result<Outcome, RunFault>) -> Option<LineFault>
-    ensures { result ≡ fault_of made.now }
+/// Writes what became of an order that was cut off.
+fn say_last(text: &mut Text, last: Option<Outcome>) -> Result<(), AllocError>
+    ensures { OnOk result (text.new ≡ text.old ++ broken_text last) }
+{
+    match &last {
+        Some(outcome) => outcome_text(text, outcome),
+        None => Ok(()),
+    }
+}
+
+/// Why no further step is made, if so: the line broke, or the book could not be kept.
+fn stop_of(made: &Result<Outcome, RunFault>) -> Option<EndFault>
+    ensures { result ≡ stop_of made.now }
 {
     match made {
         Ok(_) => None,
         Err(RunFault::Order(_)) => None,
-        Err(RunFault::Line(fault)) => Some(*fault),
+        Err(RunFault::Line(fault)) => Some(EndFault::Line(*fault)),
+        Err(RunFault::Book(_)) => Some(EndFault::Book),
     }
 }
 

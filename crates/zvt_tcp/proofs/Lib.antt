@@ -1,5 +1,5 @@
 pub mod Traced
-pub mod KeptRuns
+pub mod OverTcpLemmas
 pub mod ManyTills
 pub mod Gone
 mod Outlived

@@ -2,33 +2,31 @@
 use Rattle.std.proofs.Common.{◌≡◌, ◌⊎◌, ⊎_elim, inl, inr, ℕ, Bool, true, false, List, [], ◌∷◌, ◌++◌, map, Option, Some, None, Result, Ok, Err, refl, sym, ap, subst, ◌∙◌, append_assoc}
 use Rattle.std.proofs.lemmas.List.{append-nil}
 use Rattle.zvt_grammar.specs.Reading.{Reading}
-use Rattle.zvt_stream.specs.declared.line.LineFault.{LineFault}
 use Rattle.zvt_till.specs.declared.entries.Entry.{Entry}
 use Rattle.zvt_till.specs.declared.happenings.Happening.{Happening}
 use Rattle.zvt_till.specs.declared.line.RunFault.{RunFault}
-use Rattle.zvt_till.specs.declared.line.RunFault.TheVariants.{Line}
+use Rattle.zvt_till.specs.declared.keeper.BookFault.{BookFault}
+use Rattle.zvt_till.specs.declared.keeper.BookFault.TheVariants.{NoSpace, Failed}
+use Rattle.zvt_till.specs.declared.line.RunFault.TheVariants.{Order as OrderFault, Line as LineFault, Book as BookBroke}
 use Rattle.zvt_till.specs.declared.outcomes.Outcome.{Outcome}
 use Rattle.zvt_till.specs.Sending.{Settings}
 use Rattle.zvt_till.proofs.BookStepLemmas.{settings-kept}
-use Rattle.zvt_kept.specs.declared.run.KeptFault.{KeptFault}
-use Rattle.zvt_kept.specs.declared.run.KeptFault.TheVariants as kept
-use Rattle.zvt_kept.specs.KeptTill.{Connects, HasLog, IsKept, Keeps, KeptValue, has_failed, unless_up}
+use Rattle.zvt_kept.specs.Keeping.{kept_connects, kept_orders}
+use Rattle.zvt_kept.specs.KeptTill.{Connects, HasLog, Hears, IsKept, Keeps, KeptValue, LosesLine, has_failed, kept_rests, till_of, unless_up, with_note}
 use Rattle.zvt_kept.specs.Outliving.{CallsOutlive, Did, DidAll, HappenInAll, KeptStep, connects}
 use Rattle.zvt_kept.specs.Runs.{RanKept}
 use Rattle.zvt_session.specs.declared.fault.EndFault.{EndFault}
 use Rattle.zvt_session.specs.declared.fault.EndFault.TheVariants.{BadStep, Book, Line as LineBroke, Memory, Net, Silent, Trace, Unsuccessful, Write}
-use Rattle.zvt_session.specs.declared.arguments.Step.{Step}
 use Rattle.zvt_session.specs.declared.plans.Planned.{Planned}
 use Rattle.zvt_session.specs.declared.plans.StepOptions.{StepOptions}
-use Rattle.zvt_session.specs.Kept.{AnswersBook, MakesThereKept, RunsBook, step_result, till_of}
+use Rattle.zvt_session.specs.TillRuns.{RunsTill}
 use Rattle.zvt_session.specs.LineEnd.{EndState}
-use Rattle.zvt_session.specs.Made.{Made, fault_of}
+use Rattle.zvt_session.specs.Made.{Made, stop_of}
 use Rattle.zvt_session.specs.Runs.{Answers, BreaksIn, EndsInStep, EndsInTotal, GoesOn, MakesAll, MakesTo, RunsOut, Standing, standing}
 use Rattle.zvt_session.specs.Reporting.{ReportsRun}
 use Rattle.zvt_session.specs.Steps.{order_of}
-use Rattle.zvt_session.specs.TillEnd.{BeginsThere}
-use Rattle.zvt_tcp.specs.KeptOverTcp.{AnswersBookRun}
-use Rattle.zvt_tcp.specs.Outliving.{BookRunsOutlive, OutlivesRun, call_of, calls_of}
+use Rattle.zvt_session.specs.TillEnd.{BeginsThere, MakesThere}
+use Rattle.zvt_tcp.specs.Outliving.{BookRunsOutlive, MakesKept, OutlivesRun, call_of, calls_of}
 
 map_snoc : (done : List Planned) (planned : Planned) → map call_of (done ++ planned ∷ []) ≡ map call_of done ++ call_of planned ∷ []
 map_snoc [] planned = refl
@@ -38,8 +36,13 @@ module _ {D : Type 0} (seen : D → List ℕ) (may_leave : D → List ℕ → Ty
   abbrev Kept : Type 0
   Kept = KeptValue D
 
-  abbrev Makes : EndState → Kept → Step → Result Outcome RunFault → EndState → Kept → Type 0
-  Makes = MakesThereKept seen may_leave moment left_since faults
+  abbrev Makes : EndState → Kept → Planned → Result Outcome RunFault → EndState → Kept → Type 0
+  Makes = MakesKept seen may_leave moment left_since faults
+
+  -- the step itself, with its note
+  abbrev MadeSo : EndState → Kept → Planned → Result Outcome RunFault → EndState → Kept → Type 0
+  MadeSo before old planned result after new =
+      MakesThere (kept_orders seen may_leave moment left_since faults) (Hears seen may_leave moment left_since faults) kept_rests has_failed till_of (LosesLine seen may_leave moment left_since faults) (LosesLine seen may_leave moment left_since faults) before old planned.step result after new
 
   abbrev Calls : List KeptStep → Kept → Kept → Type 0
   Calls = DidAll seen may_leave moment left_since faults
@@ -67,26 +70,38 @@ module _ {D : Type 0} (seen : D → List ℕ) (may_leave : D → List ℕ → Ty
 
   -- ---- a step
 
-  step_did : (planned : Planned) (before after : Standing EndState Kept) (result : Result Outcome RunFault) → Makes before.line before.till planned.step result after.line after.till
-      → Did seen may_leave moment left_since faults (call_of planned) before.till after.till
-  step_did planned before after result m =
-      (before.line.stream, after.line.stream, before.line.coming, after.line.coming, before.line.written, after.line.written, 100000, before.line.reads, after.line.reads, m.ended, m.ran)
+  ran_of : (planned : Planned) (before after : EndState) (old new : Kept) (result : Result Outcome RunFault) → MadeSo before old planned result after new
+      → RanKept seen may_leave moment left_since faults (order_of planned.step) before.stream after.stream old new before.coming after.coming before.written after.written 100000 before.reads after.reads result
+  ran_of planned before after old new (Ok outcome) m = m.runs
+  ran_of planned before after old new (Err fault) m = m.fails
 
-  no_fault : (ended : Result Outcome KeptFault) (result : Result Outcome RunFault) → result ≡ step_result ended → GoesOn result → fault_of (step_result ended) ≡ None
-  no_fault ended result is goes = subst (λ r. fault_of r ≡ None) is goes.0
+  step_did : (planned : Planned) (before after : Standing EndState Kept) (result : Result Outcome RunFault) → Makes before.line before.till planned result after.line after.till
+      → Did seen may_leave moment left_since faults (call_of planned) before.till after.till
+  step_did planned before after result m = (
+    m.0,
+    before.line.stream,
+    after.line.stream,
+    before.line.coming,
+    after.line.coming,
+    before.line.written,
+    after.line.written,
+    100000,
+    before.line.reads,
+    after.line.reads,
+    result,
+    ran_of planned before.line after.line (with_note before.till m.0) after.till result m.2,
+  )
 
   -- a step after which the next one is made left the journal whole
-  stays_whole : (planned : Planned) (before after : Standing EndState Kept) (result : Result Outcome RunFault) → (m : Makes before.line before.till planned.step result after.line after.till) → GoesOn result
+  stays_whole : (planned : Planned) (before after : Standing EndState Kept) (result : Result Outcome RunFault) → Makes before.line before.till planned result after.line after.till → GoesOn result
       → has_failed before.till ≡ false → has_failed after.till ≡ false
-  stays_whole planned before after result m goes whole = by_end m.ended m.ran (no_fault m.ended result m.is goes)
-    where
-      by_end : (ended : Result Outcome KeptFault)
-          → RanKept seen may_leave moment left_since faults (order_of planned.step) before.line.stream after.line.stream before.till after.till before.line.coming after.line.coming before.line.written after.line.written 100000 before.line.reads after.line.reads ended
-          → fault_of (step_result ended) ≡ None → has_failed after.till ≡ false
-      by_end (Ok outcome) ran none = ran.whole
-      by_end (Err (kept.Order why)) ran none = subst (λ (k : Kept). has_failed k ≡ false) (sym ran.1) whole
-      by_end (Err kept.Journal) ran none = absurd (cc none)
-      by_end (Err (kept.Line fault)) ran none = absurd (cc none)
+  stays_whole planned before after (Ok outcome) m goes whole = m.2.runs.whole
+  stays_whole planned before after (Err (OrderFault why)) m goes whole = ⊎_elim
+      (λ unsent. subst (λ (k : Kept). has_failed k ≡ false) (sym unsent.0.0.1) whole)
+      (λ more. ⊎_elim (λ broke. absurd (cc broke.1)) (λ failed. absurd (cc failed.0)) more)
+      m.2.fails
+  stays_whole planned before after (Err (LineFault fault)) m goes whole = absurd (cc goes.0)
+  stays_whole planned before after (Err (BookBroke why)) m goes whole = absurd (cc goes.0)
 
   -- steps that were all made, and then some calls
   then_calls : (settings : Settings) (plan : List Planned) (before after : Standing EndState Kept) (all : List Made) (calls : List KeptStep) (new : Kept)
@@ -117,7 +132,7 @@ module _ {D : Type 0} (seen : D → List ℕ) (may_leave : D → List ℕ → Ty
 
   -- the steps before one, and that one
   up_to : (settings : Settings) (plan done later : List Planned) (planned : Planned) (before middle after : Standing EndState Kept) (earlier : List Made) (result : Result Outcome RunFault)
-      → plan ≡ done ++ planned ∷ later → Going settings before.till → MakesAll till_of Makes done before middle earlier → Makes middle.line middle.till planned.step result after.line after.till → Part plan before.till after.till
+      → plan ≡ done ++ planned ∷ later → Going settings before.till → MakesAll till_of Makes done before middle earlier → Makes middle.line middle.till planned result after.line after.till → Part plan before.till after.till
   up_to settings plan done later planned before middle after earlier result cut g made last = record {
     done = done ++ planned ∷ [];
     later = later;
@@ -126,15 +141,15 @@ module _ {D : Type 0} (seen : D → List ℕ) (may_leave : D → List ℕ → Ty
         (then_calls settings done before middle earlier (call_of planned ∷ []) after.till g made (λ going. (is_kept settings middle.till going, after.till, step_did planned middle after result last, refl)));
   }
 
-  made_to : (settings : Settings) (plan : List Planned) (broken : Option LineFault) (before after : Standing EndState Kept) (all : List Made) → Going settings before.till → MakesTo till_of Makes plan broken before after all → Part plan before.till after.till
+  made_to : (settings : Settings) (plan : List Planned) (broken : Option EndFault) (before after : Standing EndState Kept) (all : List Made) → Going settings before.till → MakesTo till_of Makes plan broken before after all → Part plan before.till after.till
   made_to settings plan None before after all g made = all_made settings plan before after all g made
-  made_to settings plan (Some fault) before after all g b = up_to settings plan b.done b.later b.planned before b.middle after b.earlier (Err (Line fault)) b.cut g b.made b.breaks
+  made_to settings plan (Some fault) before after all g b = up_to settings plan b.done b.later b.planned before b.middle after b.earlier b.result b.cut g b.made b.breaks
 
   answered : (settings : Settings) (options : StepOptions) (Noted : List ℕ → Type 0) (plan : List Planned) (before after : Standing EndState Kept) (first last : Option (List ℕ)) (ended : Result Unit EndFault)
       → Going settings before.till → Answers till_of Makes options Noted plan before after first last ended → Part plan before.till after.till
   answered settings options Noted plan before after first last (Ok done) g a = made_to settings plan None before after a.0.all g a.0.made
   answered settings options Noted plan before after first last (Err Unsuccessful) g a = made_to settings plan None before after a.0.all g a.0.made
-  answered settings options Noted plan before after first last (Err (LineBroke fault)) g a = made_to settings plan (Some fault) before after a.all g a.made
+  answered settings options Noted plan before after first last (Err (LineBroke fault)) g a = made_to settings plan (Some (LineBroke fault)) before after a.all g a.made
   answered settings options Noted plan before after first last (Err Write) g a = ⊎_elim
       (λ e. up_to settings plan e.done e.later e.planned before e.middle after e.earlier e.result e.cut g e.all e.made)
       (λ e. made_to settings plan e.broken before after e.all g e.made)
@@ -147,7 +162,7 @@ module _ {D : Type 0} (seen : D → List ℕ) (may_leave : D → List ℕ → Ty
   answered settings options Noted plan before after first last (Err (Net why)) g a = absurd a
   answered settings options Noted plan before after first last (Err (Silent seconds)) g a = absurd a
   answered settings options Noted plan before after first last (Err Trace) g a = absurd a
-  answered settings options Noted plan before after first last (Err Book) g a = absurd a
+  answered settings options Noted plan before after first last (Err Book) g a = made_to settings plan (Some Book) before after a.all g a.made
 
   -- ---- what the calls leave
 
@@ -166,17 +181,23 @@ module _ {D : Type 0} (seen : D → List ℕ) (may_leave : D → List ℕ → Ty
   up_whole old new up whole = ⊎_elim (λ still. subst (λ (k : Kept). has_failed k ≡ false) (sym still.1) whole) (λ line. line.1) up
 
   begun : (settings : Settings) (log : List Happening) (reading : Reading) (options : StepOptions) (plan : List Planned) (old new : Kept) (first last : Option (List ℕ)) (Reported : List ℕ → List Entry → Type 0) (result : Result Unit EndFault)
-      → Logs settings log old → has_failed old ≡ false → RunsBook (Connects seen may_leave moment left_since faults) Makes (BeginsThere reading) options plan old new first last Reported result → OutlivesRun seen may_leave moment left_since faults settings log plan old new
+      → Logs settings log old → has_failed old ≡ false → RunsTill (kept_connects seen may_leave moment left_since faults) has_failed till_of Makes (BeginsThere reading) options plan old new first last Reported result → OutlivesRun seen may_leave moment left_since faults settings log plan old new
   begun settings log reading options plan old new first last Reported result has whole run =
       let g : Going settings old = record { log = log; has = has; whole = whole } in
       let up = after_call settings connects old run.connected g (Ok tt, run.up) (up_whole old run.connected run.up whole) in
       let part = answered settings options (λ notes. Reported notes new.standing.till.state.book) plan (standing run.before run.connected) (standing run.after new) first last run.ended up run.answers in
       by_calls settings log plan part.done part.later old new part.cut has whole (is_kept settings old g, run.connected, (Ok tt, run.up), part.calls)
 
+  no_line : (settings : Settings) (log : List Happening) (plan : List Planned) (old new : Kept) (why : BookFault) → Logs settings log old → has_failed old ≡ false → kept_connects seen may_leave moment left_since faults old (Err why) new
+      → OutlivesRun seen may_leave moment left_since faults settings log plan old new
+  no_line settings log plan old new NoSpace has whole broke = absurd broke
+  no_line settings log plan old new Failed has whole broke =
+      let g : Going settings old = record { log = log; has = has; whole = whole } in
+      by_calls settings log plan [] plan old new refl has whole (is_kept settings old g, new, (Err broke.0, broke.1), refl)
+
   pub book_runs_outlive : BookRunsOutlive seen may_leave moment left_since faults
   book_runs_outlive settings log reading options plan old new first last report_first report_last failures_before failures_after result has whole (inl t) = ⊎_elim
       (λ run. begun settings log reading options plan old new first last (ReportsRun report_first report_last failures_before failures_after) t.ended has whole run)
-      (λ none. let g : Going settings old = record { log = log; has = has; whole = whole } in
-      by_calls settings log plan [] plan old new refl has whole (is_kept settings old g, new, (Err none.why, none.broke), refl))
+      (λ none. no_line settings log plan old new none.why has whole none.broke)
       t.answers
-  book_runs_outlive settings log reading options plan old new first last report_first report_last failures_before failures_after result has whole (inr not_begun) = unbegun settings log plan old new not_begun.kept has whole
+  book_runs_outlive settings log reading options plan old new first last report_first report_last failures_before failures_after result has whole (inr not_begun) = unbegun settings log plan old new not_begun.unchanged has whole

@@ -1,15 +1,18 @@
 -- A run whose trace broke, or did not.
-use Rattle.std.proofs.Common.{◌≡◌, ℕ, List, Option, Some, None, Bool, true, false, Result, Ok, Err, inr, subst, sym}
-use Rattle.zvt_grammar.specs.Reading.{Reading}
+use Rattle.std.proofs.Common.{◌≡◌, ℕ, List, Option, Some, None, Bool, true, false, Result, Ok, Err, inl, inr, subst, sym}
 use Rattle.zvt_session.specs.declared.plans.StepOptions.{StepOptions}
 use Rattle.zvt_till.specs.declared.entries.Entry.{Entry}
 use Rattle.zvt_till.specs.Sending.{Settings}
 use Rattle.zvt_session.specs.RunsPlan.{RunsPlan}
 use Rattle.zvt_till.specs.View.{TillValue}
-use Rattle.zvt_session.specs.Runs.{Law}
-use Rattle.zvt_session.specs.TillEnd.{BeginsThere, MakesThere}
+use Rattle.zvt_till.specs.Keeping.{itself, never_failed, till_connects}
+use Rattle.zvt_till.specs.Till.{new_till}
+use Rattle.zvt_session.specs.Runs.{StepLaw, noting}
+use Rattle.zvt_session.specs.TillRuns.{forgets}
+use Rattle.zvt_session.proofs.Alone.{HasNoBook}
+use Rattle.zvt_session.proofs.Seen.{ran_alone}
 use Rattle.zvt_session.specs.declared.plans.Planned.{Planned}
-use Rattle.zvt_tcp.specs.OverTcp.{AnswersRun}
+use Rattle.zvt_tcp.specs.OverTcp.{AnswersOverTcp, AnswersRun}
 use Rattle.zvt_tcp.specs.Traced.{AnswersTraced, by_silence, by_trace}
 use Rattle.zvt_session.specs.declared.fault.EndFault.{EndFault}
 use Rattle.zvt_session.specs.declared.fault.EndFault.TheVariants.{BadStep, Book, Line, Memory, Net, Silent, Trace, Unsuccessful, Write}
@@ -40,22 +43,29 @@ traced Answers true (Err (BadStep at)) never a = a
 traced Answers true (Err (Net why)) never a = a
 traced Answers true (Err (Silent seconds)) never a = a
 
+-- no run of a till alone ends for its book
+bookless : {L : Type 0} (makes : StepLaw L TillValue) (begins : L → Type 0) (settings : Settings) (options : StepOptions) (plan : List Planned) (old new : Option (List ℕ)) (Reported : List ℕ → List Entry → Type 0)
+    → HasNoBook makes → RunsPlan makes begins settings options plan old new Reported (Err Book) → ⊥
+bookless makes begins settings options plan old new Reported never run =
+    let b = run.answers.made in
+    never b.middle.line b.middle.till b.planned.step b.result run.after.line run.after.till b.breaks b.stops
+
 -- what a run of steps answers
-answers : {L : Type 0} (makes : Law L TillValue) (begins : L → Type 0) (settings : Settings) (options : StepOptions) (plan : List Planned) (old new : Option (List ℕ)) (Reported : List ℕ → List Entry → Type 0) (Quiet : Type 0) (result : Result Unit EndFault)
-    → AnswersTraced (RunsPlan makes begins settings options plan old new Reported) result → AnswersRun makes begins settings options plan old new Reported Quiet result
-answers makes begins settings options plan old new Reported Quiet (Ok done) runs = runs
-answers makes begins settings options plan old new Reported Quiet (Err (Line fault)) runs = runs
-answers makes begins settings options plan old new Reported Quiet (Err Trace) runs = runs
-answers makes begins settings options plan old new Reported Quiet (Err Unsuccessful) runs = runs
-answers makes begins settings options plan old new Reported Quiet (Err Book) runs = absurd runs.answers
-answers makes begins settings options plan old new Reported Quiet (Err Write) runs = runs
-answers makes begins settings options plan old new Reported Quiet (Err Memory) runs = inr runs
-answers makes begins settings options plan old new Reported Quiet (Err (BadStep at)) runs = absurd runs.answers
-answers makes begins settings options plan old new Reported Quiet (Err (Net why)) runs = absurd runs.answers
-answers makes begins settings options plan old new Reported Quiet (Err (Silent seconds)) runs = absurd runs.answers
+answers : {L : Type 0} (makes : StepLaw L TillValue) (begins : L → Type 0) (settings : Settings) (options : StepOptions) (plan : List Planned) (old new : Option (List ℕ)) (Reported : List ℕ → List Entry → Type 0) (Quiet : Type 0) (result : Result Unit EndFault)
+    → HasNoBook makes → AnswersTraced (RunsPlan makes begins settings options plan old new Reported) result → AnswersRun makes begins settings options plan old new Reported Quiet result
+answers makes begins settings options plan old new Reported Quiet (Ok done) never runs = runs
+answers makes begins settings options plan old new Reported Quiet (Err (Line fault)) never runs = runs
+answers makes begins settings options plan old new Reported Quiet (Err Trace) never runs = runs
+answers makes begins settings options plan old new Reported Quiet (Err Unsuccessful) never runs = runs
+answers makes begins settings options plan old new Reported Quiet (Err Book) never runs = absurd (bookless makes begins settings options plan old new Reported never runs)
+answers makes begins settings options plan old new Reported Quiet (Err Write) never runs = runs
+answers makes begins settings options plan old new Reported Quiet (Err Memory) never runs = inr runs
+answers makes begins settings options plan old new Reported Quiet (Err (BadStep at)) never runs = absurd runs.answers
+answers makes begins settings options plan old new Reported Quiet (Err (Net why)) never runs = absurd runs.answers
+answers makes begins settings options plan old new Reported Quiet (Err (Silent seconds)) never runs = absurd runs.answers
 
 -- the terminal was silent for too long, or was not
-silenced : {L : Type 0} (makes : Law L TillValue) (begins : L → Type 0) (settings : Settings) (options : StepOptions) (plan : List Planned) (old new : Option (List ℕ)) (Reported : List ℕ → List Entry → Type 0) (Quiet : Type 0) (waited : Option ℕ) (result : Result Unit EndFault)
+silenced : {L : Type 0} (makes : StepLaw L TillValue) (begins : L → Type 0) (settings : Settings) (options : StepOptions) (plan : List Planned) (old new : Option (List ℕ)) (Reported : List ℕ → List Entry → Type 0) (Quiet : Type 0) (waited : Option ℕ) (result : Result Unit EndFault)
     → AnswersRun makes begins settings options plan old new Reported Quiet result → AnswersRun makes begins settings options plan old new Reported Quiet (by_silence waited result)
 silenced makes begins settings options plan old new Reported Quiet None result runs = runs
 silenced makes begins settings options plan old new Reported Quiet (Some seconds) (Ok done) runs = runs
@@ -69,22 +79,21 @@ silenced makes begins settings options plan old new Reported Quiet (Some seconds
 silenced makes begins settings options plan old new Reported Quiet (Some seconds) (Err (BadStep at)) runs = runs
 silenced makes begins settings options plan old new Reported Quiet (Some seconds) (Err (Net why)) runs = runs
 
--- a run whose trace is whole, or broke
-pub traced_run : {L : Type 0} (makes : Law L TillValue) (begins : L → Type 0) (settings given : Settings) (options : StepOptions) (plan : List Planned) (broken : Bool) (old new : Option (List ℕ)) (Reported : List ℕ → List Entry → Type 0) (Quiet : Type 0) (answer result : Result Unit EndFault)
-    → given ≡ settings → result ≡ by_trace broken answer → RunsPlan makes begins given options plan old new Reported answer → AnswersRun makes begins settings options plan old new Reported Quiet result
-traced_run makes begins settings given options plan broken old new Reported Quiet answer result set is runs =
-    let run : RunsPlan makes begins settings options plan old new Reported answer = subst (λ (s : Settings). RunsPlan makes begins s options plan old new Reported answer) set runs in
-    subst (λ (r : Result Unit EndFault). AnswersRun makes begins settings options plan old new Reported Quiet r) (sym is)
-    (answers makes begins settings options plan old new Reported Quiet (by_trace broken answer) (traced (RunsPlan makes begins settings options plan old new Reported) broken answer (λ r. r.answers) run))
-
--- a run of a till, whose trace is whole or broke, and whose terminal was silent for too long or was not
-pub silenced_run : {L : Type 0} (makes : Law L TillValue) (begins : L → Type 0) (settings given : Settings) (options : StepOptions) (plan : List Planned) (broken : Bool) (waited : Option ℕ) (old new : Option (List ℕ)) (Reported : List ℕ → List Entry → Type 0) (Quiet : Type 0) (answer whole result : Result Unit EndFault)
-    → given ≡ settings → whole ≡ by_trace broken answer → result ≡ by_silence waited whole → RunsPlan makes begins given options plan old new Reported answer → AnswersRun makes begins settings options plan old new Reported Quiet result
-silenced_run makes begins settings given options plan broken waited old new Reported Quiet answer whole result set is silent runs =
-    subst (λ (r : Result Unit EndFault). AnswersRun makes begins settings options plan old new Reported Quiet r) (sym silent)
-    (silenced makes begins settings options plan old new Reported Quiet waited whole (traced_run makes begins settings given options plan broken old new Reported Quiet answer whole set is runs))
-
--- a run on a line whose stream has that reading
-pub begun_by : {r k : Reading} {settings : Settings} {options : StepOptions} {plan : List Planned} {old new : Option (List ℕ)} {Reported : List ℕ → List Entry → Type 0} {result : Result Unit EndFault} → r ≡ k → RunsPlan MakesThere (BeginsThere r) settings options plan old new Reported result
-    → RunsPlan MakesThere (BeginsThere k) settings options plan old new Reported result
-begun_by {settings = settings} {options = options} {plan = plan} {old = old} {new = new} {Reported = Reported} {result = result} e = subst (λ (x : Reading). RunsPlan MakesThere (BeginsThere x) settings options plan old new Reported result) e
+-- a run of a new till alone, whose trace is whole or broke, and whose terminal was silent for too long or was not
+pub alone : {L : Type 0} (makes : StepLaw L TillValue) (begins : L → Type 0) (settings : Settings) (options : StepOptions) (plan : List Planned) (till left : TillValue) (old new : Option (List ℕ)) (Reported : List ℕ → List Entry → Type 0) (Quiet : Type 0) (result : Result Unit EndFault)
+    → HasNoBook makes → till.state ≡ new_till settings → AnswersOverTcp till_connects never_failed itself (noting forgets makes) begins options plan till left old new Reported Quiet result
+    → AnswersRun makes begins settings options plan old new Reported Quiet result
+alone makes begins settings options plan till left old new Reported Quiet result never is_new (inl run) =
+    let ran = ran_alone makes begins settings options plan till left old new Reported Quiet run.ended is_new run.answers in
+    let whole = answers makes begins settings options plan old new Reported Quiet (by_trace run.lacks run.ended) never (traced (RunsPlan makes begins settings options plan old new Reported) run.lacks run.ended (λ r. r.answers) ran) in
+    subst (λ (r : Result Unit EndFault). AnswersRun makes begins settings options plan old new Reported Quiet r) (sym run.is) (silenced makes begins settings options plan old new Reported Quiet run.waited (by_trace run.lacks run.ended) whole)
+alone makes begins settings options plan till left old new Reported Quiet (Err Memory) never is_new (inr none) = inl (none.unwritten, none.quiet)
+alone makes begins settings options plan till left old new Reported Quiet (Err (Net why)) never is_new (inr none) = (none.unwritten, none.quiet)
+alone makes begins settings options plan till left old new Reported Quiet (Ok done) never is_new (inr none) = absurd none.unbegun
+alone makes begins settings options plan till left old new Reported Quiet (Err (Line fault)) never is_new (inr none) = absurd none.unbegun
+alone makes begins settings options plan till left old new Reported Quiet (Err Trace) never is_new (inr none) = absurd none.unbegun
+alone makes begins settings options plan till left old new Reported Quiet (Err Unsuccessful) never is_new (inr none) = absurd none.unbegun
+alone makes begins settings options plan till left old new Reported Quiet (Err Book) never is_new (inr none) = absurd none.unbegun
+alone makes begins settings options plan till left old new Reported Quiet (Err Write) never is_new (inr none) = absurd none.unbegun
+alone makes begins settings options plan till left old new Reported Quiet (Err (BadStep at)) never is_new (inr none) = absurd none.unbegun
+alone makes begins settings options plan till left old new Reported Quiet (Err (Silent seconds)) never is_new (inr none) = absurd none.unbegun

@@ -1,7 +1,6 @@
 pub mod Connecting
 pub mod Traced
 pub mod OverTcp
-pub mod KeptOverTcp
 pub mod Tills
 pub mod LedgerRows
 pub mod Reporting

@@ -5,36 +5,11 @@ use zvt_grammar::Lengths;
 use zvt_json::Form;
 use zvt_session::{Planned, StepOptions};
 use zvt_term::Verdict;
-use zvt_till::TillSettings;
 
-/// The run of a till: the terminal that it connects to, its settings and steps, how its line is read, traced and shown, and
-/// how its steps are reported.
+/// The run of a till: the terminal that it connects to, its steps, how its line is read, traced and shown, and how its steps
+/// are reported.
 #[derive(Clone, Copy)]
 pub struct TillRun<'a, 'f> {
-    /// The name or address of the terminal's host.
-    pub host: &'a str,
-    /// The port that the terminal listens at.
-    pub port: u16,
-    /// How many seconds the till waits for the connection, and for each message.
-    pub seconds: u16,
-    /// The settings that the till registers with.
-    pub settings: TillSettings,
-    /// The length encodings that the till reads.
-    pub lengths: Lengths,
-    /// The file that the trace is written to.
-    pub trace: Option<&'f File>,
-    /// Shows the terminal's messages here.
-    pub show: Option<Stderr>,
-    /// The steps of the till.
-    pub plan: &'a [Planned],
-    /// How the steps are reported.
-    pub options: StepOptions,
-}
-
-/// The run of a till that keeps its book: the terminal that it connects to, its steps, how its line is read, traced and shown,
-/// and how its steps are reported.
-#[derive(Clone, Copy)]
-pub struct BookRun<'a, 'f> {
     /// The name or address of the terminal's host.
     pub host: &'a str,
     /// The port that the terminal listens at.

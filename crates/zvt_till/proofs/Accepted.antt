@@ -1,16 +1,11 @@
 -- From an accepted order on, an order runs or it is known how one ended.
-use Rattle.std.proofs.Common.{◌≡◌, ℕ, Bool, true, false, cond, List, [], ◌∷◌, Option, Some, None, IsSome, refl, sym, subst, ◌∙◌, option_map}
-use Rattle.zvt_apdu.specs.Message.{Message}
-use Rattle.zvt_stream.specs.Answered.{Answered}
-use Rattle.zvt_stream.specs.StreamState.{StreamState}
-use Rattle.zvt_stream.specs.Hearing.{Hears}
-use Rattle.zvt_stream.specs.LineRun.{Breaks, Reported}
-use Rattle.zvt_stream.specs.declared.line.LineFault.{LineFault}
-use Rattle.zvt_stream.specs.declared.line.LineFault.TheVariants as faults
+use Rattle.std.proofs.Common.{◌≡◌, Bool, true, false, cond, Option, Some, None, IsSome, refl, sym, subst, ◌∙◌, option_map}
 use Rattle.zvt_till.specs.declared.happenings.Happening.{Happening}
 use Rattle.zvt_till.specs.declared.happenings.Happening.TheVariants.{Heard as HeardIn, Malformed, Lost}
+use Rattle.zvt_till.specs.declared.messages.Heard.{Heard}
 use Rattle.zvt_till.specs.declared.orders.Order.{Order}
 use Rattle.zvt_till.specs.declared.orders.Order.TheVariants.{Register, Pay, Reverse, CloseDay, Cancel}
+use Rattle.zvt_till.specs.declared.orders.Outgoing.{Outgoing}
 use Rattle.zvt_till.specs.declared.statuses.Running.{Running}
 use Rattle.zvt_till.specs.declared.outcomes.Outcome.{Outcome}
 use Rattle.zvt_till.specs.Segments.{ends}
@@ -18,9 +13,8 @@ use Rattle.zvt_till.specs.Outcomes.{demand_of, outcome_by, listened}
 use Rattle.zvt_till.specs.Refusals.{refusal, or_else, cancel_refusal}
 use Rattle.zvt_till.specs.Till.{TillState, finish, meet_running, meet, accept, step, awaited_by, facts_of}
 use Rattle.zvt_till.specs.View.{TillValue}
-use Rattle.zvt_till.specs.Hearing.{heard_as}
-use Rattle.zvt_till.specs.Line.{till_hears, till_loses, till_malforms, is_idle, Sends, IsOver}
-use Rattle.zvt_till.specs.declared.line.RunFault.TheVariants.{Line}
+use Rattle.zvt_till.specs.Line.{is_idle, IsEnded}
+use Rattle.zvt_till.specs.Keeping.{Accepts}
 
 -- where no order runs, it is known how the last one ended
 abbrev pub IsKnown : TillState → Type 0
@@ -47,8 +41,8 @@ known-accepted s (Reverse k) r = λ e. absurd cc
 known-accepted s CloseDay r = λ e. absurd cc
 known-accepted s Cancel r = cancelled s s.running refl r
 
-pub known-sent : (o : Order) (old new : TillValue) (first last : Option (List ℕ)) → Sends o old new first last → IsKnown new.state
-known-sent o old new first last sent = subst IsKnown (sym sent.runs) (known-accepted old.state o sent.taken)
+pub known-taken : (o : Order) (outgoing : Outgoing) (old new : TillValue) → Accepts o outgoing old new → IsKnown new.state
+known-taken o outgoing old new taken = subst IsKnown (sym taken.runs) (known-accepted old.state o taken.taken)
 
 by-end : (s : TillState) (r : Running) (h : Happening) (b : Bool)
     → IsKnown (cond b (finish s r.order (outcome_by s.book r.order r.statuses h)) (record s { running = Some (listened (demand_of (Some s.settings.currency) s.book r.order) r h) }))
@@ -63,25 +57,9 @@ by-line : (s : TillState) (h : Happening) (up : Bool) → IsKnown s → IsKnown 
 by-line s h true k = by-running s h s.running k
 by-line s h false k = k
 
--- hearing keeps it
-pub known-heard : (old new : TillValue) (messages : List Message) (answers : List Answered) → Hears till_hears old messages answers new → IsKnown old.state → IsKnown new.state
-known-heard old new [] [] h k = subst (λ (t : TillValue). IsKnown t.state) h k
-known-heard old new (m ∷ messages) (a ∷ answers) h k =
-    known-heard h.0 new messages answers h.2 (subst IsKnown (sym h.1.0) (by-line old.state (HeardIn (heard_as m)) old.state.line_up k))
-known-heard old new [] (a ∷ answers) h k = absurd h
-known-heard old new (m ∷ messages) [] h k = absurd h
-
-pub known-broken : (fault : LineFault) (before after : StreamState) (read written : List ℕ) (old new : TillValue) → Breaks till_hears fault before read after old new written → IsKnown old.state → IsKnown new.state
-known-broken faults.Read before after read written old new b k = known-heard old new _ _ b.1.heard.heard k
-known-broken (faults.Ended have) before after read written old new b k = known-heard old new _ _ b.1.heard.heard k
-known-broken faults.Turns before after read written old new b k = known-heard old new _ _ b.1.heard.heard k
-known-broken (faults.Malformed place why) before after read written old new b k = known-heard old new _ _ b.2.heard k
-known-broken faults.Memory before after read written old new b k = known-heard old new _ _ b.2.heard k
-known-broken faults.Write before after read written old new b k = known-heard old new _ _ b.heard k
-known-broken faults.Stopped before after read written old new b k = subst (λ (t : TillValue). IsKnown t.state) b.1 k
-
-abbrev pub Over : TillState → Type 0
-Over s = (s.running ≡ None) × (s.line_up ≡ false) × IsSome s.last_outcome
+-- a message that is heard keeps it
+pub known-heard : (s : TillState) (m : Heard) → IsKnown s → IsKnown (step s (HeardIn m))
+known-heard s m k = by-line s (HeardIn m) s.line_up k
 
 over-lost : (s : TillState) (run : Option Running) → s.running ≡ run → IsKnown s → ((elim run as (λ x. TillState) [ None ↦ s | Some r ↦ meet_running s r Lost ]).running ≡ None) × IsSome (elim run as (λ x. TillState) [ None ↦ s | Some r ↦ meet_running s r Lost ]).last_outcome
 over-lost s None e k = (e, k e)
@@ -92,21 +70,11 @@ over-malformed s None e k = (e, k e)
 over-malformed s (Some r) e k = (refl, refl)
 
 -- a till that lost its line
-pub lost-over : (old new : TillState) → new ≡ step old Lost → IsKnown old → Over new
-lost-over old new e k = let o = over-lost old old.running refl k in subst Over (sym e) (o.0, refl, o.1)
+pub lost-over : (old new : TillState) → new ≡ step old Lost → IsKnown old → IsEnded new
+lost-over old new e k = let o = over-lost old old.running refl k in subst IsEnded (sym e) (o.0, refl, o.1)
 
-malformed-over : (old new : TillState) → new ≡ step old Malformed → IsKnown old → Over new
-malformed-over old new e k = let o = over-malformed old old.running refl k in subst Over (sym e) (o.0, refl, o.1)
-
--- a till to which a fault was reported
-pub reported-over : (fault : LineFault) (old new : TillValue) → Reported till_loses till_malforms fault old new → IsKnown old.state → IsOver (Line fault) new.state
-reported-over faults.Read old new t k = lost-over old.state new.state t.0 k
-reported-over (faults.Ended have) old new t k = lost-over old.state new.state t.0 k
-reported-over faults.Turns old new t k = lost-over old.state new.state t.0 k
-reported-over (faults.Malformed place why) old new t k = malformed-over old.state new.state t.0 k
-reported-over faults.Memory old new t k = lost-over old.state new.state t.0 k
-reported-over faults.Write old new t k = lost-over old.state new.state t.0 k
-reported-over faults.Stopped old new t k = malformed-over old.state new.state t.0 k
+pub malformed-over : (old new : TillState) → new ≡ step old Malformed → IsKnown old → IsEnded new
+malformed-over old new e k = let o = over-malformed old old.running refl k in subst IsEnded (sym e) (o.0, refl, o.1)
 
 idle-none : (run : Option Running) → is_idle run ≡ true → run ≡ None
 idle-none None e = refl

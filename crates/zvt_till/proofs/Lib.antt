@@ -19,6 +19,7 @@ pub mod Distinct
 pub mod Runs
 pub mod Lines
 pub mod Accepted
+pub mod Keepers
 pub mod Pieces
 pub mod TillHistoryLemmas
 pub mod Ordering
@@ -26,6 +27,6 @@ pub mod BooksLemmas
 pub mod HeardLemmas
 pub mod Unclear
 mod Rows
-mod Room
+pub mod Room
 mod DistinctLemmas
 pub mod NumbersHeard

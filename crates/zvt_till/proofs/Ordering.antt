@@ -9,7 +9,7 @@ use Rattle.zvt_till.specs.declared.happenings.Happening.{Happening}
 use Rattle.zvt_till.specs.declared.happenings.Happening.TheVariants.{Connected, Sent as SentOut, Heard as HeardIn, Malformed, Lost}
 use Rattle.zvt_till.specs.declared.happenings.Sent.{Sent}
 use Rattle.zvt_till.specs.declared.line.RunFault.{RunFault}
-use Rattle.zvt_till.specs.declared.line.RunFault.TheVariants.{Order as OrderFault, Line}
+use Rattle.zvt_till.specs.declared.line.RunFault.TheVariants.{Order as OrderFault, Line, Book as BookBroke}
 use Rattle.zvt_till.specs.declared.orders.Order.{Order}
 use Rattle.zvt_till.specs.declared.outcomes.Outcome.{Outcome}
 use Rattle.zvt_till.specs.Refusals.{refusal, sent_as}
@@ -18,7 +18,7 @@ use Rattle.zvt_till.specs.Till.{TillState, step, facts_of}
 use Rattle.zvt_till.specs.View.{TillValue}
 use Rattle.zvt_till.specs.Log.{facts_in}
 use Rattle.zvt_till.specs.Events.{hears}
-use Rattle.zvt_till.specs.Line.{Fails}
+use Rattle.zvt_till.specs.Keeping.{FailsAlone}
 use Rattle.zvt_till.specs.TillHistory.{Stands, reported_as, UnsentAreLogged, Takes, Readies, TakesAll, sent_by, sent_by_all, sent_in, OrdersAreLogged}
 use Rattle.zvt_till.proofs.Steps.{steps_meet_log}
 use Rattle.zvt_till.proofs.Runs.{follows-order, step-order}
@@ -27,9 +27,9 @@ use Rattle.zvt_till.proofs.TillHistoryLemmas.{stands-more, runs_are_logged, faul
 pub unsent_are_logged : UnsentAreLogged
 unsent_are_logged settings log fault order old new first last t n =
     let facts : facts_of old.state ≡ facts_in log = ap facts_of t.1 ∙ steps_meet_log settings log t.0 in
-    let sent = stands-more settings log old.state (SentOut (sent_as settings.currency order)) t (follows-order settings (facts_in log) order (ap (λ f. refusal f order) (sym facts) ∙ n.1)) in
+    let sent = stands-more settings log old.state (SentOut (sent_as settings.currency order)) t (follows-order settings (facts_in log) order (ap (λ f. refusal f order) (sym facts) ∙ n.3.taken)) in
     let lost = stands-more settings (log ++ SentOut (sent_as settings.currency order) ∷ []) (step old.state (SentOut (sent_as settings.currency order))) Lost sent tt in
-    let same : step (step old.state (SentOut (sent_as settings.currency order))) Lost ≡ new.state = ap (λ s. step s Lost) (step-order settings.currency old.state order) ∙ sym n.2 in
+    let same : step (step old.state (SentOut (sent_as settings.currency order))) Lost ≡ new.state = ap (λ s. step s Lost) (step-order settings.currency old.state order ∙ sym n.3.runs) ∙ sym n.4.0 in
     subst (λ l. Stands settings l new.state) (append_assoc log (SentOut (sent_as settings.currency order) ∷ []) (Lost ∷ []))
     (subst (λ s. Stands settings ((log ++ SentOut (sent_as settings.currency order) ∷ []) ++ Lost ∷ []) s) same lost)
 
@@ -70,12 +70,12 @@ readied settings log old new t (inr e) =
     record { added = Connected ∷ []; stands = subst (λ s. Stands settings (log ++ Connected ∷ []) s) (sym e) (stands-more settings log old.state Connected t tt); sent = refl }
 
 failed : (settings : Settings) (log : List Happening) (fault : RunFault) (order : Order) (before after : StreamState) (old new : TillValue) (coming left first last : Option (List ℕ)) (turns reads_before reads_after : ℕ)
-    → Stands settings log old.state → Fails fault order before after old new coming left first last turns reads_before reads_after → Adds settings log new.state (sent_by settings.currency order (Err fault))
+    → Stands settings log old.state → FailsAlone fault order before after old new coming left first last turns reads_before reads_after → Adds settings log new.state (sent_by settings.currency order (Err fault))
 failed settings log (OrderFault why) order before after old new coming left first last turns reads_before reads_after t (inl n) =
-    adds-nothing settings log old.state new.state (ap (λ (v : TillValue). v.state) n.0.1) t
+    adds-nothing settings log old.state new.state (ap (λ (v : TillValue). v.state) n.0.0.1) t
 failed settings log (Line fault) order before after old new coming left first last turns reads_before reads_after t (inl n) =
     record { added = SentOut (sent_as settings.currency order) ∷ Lost ∷ []; stands = unsent_are_logged settings log fault order old new first last t n.0; sent = refl }
-failed settings log fault order before after old new coming left first last turns reads_before reads_after t (inr (broken, e, b)) =
+failed settings log fault order before after old new coming left first last turns reads_before reads_after t (inr (inl (broken, e, b))) =
     let l = faults_are_logged settings log broken order before after old new coming left first last turns reads_before reads_after t b in
     subst (λ f. Adds settings log new.state (sent_by settings.currency order (Err f))) (sym e)
     (record {
@@ -83,11 +83,13 @@ failed settings log fault order before after old new coming left first last turn
       stands = l.3;
       sent = ap (λ x. sent_as settings.currency order ∷ x) (sent-heard l.0 (reported_as broken ∷ []) ∙ sent-reported broken);
     })
+failed settings log (BookBroke why) order before after old new coming left first last turns reads_before reads_after t (inl n) = absurd n.0.0
+failed settings log fault order before after old new coming left first last turns reads_before reads_after t (inr (inr book)) = absurd (cc)
 
 took : (settings : Settings) (log : List Happening) (order : Order) (answer : Result Outcome RunFault) (old new : TillValue) → Stands settings log old.state → Takes order answer old new
     → Adds settings log new.state (sent_by settings.currency order answer)
 took settings log order (Ok outcome) old new t k =
-    let messages = k.went.pumped.course.heard.messages in
+    let messages = k.went.comes.pumped.course.heard.messages in
     record {
       added = SentOut (sent_as settings.currency order) ∷ map hears messages;
       stands = runs_are_logged settings log order outcome k.before k.after old new k.coming k.left k.first k.last k.turns k.reads_before k.reads_after t k.went;

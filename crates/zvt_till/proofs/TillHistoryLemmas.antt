@@ -19,7 +19,8 @@ use Rattle.zvt_till.specs.Till.{TillState, new_till, step, facts_of}
 use Rattle.zvt_till.specs.View.{TillValue}
 use Rattle.zvt_till.specs.Log.{CanFollow, facts_in, line_after, line_up}
 use Rattle.zvt_till.specs.Events.{hears}
-use Rattle.zvt_till.specs.Line.{till_hears, till_loses, till_malforms, Sends}
+use Rattle.zvt_till.specs.Line.{till_hears, till_loses, till_malforms}
+use Rattle.zvt_till.specs.Keeping.{SendsAlone}
 use Rattle.zvt_till.specs.TillHistory.{Stands, RunsAreLogged, reported_as, FaultsAreLogged}
 use Rattle.zvt_till.proofs.Segments.{fold-snoc}
 use Rattle.zvt_till.proofs.Steps.{steps_meet_log}
@@ -34,15 +35,15 @@ offline true next asked e = refl
 offline false next asked e = absurd cc
 
 -- a till with an order that was sent
-stands-order : (settings : Settings) (log : List Happening) (o : Order) (old new : TillValue) (first last : Option (List ℕ)) → Stands settings log old.state → Sends o old new first last
+stands-order : (settings : Settings) (log : List Happening) (o : Order) (old new : TillValue) (first last : Option (List ℕ)) → Stands settings log old.state → SendsAlone o old new first last
     → Stands settings (log ++ SentOut (sent_as settings.currency o) ∷ []) new.state × (line_up (log ++ SentOut (sent_as settings.currency o) ∷ []) ≡ true)
 stands-order settings log o old new first last t sent =
     let facts : facts_of old.state ≡ facts_in log = ap facts_of t.1 ∙ steps_meet_log settings log t.0 in
-    let none : refusal (facts_in log) o ≡ None = ap (λ f. refusal f o) (sym facts) ∙ sent.taken in
+    let none : refusal (facts_in log) o ≡ None = ap (λ f. refusal f o) (sym facts) ∙ sent.ordered.taken in
     let more = stands-more settings log old.state (SentOut (sent_as settings.currency o)) t (follows-order settings (facts_in log) o none) in
     let f = facts_in log in
     let up : line_up log ≡ true = offline f.line_up (session_refusal f o) (asked_refusal f o) none in
-    (subst (λ s. Stands settings (log ++ SentOut (sent_as settings.currency o) ∷ []) s) (step-order settings.currency old.state o ∙ sym sent.runs) more, fold-snoc line_after false log (SentOut (sent_as settings.currency o)) ∙ up)
+    (subst (λ s. Stands settings (log ++ SentOut (sent_as settings.currency o) ∷ []) s) (step-order settings.currency old.state o ∙ sym sent.ordered.runs) more, fold-snoc line_after false log (SentOut (sent_as settings.currency o)) ∙ up)
 
 -- and then hears messages
 stands-heard : (settings : Settings) (log : List Happening) (old new : TillValue) (messages : List Message) (answers : List Answered) → Stands settings log old.state → line_up log ≡ true → Hears till_hears old messages answers new
@@ -57,7 +58,7 @@ stands-heard settings log old new [] (a ∷ answers) t up h = absurd h
 stands-heard settings log old new (m ∷ messages) [] t up h = absurd h
 
 -- an order and the messages after it
-after-order : (settings : Settings) (log : List Happening) (o : Order) (old sent new : TillValue) (first last : Option (List ℕ)) (messages : List Message) (answers : List Answered) → Stands settings log old.state → Sends o old sent first last → Hears till_hears sent messages answers new
+after-order : (settings : Settings) (log : List Happening) (o : Order) (old sent new : TillValue) (first last : Option (List ℕ)) (messages : List Message) (answers : List Answered) → Stands settings log old.state → SendsAlone o old sent first last → Hears till_hears sent messages answers new
     → Stands settings (log ++ SentOut (sent_as settings.currency o) ∷ map hears messages) new.state × (line_up (log ++ SentOut (sent_as settings.currency o) ∷ map hears messages) ≡ true)
 after-order settings log o old sent new first last messages answers t s h =
     let order = stands-order settings log o old sent first last t s in
@@ -66,7 +67,8 @@ after-order settings log o old sent new first last messages answers t s h =
 
 pub runs_are_logged : RunsAreLogged
 runs_are_logged settings log order outcome before after old new coming left first last turns reads_before reads_after t r =
-    (after-order settings log order old r.sent_till new first r.between r.pumped.course.heard.messages r.pumped.course.heard.answers t r.sends r.pumped.course.heard.heard).0
+    let heard = r.comes.pumped.course.heard in
+    (after-order settings log order old r.comes.sent_till new first r.comes.between heard.messages heard.answers t r.comes.sends heard.heard).0
 
 -- the messages that were heard before a fault
 record Before (before : StreamState) (read : List ℕ) (old new : TillValue) : Type 0 where

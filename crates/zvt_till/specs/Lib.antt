@@ -17,6 +17,7 @@ pub mod Laws
 pub mod Hearing
 pub mod Events
 pub mod Line
+pub mod Keeping
 pub mod Cuttings
 pub mod TillHistory
 pub mod Judging

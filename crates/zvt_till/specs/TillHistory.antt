@@ -9,7 +9,7 @@ use Rattle.zvt_till.specs.declared.happenings.Happening.{Happening}
 use Rattle.zvt_till.specs.declared.happenings.Happening.TheVariants.{Connected, Sent as SentOut, Heard as HeardIn, Malformed, Lost}
 use Rattle.zvt_till.specs.declared.happenings.Sent.{Sent}
 use Rattle.zvt_till.specs.declared.line.RunFault.{RunFault}
-use Rattle.zvt_till.specs.declared.line.RunFault.TheVariants.{Order as OrderFault, Line}
+use Rattle.zvt_till.specs.declared.line.RunFault.TheVariants.{Order as OrderFault, Line, Book as BookBroke}
 use Rattle.zvt_till.specs.declared.orders.Order.{Order}
 use Rattle.zvt_till.specs.declared.outcomes.Outcome.{Outcome}
 use Rattle.zvt_till.specs.Refusals.{sent_as}
@@ -18,7 +18,7 @@ use Rattle.zvt_till.specs.Till.{TillState, state_after, step, facts_of}
 use Rattle.zvt_till.specs.View.{TillValue}
 use Rattle.zvt_till.specs.Log.{IsLog, facts_in}
 use Rattle.zvt_till.specs.Events.{hears}
-use Rattle.zvt_till.specs.Line.{NotSent, Runs, BreaksOff, Fails}
+use Rattle.zvt_till.specs.Keeping.{BreaksOffAlone, FailsAlone, NotSentAlone, RunsAlone}
 
 -- a till that this log leads to
 abbrev pub Stands : Settings → List Happening → TillState → Type 0
@@ -29,8 +29,8 @@ abbrev pub RunsAreLogged : Type 0
 RunsAreLogged =
     (settings : Settings) (log : List Happening) (order : Order) (outcome : Outcome) (before after : StreamState) (old new : TillValue) (coming left first last : Option (List ℕ)) (turns reads_before reads_after : ℕ)
     → Stands settings log old.state
-    → (runs : Runs order outcome before after old new coming left first last turns reads_before reads_after)
-    → Stands settings (log ++ SentOut (sent_as settings.currency order) ∷ map hears runs.pumped.course.heard.messages) new.state
+    → (runs : RunsAlone order outcome before after old new coming left first last turns reads_before reads_after)
+    → Stands settings (log ++ SentOut (sent_as settings.currency order) ∷ map hears runs.comes.pumped.course.heard.messages) new.state
 
 -- what a report of a fault is in a till's log
 abbrev pub reported_as : LineFault → Happening
@@ -47,7 +47,7 @@ abbrev pub FaultsAreLogged : Type 0
 FaultsAreLogged =
     (settings : Settings) (log : List Happening) (fault : LineFault) (order : Order) (before after : StreamState) (old new : TillValue) (coming left first last : Option (List ℕ)) (turns reads_before reads_after : ℕ)
     → Stands settings log old.state
-    → (breaks : BreaksOff fault order before after old new coming left first last turns reads_before reads_after)
+    → (breaks : BreaksOffAlone fault order before after old new coming left first last turns reads_before reads_after)
     → (messages : List Message) × (rest : List ℕ) × SpelledIn before.reading (before.held ++ breaks.broken.read) messages rest
     × Stands settings (log ++ SentOut (sent_as settings.currency order) ∷ (map hears messages ++ reported_as fault ∷ [])) new.state
 
@@ -56,7 +56,7 @@ abbrev pub UnsentAreLogged : Type 0
 UnsentAreLogged =
     (settings : Settings) (log : List Happening) (fault : LineFault) (order : Order) (old new : TillValue) (first last : Option (List ℕ))
     → Stands settings log old.state
-    → NotSent (Line fault) order old new first last
+    → NotSentAlone (Line fault) order old new first last
     → Stands settings (log ++ SentOut (sent_as settings.currency order) ∷ Lost ∷ []) new.state
 
 -- An order on a line, by what was answered.
@@ -72,8 +72,8 @@ pub record Takes (order : Order) (answer : Result Outcome RunFault) (old new : T
   pub reads_after : ℕ
   pub went :
       MatchResult answer
-      (λ outcome. Runs order outcome before after old new coming left first last turns reads_before reads_after)
-      (λ fault. Fails fault order before after old new coming left first last turns reads_before reads_after)
+      (λ outcome. RunsAlone order outcome before after old new coming left first last turns reads_before reads_after)
+      (λ fault. FailsAlone fault order before after old new coming left first last turns reads_before reads_after)
 
 -- a till keeps its line, or has a new one
 abbrev pub Readies : TillValue → TillValue → Type 0
@@ -84,11 +84,12 @@ abbrev pub TakesAll : TillValue → List (Order × Result Outcome RunFault) → 
 TakesAll old [] new = old ≡ new
 TakesAll old (taken ∷ more) new = (ready : TillValue) × (next : TillValue) × Readies old ready × Takes taken.0 taken.1 ready next × TakesAll next more new
 
--- a refused order is not sent
+-- a refused order is not sent, and a till alone has no book that could fail
 abbrev pub sent_by : ℕ → Order → Result Outcome RunFault → List Sent
 sent_by own order (Ok outcome) = sent_as own order ∷ []
 sent_by own order (Err (Line fault)) = sent_as own order ∷ []
 sent_by own order (Err (OrderFault why)) = []
+sent_by own order (Err (BookBroke why)) = []
 
 -- the orders of a till of this currency
 abbrev pub sent_by_all : ℕ → List (Order × Result Outcome RunFault) → List Sent

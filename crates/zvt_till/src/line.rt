@@ -5,6 +5,7 @@ ghost use Rattle.zvt_stream.specs.StreamState.{IsReserved};
 ghost use Rattle.zvt_till.specs.Line.{Sends, NotSent, Runs, Fails, IsOver, reads_failed, writes_failed};
 
 use crate::hearing::heard_view;
+use crate::keeper::{BookFault, Keeper, Untaken};
 use crate::orders::{Order, OrderRefusal};
 use crate::outcomes::Outcome;
 use crate::till::Till;
@@ -60,23 +61,44 @@ pub enum RunFault {
     /// The line broke, which was reported to the till. The till's last outcome is what became of the order. The line is
     /// given up: a new one has a new stream.
     Line(LineFault),
+    /// The till's book could not be kept. After `NoSpace` nothing was sent or read, and the till is as it was. After
+    /// `Failed` nothing was sent from then on, the till has lost its line, and its last outcome is what became of the
+    /// order. A till alone never answers it.
+    Book(BookFault),
 }
 
-/// Gives the till an order and sends its message. Sends nothing if the till refuses the order. If the write fails, the
-/// till loses its line and the fault is `Write`.
-pub fn send_order<W: Sink>(writer: &mut W, till: &mut Till, order: Order) -> Result<(), RunFault>
-    ensures ok { OnOk result (Sends order till.old till.new (W.written writer.old) (W.written writer.new)) }
-    ensures err { IfErr result (λ fault. NotSent fault order till.old till.new (W.written writer.old) (W.written writer.new)) }
-    ensures failures { MatchResult result (λ _. W.failures writer.new ≡ W.failures writer.old) (λ fault. W.failures writer.new ≡ W.failures writer.old + writes_failed fault) }
+impl From<Untaken> for RunFault {
+    ghost use Rattle.zvt_till.specs.Line.{fault_of};
+
+    ghost from_gives = { λ why fault. fault ≡ fault_of why };
+
+    fn from(why: Untaken) -> RunFault {
+        match why {
+            Untaken::Order(why) => RunFault::Order(why),
+            Untaken::Book(why) => RunFault::Book(why),
+        }
+    }
+}
+
+/// Gives the till an order and sends its message. Sends nothing if the order is not taken. If the write fails, the till
+/// loses its line and the fault is `Write`.
+pub fn send_order<W: Sink, K: Keeper>(
+    alloc: Global,
+    writer: &mut W,
+    till: &mut K,
+    order: Order,
+) -> Result<(), RunFault>
+    ensures ok { OnOk result (Sends K.orders order till.old till.new (W.written writer.old) (W.written writer.new)) }
+    ensures err { IfErr result (λ fault.
+        NotSent K.orders K.loses fault order till.old till.new (W.written writer.old) (W.written writer.new)) }
+    ensures failures { MatchResult result (λ _. W.failures writer.new ≡ W.failures writer.old)
+        (λ fault. W.failures writer.new ≡ W.failures writer.old + writes_failed fault) }
 {
-    let outgoing = match till.order(order) {
-        Err(why) => return Err(RunFault::Order(why)),
-        Ok(outgoing) => outgoing,
-    };
+    let outgoing = till.order(alloc, order)?;
     let mut buffer = [0; MAX_BRIEF_LEN];
     let size = outgoing.put(&mut buffer);
     if let Err(fault) = send(writer, &buffer[..size]) {
-        let _ = Till::lost(till);
+        till.lost();
         return Err(RunFault::Line(fault));
     }
     Ok(())
@@ -84,37 +106,47 @@ pub fn send_order<W: Sink>(writer: &mut W, till: &mut Till, order: Order) -> Res
 
 /// Gives the till an order, and pumps the line until no order runs, for at most `turns` turns of one read each.
 ///
-/// It returns what became of the order. Over a stream that was made by `Stream::reserved` no line breaks for want of
-/// memory.
-pub fn run_order<R: Source, W: Sink>(
+/// It returns what became of the order. A till with a book has each record in its book before anything follows from it:
+/// the order before its first byte is sent, and each message before its answer is sent and before its outcome is
+/// returned. Over a stream that was made by `Stream::reserved` no line breaks for want of memory.
+pub fn run_order<R: Source, W: Sink, K: Keeper>(
     alloc: Global,
     reader: &mut R,
     writer: &mut W,
     stream: &mut Stream,
-    till: &mut Till,
+    till: &mut K,
     order: Order,
     turns: u64,
 ) -> Result<Outcome, RunFault>
-    ensures ok { IfOk result (λ outcome. Runs order outcome stream.old stream.new till.old till.new
-        (R.remaining reader.old) (R.remaining reader.new) (W.written writer.old) (W.written writer.new) turns (R.reads reader.old) (R.reads reader.new)) }
-    ensures err { IfErr result (λ fault. Fails fault order stream.old stream.new till.old till.new
-        (R.remaining reader.old) (R.remaining reader.new) (W.written writer.old) (W.written writer.new) turns (R.reads reader.old) (R.reads reader.new)) }
+    ensures ok { IfOk result (λ outcome.
+        Runs K.orders K.hears K.is_resting K.failed K.till order outcome stream.old stream.new till.old till.new
+        (R.remaining reader.old) (R.remaining reader.new) (W.written writer.old) (W.written writer.new)
+        turns (R.reads reader.old) (R.reads reader.new)) }
+    ensures err { IfErr result (λ fault.
+        Fails K.orders K.hears K.is_resting K.failed K.loses K.malforms fault order stream.old stream.new till.old till.new
+        (R.remaining reader.old) (R.remaining reader.new) (W.written writer.old) (W.written writer.new)
+        turns (R.reads reader.old) (R.reads reader.new)) }
     // However it goes, it takes the place of one payment at most.
-    ensures room { till.old.spare ≤ till.new.spare + 1 }
-    // After a broken line it is known what became of the order.
-    ensures over { IfErr result (λ fault. IsOver fault till.new.state) }
+    ensures room { (K.till till.old).spare ≤ (K.till till.new).spare + 1 }
+    // After a broken line, or a book that failed, it is known what became of the order.
+    ensures over { IfErr result (λ fault. IsOver fault (K.till till.new).state) }
     ensures reads { R.reads reader.new ≤ R.reads reader.old + turns }
     ensures frugal { IsReserved stream.old → IsErrOf result (RunFault.Line LineFault.Memory) → ⊥ }
-    ensures reader_failures { MatchResult result (λ _. R.failures reader.new ≡ R.failures reader.old) (λ fault. R.failures reader.new ≡ R.failures reader.old + reads_failed fault) }
-    ensures writer_failures { MatchResult result (λ _. W.failures writer.new ≡ W.failures writer.old) (λ fault. W.failures writer.new ≡ W.failures writer.old + writes_failed fault) }
+    ensures reader_failures { MatchResult result (λ _. R.failures reader.new ≡ R.failures reader.old)
+        (λ fault. R.failures reader.new ≡ R.failures reader.old + reads_failed fault) }
+    ensures writer_failures { MatchResult result (λ _. W.failures writer.new ≡ W.failures writer.old)
+        (λ fault. W.failures writer.new ≡ W.failures writer.old + writes_failed fault) }
 {
-    if let Err(fault) = send_order(writer, till, order) {
+    if let Err(fault) = send_order(alloc, writer, till, order) {
         return Err(fault);
     }
     if let Err(fault) = pump(alloc, reader, writer, stream, till, Until::Rest, turns) {
         return Err(RunFault::Line(fault));
     }
-    match till.last_outcome() {
+    if till.has_failed() {
+        return Err(RunFault::Book(BookFault::Failed));
+    }
+    match till.look().last_outcome() {
         Some(outcome) => Ok(outcome),
         None => Err(RunFault::Line(LineFault::Turns)),
     }

@@ -1,9 +1,9 @@
 //! Runs of the steps that words name, over TCP.
 ghost use Rattle.std.specs.Prelude.{◌≡◌, ◌<◌, ◌≤◌, Err, map, None};
 ghost use Rattle.zvt_grammar.specs.Lengths.{reading_of};
-ghost use Rattle.zvt_session.specs.BothEnds.{BeginsHere, MakesHereBy};
+ghost use Rattle.zvt_session.specs.BothEnds.{BeginsHere, MakesHereAlone};
 ghost use Rattle.zvt_session.specs.Reporting.{ReportsNothing, ReportsRun};
-ghost use Rattle.zvt_session.specs.TillEnd.{BeginsThere, MakesThere};
+ghost use Rattle.zvt_session.specs.TillEnd.{BeginsThere, MakesThereAlone};
 ghost use Rattle.zvt_session.specs.declared.arguments.Ends.TheVariants.{Both, Till};
 ghost use Rattle.zvt_tcp.specs.OverTcp.{AnswersRun};
 ghost use Rattle.zvt_till.specs.Events.{run_settings};
@@ -16,10 +16,10 @@ use std::alloc::Global;
 use std::net::{Net, TcpListener, TcpStream};
 use zvt_io::{Failed, Sink};
 use zvt_json::Form;
-use zvt_session::{Ends, StepOptions, plan};
+use zvt_session::{EndFault, Ends, NoNotes, StepOptions, plan};
 use zvt_tcp::{LoopRun, TerminalRun, TillRun};
 use zvt_term::Verdict;
-use zvt_till::TillSettings;
+use zvt_till::Till;
 
 /// How many seconds a till waits for the connection, and for each message.
 const WAIT: u16 = 60;
@@ -65,7 +65,7 @@ where
     R: Net<Listener = TcpListener, Stream = TcpStream>,
     W: Sink,
     ensures run { MakesWords Both (map (λ word. word.now) steps.now) (W.written writer.old) (W.written writer.new)
-        (λ plan answer. AnswersRun MakesHereBy BeginsHere run_settings plain plan (W.written writer.old) (W.written writer.new) (ReportsRun None None 0 0) (ReportsNothing None None 0 0) answer) result }
+        (λ plan answer. AnswersRun MakesHereAlone BeginsHere run_settings plain plan (W.written writer.old) (W.written writer.new) (ReportsRun None None 0 0) (ReportsNothing None None 0 0) answer) result }
     ensures write { result ≡ Err ToolFault.Write → W.failures writer.old < W.failures writer.new }
 {
     let planned = match plan(alloc, Ends::Both, steps) {
@@ -77,7 +77,7 @@ where
         plan: planned.as_slice(),
         options: plain(),
     };
-    in_run(zvt_tcp::run_loop(rt, alloc, &run, writer, &mut Unreported))
+    in_run(loop_alone(rt, alloc, &run, writer))
 }
 
 /// Connects a till to its terminal and runs the steps that the words name, as [`zvt_tcp::run_till`] does. The till has the
@@ -97,7 +97,7 @@ where
     R: Net<Listener = TcpListener, Stream = TcpStream>,
     W: Sink,
     ensures run { MakesWords Till (map (λ word. word.now) steps.now) (W.written writer.old) (W.written writer.new)
-        (λ plan answer. AnswersRun MakesThere (BeginsThere (reading_of (lengths_by loose))) run_settings plain plan (W.written writer.old) (W.written writer.new) (ReportsRun None None 0 0) (ReportsNothing None None 0 0) answer) result }
+        (λ plan answer. AnswersRun MakesThereAlone (BeginsThere (reading_of (lengths_by loose))) run_settings plain plan (W.written writer.old) (W.written writer.new) (ReportsRun None None 0 0) (ReportsNothing None None 0 0) answer) result }
     ensures write { result ≡ Err ToolFault.Write → W.failures writer.old < W.failures writer.new }
 {
     let planned = match plan(alloc, Ends::Till, steps) {
@@ -108,14 +108,49 @@ where
         host,
         port,
         seconds: WAIT,
-        settings: TillSettings::default(),
         lengths: lengths_by(loose),
         trace: None,
         show: None,
         plan: planned.as_slice(),
         options: plain(),
     };
-    in_run(zvt_tcp::run_till(rt, alloc, &run, writer, &mut Unreported))
+    in_run(till_alone(rt, alloc, &run, writer))
+}
+
+/// Runs steps between a new till without a book and a terminal in this process.
+fn loop_alone<R, W>(
+    rt: &R,
+    alloc: Global,
+    run: &LoopRun<'_, '_>,
+    writer: &mut W,
+) -> Result<(), EndFault>
+where
+    R: Net<Listener = TcpListener, Stream = TcpStream>,
+    W: Sink,
+    ensures run { AnswersRun MakesHereAlone BeginsHere run_settings run.now.options run.now.plan.now (W.written writer.old) (W.written writer.new)
+        (ReportsRun None None 0 0) (ReportsNothing None None 0 0) result }
+    ensures write { result ≡ Err EndFault.Write → W.failures writer.old < W.failures writer.new }
+{
+    let mut till = Till::with_defaults(alloc);
+    zvt_tcp::run_loop(rt, alloc, run, &mut till, &NoNotes, writer, &mut Unreported)
+}
+
+/// Connects a new till without a book to its terminal and runs the steps.
+fn till_alone<R, W>(
+    rt: &R,
+    alloc: Global,
+    run: &TillRun<'_, '_>,
+    writer: &mut W,
+) -> Result<(), EndFault>
+where
+    R: Net<Listener = TcpListener, Stream = TcpStream>,
+    W: Sink,
+    ensures run { AnswersRun MakesThereAlone (BeginsThere (reading_of run.now.lengths)) run_settings run.now.options run.now.plan.now (W.written writer.old) (W.written writer.new)
+        (ReportsRun None None 0 0) (ReportsNothing None None 0 0) result }
+    ensures write { result ≡ Err EndFault.Write → W.failures writer.old < W.failures writer.new }
+{
+    let mut till = Till::with_defaults(alloc);
+    zvt_tcp::run_till(rt, alloc, run, &mut till, &NoNotes, writer, &mut Unreported)
 }
 
 /// Listens at this port of 127.0.0.1 and serves one till to the end of its connection, like [`zvt_tcp::run_terminal`].

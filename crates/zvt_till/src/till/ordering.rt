@@ -104,8 +104,8 @@ impl Till {
         Ok(Outgoing { brief })
     }
 
-    /// The order runs.
-    fn begin(&mut self, order: Order)
+    /// Starts an order that [`prepare`](Till::prepare) took: it runs, and its message is sent.
+    pub fn begin(&mut self, order: Order)
         requires { CanEnd order (length self.old.state.book) (length self.old.state.unclear) self.old.spare }
         ensures state { self.new.state ≡ accept self.old.state order }
         ensures room { self.new.spare ≡ self.old.spare }
@@ -126,6 +126,31 @@ impl Till {
         });
     }
 
+    /// Returns the message that an order sends, or explains why the order cannot be sent now; nothing changes in that
+    /// case. The order does not run before [`begin`](Till::begin). A payment allocates only if [`spare`](Till::spare)
+    /// is 0.
+    pub fn prepare(&mut self, order: &Order) -> Result<Outgoing, OrderRefusal>
+        ensures taken { IfOk result (λ message. refusal (facts_of self.old.state) order.now ≡ None) }
+        ensures sent { IfOk result (λ message.
+            message_of self.old.state.settings self.old.state.book order.now ≡ Some message) }
+        ensures ready { OnOk result
+            (CanEnd order.now (length self.new.state.book) (length self.new.state.unclear) self.new.spare) }
+        ensures state { self.new.state ≡ self.old.state }
+        ensures room { self.old.spare ≤ self.new.spare }
+        ensures numbers { self.new.numbers ≡ self.old.numbers }
+        ensures heard { self.new.heard ≡ self.old.heard }
+        ensures refused { IfErr result (λ why. IsRefusedAs (facts_of self.old.state) self.old.spare order.now why) }
+        ensures unchanged { OnErr result (self.new ≡ self.old) }
+    {
+        let message = self.message_of(order)?;
+        if let Order::Pay(_) = order {
+            if let Err(AllocError) = self.reserve(1) {
+                return Err(OrderRefusal::Memory);
+            }
+        }
+        Ok(message)
+    }
+
     /// Starts an order and returns the message to send, or explains why the order cannot be sent now; nothing changes
     /// in that case. A payment allocates only if [`spare`](Till::spare) is 0.
     pub fn order(&mut self, order: Order) -> Result<Outgoing, OrderRefusal>
@@ -138,15 +163,7 @@ impl Till {
         ensures refused { IfErr result (λ why. IsRefusedAs (facts_of self.old.state) self.old.spare order why) }
         ensures unchanged { OnErr result (self.new ≡ self.old) }
     {
-        let message = match self.message_of(&order) {
-            Err(why) => return Err(why),
-            Ok(message) => message,
-        };
-        if let Order::Pay(_) = &order {
-            if let Err(AllocError) = self.reserve(1) {
-                return Err(OrderRefusal::Memory);
-            }
-        }
+        let message = self.prepare(&order)?;
         self.begin(order);
         Ok(message)
     }

@@ -1,14 +1,9 @@
-use Rattle.std.proofs.Common.{List, subst}
-use Rattle.zvt_till.specs.declared.entries.Entry.{Entry}
-use Rattle.zvt_session.specs.BothEnds.{BeginsHere, MakesHereBy, line_of}
-use Rattle.zvt_session.specs.Runs.{standing}
-use Rattle.zvt_till.specs.Settings.{settings_of}
-use Rattle.zvt_session.specs.Reporting.{ReportsReversals}
-use Rattle.zvt_session.proofs.Seen.{ran, then_reversals}
+use Rattle.zvt_session.specs.BothEnds.{BeginsHere, MakesHere, line_of}
+use Rattle.zvt_session.proofs.Seen.{plan_seen}
 use Rattle.zvt_session.proofs.both_ends.run_both_ends.Goals as goal
 
 pub returns-clause-run : goal.returns-clause-run
 returns-clause-run g c =
-    let reversals = subst (λ (b : List Entry). ReportsReversals (g.E.Sink.written c.run_steps-answer.new.report) (g.E.Sink.written c.report_reversals.new.report) (g.E.Sink.failures c.run_steps-answer.new.report) (g.E.Sink.failures c.report_reversals.new.report) b) c.book.ensures.rows c.report_reversals.ensures in
-    ran (line_of g.A.LineEnd.state g.B.LineEnd.state) MakesHereBy BeginsHere (settings_of c.args.settings.now) c.args.steps.now.options c.args.steps.now.plan.now (standing c.args.line.now c.connected_till-till.result) (standing c.run_steps-answer.new.line c.run_steps-answer.new.till) _ _ _ _ c.run_steps-answer.result c.requires c.connected_till-till.ensures
-    (then_reversals _ _ _ _ _ _ c.run_steps-answer.new.till.state.book reversals) c.run_steps-answer.ensures.run
+    plan_seen g.K.Keeper.connects g.K.Keeper.failed g.K.Keeper.till g.N.NoteSource.noted (line_of g.A.LineEnd.state g.B.LineEnd.state)
+    (MakesHere g.K.Keeper.orders g.K.Machine.hears g.K.Machine.is_resting g.K.Keeper.failed g.K.Keeper.till g.K.Machine.loses g.K.Machine.malforms) BeginsHere c.args.line.now
+    c.args.steps.now.options c.args.steps.now.plan.now c.args.till.now c.run_connected.new.till _ _ _ _ c.run_connected.result c.requires c.run_connected.ensures.run

@@ -1,10 +1,9 @@
-use Rattle.zvt_till.specs.Events.{run_settings}
-use Rattle.zvt_till.specs.Settings.{settings_of}
-use Rattle.zvt_session.specs.BothEnds.{BeginsHere, MakesHereBy}
-use Rattle.zvt_tcp.proofs.Traced.{traced_run}
+use Rattle.zvt_session.specs.BothEnds.{BeginsHere, MakesHere}
+use Rattle.zvt_session.specs.Runs.{noting}
+use Rattle.zvt_tcp.proofs.OverTcpLemmas.{traced}
 use Rattle.zvt_tcp.proofs.runs.run_loop.Goals as goal
 
 pub returns-clause-run : goal.returns-clause-run
 returns-clause-run g c =
-    traced_run MakesHereBy BeginsHere run_settings (settings_of c.default-settings.result) c.args.run.now.options c.args.run.now.plan.now c.is_broken.result _ _ _ _ c.run_both_ends-answer.result c.by_trace.result
-    c.default-settings.ensures c.by_trace.ensures c.run_both_ends-answer.ensures.run
+    traced g.K.Keeper.connects g.K.Keeper.failed g.K.Keeper.till (noting g.N.NoteSource.noted (MakesHere g.K.Keeper.orders g.K.Machine.hears g.K.Machine.is_resting g.K.Keeper.failed g.K.Keeper.till g.K.Machine.loses g.K.Machine.malforms)) BeginsHere c.args.run.now.options c.args.run.now.plan.now c.args.till.now c.run_both_ends-answer.new.till _ _ _ _
+    c.is_broken.result c.run_both_ends-answer.result c.by_trace.result c.by_trace.ensures c.run_both_ends-answer.ensures.run

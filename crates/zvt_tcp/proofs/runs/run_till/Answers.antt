@@ -1,18 +1,18 @@
-use Rattle.std.proofs.Common.{ap, refl, sym, ◌∙◌}
+use Rattle.std.proofs.Common.{ap, sym, ◌∙◌}
 use Rattle.zvt_grammar.specs.Lengths.{reading_of}
 use Rattle.zvt_stream.specs.StreamState.{StreamState}
-use Rattle.zvt_till.specs.Settings.{settings_of}
+use Rattle.zvt_session.specs.Runs.{noting}
 use Rattle.zvt_session.specs.TillEnd.{BeginsThere, MakesThere}
-use Rattle.zvt_tcp.proofs.Traced.{begun_by, silenced_run}
-use Rattle.zvt_tcp.proofs.KeptRuns.{silenced_write, traced_write}
+use Rattle.zvt_tcp.proofs.OverTcpLemmas.{begun_there, silenced, silenced_write, traced_write}
 use Rattle.zvt_tcp.proofs.runs.run_till.Goals as goal
 
 pub returns-clause-run : goal.returns-clause-run
 returns-clause-run g c =
+    let makes = noting g.N.NoteSource.noted (MakesThere g.K.Keeper.orders g.K.Machine.hears g.K.Machine.is_resting g.K.Keeper.failed g.K.Keeper.till g.K.Machine.loses g.K.Machine.malforms) in
     let read = ap (λ (s : StreamState). s.reading) c.in_ok-line.ensures.start in
-    let ran = begun_by read c.run_till_end-answer.ensures.run in
-    silenced_run MakesThere (BeginsThere (reading_of c.args.run.now.lengths)) (settings_of c.args.run.now.settings) (settings_of c.args.run.now.settings) c.args.run.now.options c.args.run.now.plan.now c.is_broken.result c.waited.result _ _ _ _ c.run_till_end-answer.result c.by_trace-answer.result c.by_silence.result
-    refl c.by_trace-answer.ensures c.by_silence.ensures ran
+    let ran = begun_there g.K.Keeper.connects g.K.Keeper.failed g.K.Keeper.till makes _ (reading_of c.args.run.now.lengths) c.args.run.now.options c.args.run.now.plan.now c.args.till.now c.run_till_end-answer.new.till _ _ _ _ c.run_till_end-answer.result read c.run_till_end-answer.ensures.run in
+    silenced g.K.Keeper.connects g.K.Keeper.failed g.K.Keeper.till makes (BeginsThere (reading_of c.args.run.now.lengths)) c.args.run.now.options c.args.run.now.plan.now c.args.till.now c.run_till_end-answer.new.till _ _ _ _
+    c.is_broken.result c.waited.result c.run_till_end-answer.result c.by_trace-answer.result c.by_silence.result c.by_trace-answer.ensures c.by_silence.ensures ran
 
 pub returns-clause-write : goal.returns-clause-write
 returns-clause-write g c = λ is.
