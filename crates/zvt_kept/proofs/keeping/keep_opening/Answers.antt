@@ -17,8 +17,8 @@ returns-in_err-reserve-clause-adds g c =
     let V = g.D.Device in
     let old = c.args.journal.now in
     let new = c.reserve.new.self in
-    nothing_added V.seen V.may_leave V.moment V.left_since V.faults old.device new.device (opening c.args.currency) old.gate new.gate c.from_residual.result c.from_residual.ensures.1
-    c.requires c.reserve.ensures.gate c.reserve.ensures.cause c.reserve.ensures.any_moment
+    nothing_added V.seen V.may_leave V.moment V.left_since V.faults old.device new.device (opening c.args.currency) old.gate new.gate c.from_residual-in_err-reserve.result c.from_residual-in_err-reserve.ensures.1
+    c.requires c.reserve.ensures.gate c.in_err-reserve.ensures.cause c.reserve.ensures.any_moment
 
 pub append-requires-clause-entry : goal.append-requires-clause-entry
 append-requires-clause-entry g c =

@@ -45,8 +45,8 @@ returns-in-Ok-keep_order-clause-orders g c =
     let took = c.in-Ok.ensures in
     let runs = c.begin.ensures.state ∙ ap (λ (s : TillState). accept s order) c.prepare.ensures.state in
     let settled = (c.requires (taken_up state order took.taken)).1.settled in
-    let kept = recorded_after V.seen V.may_leave V.moment V.left_since V.faults old.device c.reserve.new.self.device new.device (ordered order c.args.note.now) old.gate c.reserve.new.self.gate new.gate c.keep_order.result
-    settled c.reserve.ensures.seen c.reserve.ensures.gate c.reserve.ensures.faults c.reserve.ensures.any_moment c.keep_order.ensures.recorded in
+    let kept = recorded_after V.seen V.may_leave V.moment V.left_since V.faults old.device c.reserve.new.self.device new.device (ordered order c.args.note.now) old.gate c.reserve.new.self.gate new.gate _
+    settled c.reserve.ensures.seen c.reserve.ensures.gate c.reserve.ensures.faults c.reserve.ensures.any_moment c.in-Ok-keep_order.ensures.recorded in
     record {
       taken = took.taken;
       message = took.sent;
@@ -77,8 +77,8 @@ returns-in-Err-keep_order-clause-orders g c =
     let room : c.args.till.now.spare ≤ c.begin.new.self.spare = omega (arith, c.prepare.ensures.room, c.begin.ensures.room) in
     let heard = c.begin.ensures.heard ∙ c.prepare.ensures.heard in
     let settled = (c.requires (taken_up state order took.taken)).1.settled in
-    let kept = recorded_after V.seen V.may_leave V.moment V.left_since V.faults old.device c.reserve.new.self.device new.device (ordered order c.args.note.now) old.gate c.reserve.new.self.gate new.gate c.keep_order.result
-    settled c.reserve.ensures.seen c.reserve.ensures.gate c.reserve.ensures.faults c.reserve.ensures.any_moment c.keep_order.ensures.recorded in
+    let kept = recorded_after V.seen V.may_leave V.moment V.left_since V.faults old.device c.reserve.new.self.device new.device (ordered order c.args.note.now) old.gate c.reserve.new.self.gate new.gate _
+    settled c.reserve.ensures.seen c.reserve.ensures.gate c.reserve.ensures.faults c.reserve.ensures.any_moment c.in-Err-keep_order.ensures.recorded in
     record {
       cause = kept.adds.cause;
       stays = kept.adds.stays;

@@ -1,5 +1,6 @@
-use Rattle.std.proofs.Common.{is_some, rules}
-use Rattle.zvt_kept.specs.KeptTill.{Standing, order_sent}
+use Rattle.std.proofs.Common.{Err, is_some, rules, subst}
+use Rattle.zvt_kept.specs.KeptTill.{FindsNoSpace, Orders, Standing, order_sent}
+use Rattle.zvt_kept.specs.declared.refusal.KeptRefusal.{KeptRefusal}
 use Rattle.zvt_kept.proofs.Failing.{unfailed}
 use Rattle.zvt_kept.proofs.Spaceless.{still_kept}
 use Rattle.zvt_kept.proofs.Steps.{kept_on, taken_up, up_whole}
@@ -34,6 +35,7 @@ invariant_of-self-in-Err-Space g c =
     let e = c.in-Err-Space in
     let old : Standing g.row.D.Denot = record { till = k.till; device = k.journal.device; gate = k.journal.gate } in
     let new : Standing g.row.D.Denot = record { till = c.take_order.new.till; device = c.take_order.new.journal.device; gate = c.take_order.new.journal.gate } in
-    let found = e.ensures.orders in
+    let found : FindsNoSpace V.seen V.may_leave V.moment V.left_since V.faults c.args.order old new =
+    subst (λ (r : KeptRefusal). Orders V.seen V.may_leave V.moment V.left_since V.faults c.args.order old new (Err r)) e.field-0-is e.ensures.orders in
     still_kept V.seen V.may_leave V.moment V.left_since V.faults (is_some k.failure) c.args.order old new
     (up_whole V.seen V.may_leave V.moment V.left_since V.faults (is_some k.failure) old (taken_up k.till.state c.args.order found.taken) c.self.invariant) found c.self.invariant
