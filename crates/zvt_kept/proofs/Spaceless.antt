@@ -1,14 +1,13 @@
 -- An order for which the disk had no room left all as it was.
-use Rattle.std.proofs.Common.{◌≡◌, inl, ℕ, true, false, Bool, List, [], ◌++◌, sym, ap, subst, ◌∙◌, arith, refl}
-use Rattle.std.specs.Prelude.{Result, Err, Ok, IfErr, IfOk, OnErr}
+use Rattle.std.proofs.Common.{◌≡◌, ℕ, true, false, Bool, List, ◌++◌, sym, subst}
 use Rattle.zvt_till.specs.declared.happenings.Happening.{Happening}
 use Rattle.zvt_till.specs.declared.orders.Order.{Order}
 use Rattle.zvt_till.specs.Sending.{Settings}
 use Rattle.zvt_till.specs.TillHistory.{Stands}
 use Rattle.zvt_till.specs.Till.{TillState}
 use Rattle.zvt_journal.specs.Device.{LeavesOnly}
-use Rattle.zvt_journal.specs.Text.{recovered, IsSettled}
-use Rattle.zvt_kept.specs.KeptTill.{FindsNoSpace, HasLog, IsKept, KeepsSome, Standing, unless_up}
+use Rattle.zvt_journal.specs.Text.{recovered}
+use Rattle.zvt_kept.specs.KeptTill.{FindsNoSpace, HasLog, IsKept, Standing, unless_up}
 use Rattle.zvt_kept.specs.Logs.{StandsFor}
 use Rattle.zvt_kept.specs.Outliving.{IsBetween}
 use Rattle.zvt_kept.proofs.Logged.{keeps_some, weaker}

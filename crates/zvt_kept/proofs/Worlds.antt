@@ -1,10 +1,9 @@
 -- The calls of a till with its journal as moves of both ends of its line.
-use Rattle.std.proofs.Common.{◌≡◌, ℕ, false, List, ◌++◌, sym, subst}
+use Rattle.std.proofs.Common.{ℕ, List, ◌++◌, sym, subst}
 use Rattle.zvt_till.specs.declared.happenings.Happening.{Happening}
 use Rattle.zvt_till.specs.Sending.{Settings}
 use Rattle.zvt_journal.specs.Text.{recovered}
 use Rattle.zvt_kept.specs.Crashes.{KeptMove, kept_world}
-use Rattle.zvt_kept.specs.KeptTill.{HasLog, KeptValue, has_failed}
 use Rattle.zvt_kept.specs.Logs.{StandsFor}
 use Rattle.zvt_kept.specs.Outliving.{CallsAreMoves, IsBetween, IsOfWorld}
 use Rattle.zvt_kept.proofs.CallsOutlived.{calls_outlive}

@@ -1,4 +1,4 @@
-use Rattle.std.proofs.Common.{◌≡◌, ◌≤◌, arith, refl, sym, ap, ◌∙◌, subst}
+use Rattle.std.proofs.Common.{◌≤◌, arith, refl, sym, ap, ◌∙◌}
 use Rattle.zvt_till.specs.declared.happenings.Happening.TheVariants.{Sent as SentOut, Lost}
 use Rattle.zvt_till.specs.Numbers.{numbers_begun}
 use Rattle.zvt_till.specs.Refusals.{sent_as}

@@ -1,9 +1,9 @@
-use Rattle.std.proofs.Common.{ap, arith, sym, subst, map, Some, take, ◌∙◌, length}
+use Rattle.std.proofs.Common.{ap, arith, sym, subst, map, Some, take, ◌∙◌}
 use Rattle.zvt_till.specs.Settings.{settings_of}
 use Rattle.zvt_kept.specs.Reading.{kept_of}
 use Rattle.zvt_kept.specs.Recovery.{Relives}
-use Rattle.zvt_kept.proofs.Recovering.{SoFar, at_end, foreign, none_yet, one_more}
-use Rattle.zvt_kept.proofs.RowNoteLemmas.{NotedSoFar, none_noted, noted_at_end, noted_on}
+use Rattle.zvt_kept.proofs.Recovering.{SoFar, at_end, foreign, one_more}
+use Rattle.zvt_kept.proofs.RowNoteLemmas.{NotedSoFar, noted_at_end, noted_on}
 use Rattle.zvt_kept.proofs.recovery.recover.Goals as goal
 
 pub returns-then-not-branch-2 : goal.returns-then-not-branch-2
