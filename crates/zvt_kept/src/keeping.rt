@@ -23,8 +23,8 @@ use zvt_stream::Answers;
 use zvt_text::Text;
 use zvt_till::{Heard, Order, Outgoing, Till, heard_view, reply_to};
 
-/// Gives the till an order once its journal has it, and returns the message to send. An order that the till refuses asks for
-/// no disk space, and one for which there is none leaves the till and the journal's records as they were.
+/// Gives the till an order once its journal has it, and returns the message to send. An order that the till refuses asks
+/// for no disk space, and one for which there is none leaves the till and the journal's records as they were.
 pub(crate) fn take_order<D: Device>(
     alloc: Global,
     till: &mut Till,

@@ -53,8 +53,8 @@ pub(crate) fn run_kept_steps<L: StepLine<KeptTill<D>>, D: Device, T: Sink, E: Si
     by_book(kept.has_failed(), answer)
 }
 
-/// The fault of a step. A journal that failed is a line whose writes fail. An order without room on the disk ends the run as
-/// one without memory.
+/// The fault of a step. A journal that failed is a line whose writes fail. An order without room on the disk ends the run
+/// as one without memory.
 pub(crate) fn run_fault(fault: KeptFault) -> RunFault
     ensures { result ≡ run_fault_of fault }
 {
