@@ -3,7 +3,8 @@
 //! No contract of std says what a file holds. So the device notes each call and its answer in a record that contracts
 //! alone see, and what a read returns and what a crash may leave are read off that record. It is trusted that each call
 //! is made that is noted, that a file is as the crash model of `Device` says, and that nobody else writes it.
-ghost use Rattle.std.specs.Prelude.{◌≡◌, ◌↔◌, [], ◌∷◌, length, is_err, is_ok, is_some, IfErr, IfOk, IsOk, IsNone, IsSome, OnOk, OnErr, MatchResult, Some};
+ghost use Rattle.std.specs.Prelude.{◌≡◌, ◌↔◌, [], ◌∷◌, length, is_err, is_ok, is_some};
+ghost use Rattle.std.specs.Prelude.{IfErr, IfOk, IsOk, IsNone, IsSome, MatchResult, OnErr, OnOk, Some};
 ghost use Rattle.zvt_journal.specs.Calls.{seen_after, may_leave_after, left_since_after, failed_among, counts_now, only_now, SeenMayBeLeft};
 
 use crate::call::{Call, Step};
