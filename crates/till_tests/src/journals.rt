@@ -15,7 +15,8 @@ const STAGED: [u8; 9] = *b"!\n\n 0600\n";
 
 /// What opening a file of these bytes recovers, and the file after it.
 fn opened(alloc: Global, bytes: &[u8]) -> Result<(Vec<u8>, Memory), Fail>
-    ensures { IfOk result (λ pair. IsSettled (memory_bytes pair.1) (λ file. file ≡ memory_bytes pair.1) (length pair.0.items)) }
+    ensures { IfOk result (λ pair. IsSettled (memory_bytes pair.1) (λ file. file ≡ memory_bytes pair.1)
+        (length pair.0.items)) }
 {
     let mut file = Memory::new(alloc, bytes.to_vec(alloc)?);
     let text = open(&mut file, bytes.to_vec(alloc)?)?;

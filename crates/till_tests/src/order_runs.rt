@@ -232,8 +232,8 @@ fn register(rt: &impl Abort, alloc: Global, till: &mut Till) -> Stream {
     end.stream
 }
 
-/// What comes of paying 1234 where the approval comes byte by byte, and that read or that write fails, if there is one: a
-/// payment that was booked, or one that is unclear.
+/// What comes of paying 1234 where the approval comes byte by byte, and that read or that write fails, if there is one:
+/// a payment that was booked, or one that is unclear.
 fn pays_over(
     rt: &impl Abort,
     alloc: Global,

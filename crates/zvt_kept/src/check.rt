@@ -1,7 +1,7 @@
 //! The check of a record: a line after the record's lines, with a digest of them.
 //!
-//! The journal's theorems about crashes don't rest on checks. A check shows that somebody changed the file, or that the disk
-//! damaged it.
+//! The journal's theorems about crashes don't rest on checks. A check shows that somebody changed the file, or that the
+//! disk damaged it.
 ghost use Rattle.std.specs.Prelude.{◌≡◌, ◌≤◌, ◌++◌, ◌∷◌, [], cond, drop, length, List, ℕ};
 ghost use Rattle.sha2.specs.Hashers.{Holds256};
 ghost use Rattle.zvt_journal.specs.Text.{text_of};
@@ -66,7 +66,8 @@ fn check_of(hasher: Sha256) -> [u8; 2 * CHECK_LEN]
 
 /// The record with one more line, or a new record that begins with the line.
 fn with_line(hasher: Sha256, line: &[u8]) -> Sha256
-    ensures { (lines : List (List ℕ)) → Holds256 hasher (text_of lines) → Holds256 result (text_of (cond (is_sent line.now) (lines ++ line.now ∷ []) (line.now ∷ []))) }
+    ensures { (lines : List (List ℕ)) → Holds256 hasher (text_of lines)
+        → Holds256 result (text_of (cond (is_sent line.now) (lines ++ line.now ∷ []) (line.now ∷ []))) }
 {
     let mut hasher = if is_sent(line) { hasher } else { Sha256::new() };
     hasher.update(line);

@@ -22,9 +22,9 @@ use zvt_stream::Answers;
 use zvt_text::Text;
 use zvt_till::{BookFault, Heard, Order, Outgoing, Till, Untaken, heard_view, reply_to};
 
-/// Gives the till an order once its journal has it, and returns the message to send. An order that the till refuses asks for
-/// no disk space, and one for which there is none leaves the till and the journal's records as they were. If the journal
-/// fails, `failure` says why.
+/// Gives the till an order once its journal has it, and returns the message to send. An order that the till refuses
+/// asks for no disk space, and one for which there is none leaves the till and the journal's records as they were. If
+/// the journal fails, `failure` says why.
 pub(crate) fn take_order<D: Device>(
     alloc: Global,
     till: &mut Till,
@@ -33,10 +33,12 @@ pub(crate) fn take_order<D: Device>(
     order: Order,
     note: &Note,
 ) -> Result<Outgoing, Untaken>
-    requires { till.old.state.line_up ≡ true → KeepsSome (D.seen journal.old.device) (D.may_leave journal.old.device) journal.old.gate till.old.state }
+    requires { till.old.state.line_up ≡ true → KeepsSome (D.seen journal.old.device) (D.may_leave journal.old.device)
+        journal.old.gate till.old.state }
     ensures { Orders D.seen D.may_leave D.moment D.left_since D.faults order note.now
         (record { till = till.old; device = journal.old.device; gate = journal.old.gate })
-        (record { till = till.new; device = journal.new.device; gate = journal.new.gate }) failure.old failure.new result }
+        (record { till = till.new; device = journal.new.device; gate = journal.new.gate }) failure.old
+        failure.new result }
 {
     has_words(till, &order);
     let outgoing = match till.prepare(&order) {
@@ -65,7 +67,8 @@ pub(crate) fn take_message<D: Device>(
     apdu: &ApduView<'_>,
 ) -> Result<Answers, DeviceError>
     requires up { till.old.state.line_up ≡ true }
-    requires kept { KeepsSome (D.seen journal.old.device) (D.may_leave journal.old.device) journal.old.gate till.old.state }
+    requires kept { KeepsSome (D.seen journal.old.device) (D.may_leave journal.old.device) journal.old.gate
+        till.old.state }
     ensures { Takes D.seen D.may_leave D.moment D.left_since D.faults apdu.now
         (record { till = till.old; device = journal.old.device; gate = journal.old.gate })
         (record { till = till.new; device = journal.new.device; gate = journal.new.gate }) result }
@@ -111,7 +114,8 @@ fn keep_order<D: Device>(
     requires settled { IsSettled (D.seen journal.old.device) (D.may_leave journal.old.device) journal.old.gate }
     requires room { D.has_capacity journal.old.device ≡ true }
     requires spelled { IsSpelledOrder order.now }
-    ensures recorded { Recorded D.seen D.may_leave D.moment D.left_since D.faults (ordered order.now note.now) journal.old.device journal.new.device journal.old.gate journal.new.gate result }
+    ensures recorded { Recorded D.seen D.may_leave D.moment D.left_since D.faults (ordered order.now note.now)
+        journal.old.device journal.new.device journal.old.gate journal.new.gate result }
     ensures noted { OnOk result (HasNoted D.seen order.now note.now journal.old.device journal.new.device) }
 {
     let mut buffer = [0; MAX_BRIEF_LEN];
@@ -130,7 +134,9 @@ fn keep_heard<D: Device>(
 ) -> Result<(), DeviceError>
     requires settled { IsSettled (D.seen journal.old.device) (D.may_leave journal.old.device) journal.old.gate }
     requires few { length answers.now ≤ 32 }
-    ensures { (bytes : List ℕ) × ∥ Spells padded message.now bytes ∥₁ × Recorded D.seen D.may_leave D.moment D.left_since D.faults (heard bytes) journal.old.device journal.new.device journal.old.gate journal.new.gate result }
+    ensures { (bytes : List ℕ) × ∥ Spells padded message.now bytes ∥₁ × Recorded D.seen D.may_leave D.moment
+        D.left_since D.faults (heard bytes) journal.old.device journal.new.device journal.old.gate
+        journal.new.gate result }
 {
     let mut text = Text::new(alloc);
     put_heard(&mut text, message.bytes(), answers)?;
@@ -144,7 +150,8 @@ pub(crate) fn keep_opening<D: Device>(
     currency: Currency,
 ) -> Result<(), DeviceError>
     requires { IsSettled (D.seen journal.old.device) (D.may_leave journal.old.device) journal.old.gate }
-    ensures adds { Adds D.seen D.may_leave D.moment D.left_since D.faults (opening currency) journal.old.device journal.new.device journal.old.gate journal.new.gate result }
+    ensures adds { Adds D.seen D.may_leave D.moment D.left_since D.faults (opening currency) journal.old.device
+        journal.new.device journal.old.gate journal.new.gate result }
     ensures kept { kept_in (opening currency) ≡ Some [] }
 {
     let mut text = Text::new(alloc);
@@ -159,7 +166,8 @@ pub(crate) fn keep_lost<D: Device>(
     journal: &mut Journal<D>,
 ) -> Result<(), DeviceError>
     requires { IsSettled (D.seen journal.old.device) (D.may_leave journal.old.device) journal.old.gate }
-    ensures { Recorded D.seen D.may_leave D.moment D.left_since D.faults lost journal.old.device journal.new.device journal.old.gate journal.new.gate result }
+    ensures { Recorded D.seen D.may_leave D.moment D.left_since D.faults lost journal.old.device journal.new.device
+        journal.old.gate journal.new.gate result }
 {
     let mut text = Text::new(alloc);
     put_lost(&mut text)?;

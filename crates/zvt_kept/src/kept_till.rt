@@ -36,9 +36,14 @@ impl<D: Device> Model for KeptTill<D> {
 
     ghost Value = { KeptValue D };
 
-    ghost view = { λ k. record { standing = record { till = k.till; device = k.journal.device; gate = k.journal.gate }; failure = k.failure; note = k.note } };
+    ghost view = { λ k. record {
+      standing = record { till = k.till; device = k.journal.device; gate = k.journal.gate };
+      failure = k.failure;
+      note = k.note;
+    } };
 
-    ghost invariant = { λ k. IsKept (is_some k.failure) (D.seen k.journal.device) (D.may_leave k.journal.device) k.journal.gate k.till.state };
+    ghost invariant = { λ k. IsKept (is_some k.failure) (D.seen k.journal.device) (D.may_leave k.journal.device)
+        k.journal.gate k.till.state };
 }
 
 impl<D: Device + Drop> KeptTill<D> {
@@ -53,8 +58,8 @@ impl<D: Device + Drop> KeptTill<D> {
     ghost use Rattle.zvt_till.specs.Till.{new_till};
     ghost use Rattle.zvt_till.specs.declared.happenings.Happening.TheVariants.{Connected};
 
-    /// Begins a journal on a device without records, which `zvt_journal::open` left at rest: its opening is durable then. The
-    /// till is new, and its line is down.
+    /// Begins a journal on a device without records, which `zvt_journal::open` left at rest: its opening is durable
+    /// then. The till is new, and its line is down.
     ///
     /// After an error the device has no record, or the opening; opening it again says which. `Full` never comes.
     pub fn create(
@@ -67,10 +72,14 @@ impl<D: Device + Drop> KeptTill<D> {
         ensures whole { IfOk result (λ kept. kept.failure ≡ None) }
         // A crash at any moment leaves no record, or the opening, in a file that opening repairs.
         ensures any_moment { MatchResult result
-            (λ kept. Begins D.seen D.may_leave D.moment D.left_since D.faults settings.now.currency device kept.standing.device)
-            (λ unbegun. Begins D.seen D.may_leave D.moment D.left_since D.faults settings.now.currency device unbegun.device) }
+            (λ kept. Begins D.seen D.may_leave D.moment D.left_since D.faults settings.now.currency device
+            kept.standing.device)
+            (λ unbegun. Begins D.seen D.may_leave D.moment D.left_since D.faults settings.now.currency device
+            unbegun.device) }
         ensures cause { IfErr result (λ unbegun. HasCause unbegun.why (D.faults device) (D.faults unbegun.device) 0) }
-        ensures log { IfOk result (λ kept. Keeps (settings_of settings.now) (Connected ∷ []) (D.seen kept.standing.device) (D.may_leave kept.standing.device) kept.standing.gate kept.standing.till.state) }
+        ensures log { IfOk result (λ kept. Keeps (settings_of settings.now) (Connected ∷ [])
+            (D.seen kept.standing.device) (D.may_leave kept.standing.device) kept.standing.gate
+            kept.standing.till.state) }
     {
         let mut journal = Journal {
             alloc,
@@ -104,10 +113,14 @@ impl<D: Device + Drop> KeptTill<D> {
     ) -> Result<KeptTill<D>, RecoveryError>
         requires text { recovered (D.seen device) ≡ text.now }
         requires settled { IsSettled (D.seen device) (D.may_leave device) (length text.now) }
-        ensures till { MatchResult result (λ kept. IsRecovered (settings_of settings.now) text.now kept.standing.till.state) (λ why. Recovers (settings_of settings.now) text.now (Err why)) }
-        ensures device { IfOk result (λ kept. (kept.standing.device ≡ device) × (kept.standing.gate ≡ length text.now)) }
+        ensures till { MatchResult result (λ kept. IsRecovered (settings_of settings.now) text.now
+            kept.standing.till.state) (λ why. Recovers (settings_of settings.now) text.now (Err why)) }
+        ensures device { IfOk result (λ kept. (kept.standing.device ≡ device)
+            × (kept.standing.gate ≡ length text.now)) }
         ensures whole { IfOk result (λ kept. kept.failure ≡ None) }
-        ensures log { IfOk result (λ kept. (log : List Happening) → StandsFor settings.now.currency text.now log → Keeps (settings_of settings.now) log (D.seen device) (D.may_leave device) (length text.now) kept.standing.till.state) }
+        ensures log { IfOk result (λ kept. (log : List Happening) → StandsFor settings.now.currency text.now log
+            → Keeps (settings_of settings.now) log (D.seen device) (D.may_leave device) (length text.now)
+            kept.standing.till.state) }
     {
         let Recovered { till, .. } = recover(alloc, settings, text)?;
         let journal = Journal {
@@ -130,7 +143,8 @@ impl<D: Device> KeptTill<D> {
     /// The till, to look at.
     pub fn till(&self) -> &Till
         ensures till { result.now ≡ self.now.standing.till }
-        ensures kept { IsKept (has_failed self.now) (D.seen self.now.standing.device) (D.may_leave self.now.standing.device) self.now.standing.gate self.now.standing.till.state }
+        ensures kept { IsKept (has_failed self.now) (D.seen self.now.standing.device)
+            (D.may_leave self.now.standing.device) self.now.standing.gate self.now.standing.till.state }
     {
         &self.till
     }
@@ -189,7 +203,8 @@ impl<D: Device> Machine for KeptTill<D> {
     ghost use Rattle.std.specs.Prelude.{false};
     ghost use Rattle.zvt_kept.specs.KeptTill.{Hears, LosesLine, kept_rests};
 
-    ghost hears = { λ old message answered new. Hears D.seen D.may_leave D.moment D.left_since D.faults old message answered new };
+    ghost hears = { λ old message answered new. Hears D.seen D.may_leave D.moment D.left_since D.faults old message
+        answered new };
 
     ghost loses = { λ old new. LosesLine D.seen D.may_leave D.moment D.left_since D.faults old new };
 
@@ -225,8 +240,8 @@ impl<D: Device> Machine for KeptTill<D> {
     }
 }
 
-/// Each order is durable, with its note, before you get the message to send. Space for all records of an order is reserved
-/// before: without it the order is not taken, and nothing changes.
+/// Each order is durable, with its note, before you get the message to send. Space for all records of an order is
+/// reserved before: without it the order is not taken, and nothing changes.
 impl<D: Device> Keeper for KeptTill<D> {
     ghost use Rattle.std.specs.Prelude.{refl};
     ghost use Rattle.zvt_kept.specs.Keeping.{kept_connects, kept_follows, kept_orders};

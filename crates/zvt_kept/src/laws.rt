@@ -1,7 +1,9 @@
 //! Laws about sequences of records, and about the records that a crash at any moment leaves.
-ghost use Rattle.zvt_kept.specs.Crashes.{CrashesAccount, CrashesAreLosses, CrashesKeepReversals, CrashesMatch, FilesAreWorlds};
+ghost use Rattle.zvt_kept.specs.Crashes.{CrashesAccount, CrashesAreLosses, CrashesKeepReversals, CrashesMatch};
+ghost use Rattle.zvt_kept.specs.Crashes.{FilesAreWorlds};
 ghost use Rattle.zvt_kept.specs.Logs.{LogsAreOne};
-ghost use Rattle.zvt_kept.specs.Outliving.{CallsAreMoves, CallsOutlive, HearingsOutlive, LogsAreRecovered, RunsOutlive, TillsAreRecovered};
+ghost use Rattle.zvt_kept.specs.Outliving.{CallsAreMoves, CallsOutlive, HearingsOutlive, LogsAreRecovered, RunsOutlive};
+ghost use Rattle.zvt_kept.specs.Outliving.{TillsAreRecovered};
 ghost use Rattle.zvt_kept.specs.Records.{OpeningIsTaken, RecordsAreKept, RecordsAreTaken, RecordsAreWhole};
 ghost use Rattle.zvt_kept.specs.Remarks.{RemarksMeanNothing};
 
@@ -15,8 +17,8 @@ pub fn records_are_kept()
     ensures taken { RecordsAreTaken }
 {}
 
-/// The opening of a journal means nothing, and a journal takes it as its first record: a crash while it is appended leaves a
-/// file that opening takes.
+/// The opening of a journal means nothing, and a journal takes it as its first record: a crash while it is appended
+/// leaves a file that opening takes.
 pub fn opening_is_taken()
     ensures { OpeningIsTaken }
 {}
@@ -41,20 +43,20 @@ pub fn hearings_outlive<D: Device>()
     ensures { HearingsOutlive D.seen D.may_leave D.moment D.left_since D.faults }
 {}
 
-/// While a till runs an order, a crash at any moment leaves a journal of its log, perhaps of the order, and then of some first
-/// ones of the messages that were read.
+/// While a till runs an order, a crash at any moment leaves a journal of its log, perhaps of the order, and then of
+/// some first ones of the messages that were read.
 pub fn runs_outlive<D: Device>()
     ensures { RunsOutlive D.seen D.may_leave D.moment D.left_since D.faults }
 {}
 
-/// Over many orders and lines, a crash at any moment leaves a journal of the till's log and a prefix of what happened. At the
-/// end it is of all that happened, if the journal did not fail.
+/// Over many orders and lines, a crash at any moment leaves a journal of the till's log and a prefix of what happened.
+/// At the end it is of all that happened, if the journal did not fail.
 pub fn calls_outlive<D: Device>()
     ensures { CallsOutlive D.seen D.may_leave D.moment D.left_since D.faults }
 {}
 
-/// The calls of a till with its journal are moves of both ends of its line: after a crash at any moment, recovery gives the till
-/// that both ends have after a crash.
+/// The calls of a till with its journal are moves of both ends of its line: after a crash at any moment, recovery gives
+/// the till that both ends have after a crash.
 pub fn calls_are_moves<D: Device>()
     ensures { CallsAreMoves D.seen D.may_leave D.moment D.left_since D.faults }
 {}
@@ -67,8 +69,8 @@ pub fn tills_are_recovered<D: Device>()
 /// With any settings of the till, a crash and the recovery from its journal have the same effect on both ends as a
 /// lost connection. Recovery restores exactly the till that a lost connection would leave.
 ///
-/// So what holds of both ends holds with crashes: each entry of the till's book is an approval of its own in the terminal's
-/// ledger. Over lines that keep order no approval, and no payment that was taken back, is dropped.
+/// So what holds of both ends holds with crashes: each entry of the till's book is an approval of its own in the
+/// terminal's ledger. Over lines that keep order no approval, and no payment that was taken back, is dropped.
 pub fn crashes_are_losses()
     ensures same { CrashesAreLosses }
     ensures files { FilesAreWorlds }

@@ -2,7 +2,8 @@
 ghost use Rattle.std.specs.Prelude.{◌≡◌, ◌≤◌, ◌+◌, ◌++◌, ◌&&◌, drop, if◌then◌else◌, length, option_map, take, true};
 ghost use Rattle.std.specs.Char.{is_ascii_graphic};
 ghost use Rattle.std.specs.List.{list_all};
-ghost use Rattle.zvt_kept.specs.Notes.{fits, fits_if_some, fits_place, is_moment, is_note, is_reference, is_reference_part, keyed};
+ghost use Rattle.zvt_kept.specs.Notes.{fits, fits_if_some, fits_place, is_moment, is_note, is_reference};
+ghost use Rattle.zvt_kept.specs.Notes.{is_reference_part, keyed};
 
 use arrayvec::ArrayVec;
 use std::marker::Model;
@@ -44,10 +45,11 @@ impl Note {
         }
     }
 
-    /// The note with this time and this reference. It is `None` where the time is not of the form `2026-11-28T09:14:03Z`, or
-    /// the reference is not 1 to 40 printable ASCII characters without a space.
+    /// The note with this time and this reference. It is `None` where the time is not of the form
+    /// `2026-11-28T09:14:03Z`, or the reference is not 1 to 40 printable ASCII characters without a space.
     pub fn new(at: Option<&[u8]>, reference: Option<&[u8]>) -> Option<Note>
-        ensures note { result ≡ note_of (option_map (λ text. text.now) at.entry) (option_map (λ text. text.now) reference.entry) }
+        ensures note { result ≡ note_of (option_map (λ text. text.now) at.entry)
+            (option_map (λ text. text.now) reference.entry) }
         ensures at { IfSome result (λ note. at_in note ≡ option_map (λ text. text.now) at.entry) }
         ensures reference { IfSome result (λ note. reference_in note ≡ option_map (λ text. text.now) reference.entry) }
     {
@@ -118,7 +120,8 @@ impl Note {
 
 /// Whether each of these that is given is a time and a reference.
 fn are_right(at: Option<&[u8]>, reference: Option<&[u8]>) -> bool
-    ensures { result ≡ (fits_if_some is_moment (option_map (λ text. text.now) at.entry) && fits_if_some is_reference (option_map (λ text. text.now) reference.entry)) }
+    ensures { result ≡ (fits_if_some is_moment (option_map (λ text. text.now) at.entry) && fits_if_some is_reference
+        (option_map (λ text. text.now) reference.entry)) }
 {
     let right_time = match at {
         Some(at) => is_moment(at),

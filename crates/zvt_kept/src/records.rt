@@ -2,7 +2,9 @@
 ghost use Rattle.std.specs.Prelude.{◌≡◌, ◌++◌, ◌<◌, ◌≤◌, ◌^◌, [], ◌∷◌, Some, decimal, length};
 ghost use Rattle.zvt_journal.specs.Text.{IsRecord};
 ghost use Rattle.zvt_kept.specs.Reading.{Extends};
-ghost use Rattle.zvt_kept.specs.Records.{IsRecordOf, IsSpelledOrder, heard, heard_lines, heard_record, kept_in, ordered, lost_record, one_or_none, opening, order_line, order_lines, order_record, order_words, sent_lines};
+ghost use Rattle.zvt_kept.specs.Records.{IsRecordOf, IsSpelledOrder, heard, heard_lines, heard_record, kept_in};
+ghost use Rattle.zvt_kept.specs.Records.{ordered, lost_record, one_or_none, opening, order_line, order_lines};
+ghost use Rattle.zvt_kept.specs.Records.{order_record, order_words, sent_lines};
 
 use crate::check::put_check;
 use crate::note::Note;
@@ -37,7 +39,8 @@ pub fn put_opening(text: &mut Text, currency: Currency) -> Result<(), AllocError
 /// The bytes are written as they are given. So the caller puts 00 00 00 in the place of a password.
 pub fn put_order(text: &mut Text, order: &Order, note: &Note, sent: &[u8]) -> Result<(), AllocError>
     ensures written { Extends result text.old text.new (order_record order.now note.now sent.now) }
-    ensures kept { IsSpelledOrder order.now → IsRecordOf (ordered order.now note.now) (order_record order.now note.now sent.now) }
+    ensures kept { IsSpelledOrder order.now → IsRecordOf (ordered order.now note.now)
+        (order_record order.now note.now sent.now) }
     ensures few { length note.now ≤ 69 }
 {
     let start = text.size();

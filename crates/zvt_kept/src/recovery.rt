@@ -73,8 +73,10 @@ pub fn recover(
     settings: &TillSettings,
     text: &[u8],
 ) -> Result<Recovered, RecoveryError>
-    ensures till { MatchResult result (λ recovered. Recovers (settings_of settings.now) text.now (Ok recovered.till)) (λ why. Recovers (settings_of settings.now) text.now (Err why)) }
-    ensures notes { IfOk result (λ recovered. HasNotes (settings_of settings.now) text.now recovered.till.state recovered.booked.items recovered.unclear.items) }
+    ensures till { MatchResult result (λ recovered. Recovers (settings_of settings.now) text.now (Ok recovered.till))
+        (λ why. Recovers (settings_of settings.now) text.now (Err why)) }
+    ensures notes { IfOk result (λ recovered. HasNotes (settings_of settings.now) text.now recovered.till.state
+        recovered.booked.items recovered.unclear.items) }
 {
     if !has_opening(alloc, text, settings.currency)? {
         return Err(RecoveryError::Opening);
@@ -130,7 +132,8 @@ fn relive(alloc: Global, till: &mut Till, entry: &Entry) -> Result<bool, AllocEr
 
 /// Replays an order. Returns whether the till accepts it.
 fn relive_order(till: &mut Till, order: &Order) -> Result<bool, AllocError>
-    ensures { IfOk result (λ can. (note : List ℕ) → Relives can (ordered order.now note) till.old.state till.new.state) }
+    ensures { IfOk result (λ can. (note : List ℕ) → Relives can (ordered order.now note) till.old.state
+        till.new.state) }
 {
     match till.order(*order) {
         Ok(_) => Ok(true),

@@ -50,8 +50,10 @@ impl RowNotes {
     /// Adds the note that it holds for a payment that the till booked, or that became unclear.
     pub(crate) fn follow(&mut self, till: &Till) -> Result<(), AllocError>
         ensures last { OnOk result (self.new.last ≡ self.old.last) }
-        ensures booked { OnOk result (self.new.booked.items ≡ grown self.old.booked.items (length till.now.state.book) self.old.last) }
-        ensures unclear { OnOk result (self.new.unclear.items ≡ grown self.old.unclear.items (length till.now.state.unclear) self.old.last) }
+        ensures booked { OnOk result (self.new.booked.items ≡ grown self.old.booked.items (length till.now.state.book)
+            self.old.last) }
+        ensures unclear { OnOk result (self.new.unclear.items ≡ grown self.old.unclear.items
+            (length till.now.state.unclear) self.old.last) }
     {
         if self.booked.len() < till.book().len() {
             self.booked.push(self.last.copied())?;

@@ -2,7 +2,8 @@
 ghost use Rattle.std.specs.Prelude.{◌≡◌, ◌≤◌, ◌-◌, ◌==◌, ℕ, IfSome, List, length, option_map};
 ghost use Rattle.std.specs.List.{position, position_or_len};
 ghost use Rattle.zvt_kept.specs.Reading.{kept_of};
-ghost use Rattle.zvt_kept.specs.Records.{begins_with, ends_word, is_reserved, noted_digits, number_of, order_of, plain, with_number};
+ghost use Rattle.zvt_kept.specs.Records.{begins_with, ends_word, is_reserved, noted_digits, number_of, order_of, plain};
+ghost use Rattle.zvt_kept.specs.Records.{with_number};
 
 use crate::note::Note;
 use crate::records::Entry;

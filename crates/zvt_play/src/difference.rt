@@ -11,8 +11,8 @@ pub enum Difference {
     Surplus { count: usize },
     /// The other side closed the connection, after `have` bytes of a message.
     Closed { have: usize },
-    /// No message begins with the bytes that came, up to and with the one at `place`, which is counted from 0 at the first
-    /// byte of the message.
+    /// No message begins with the bytes that came, up to and with the one at `place`, which is counted from 0 at the
+    /// first byte of the message.
     Malformed { place: usize, why: Why },
     /// A read failed, or took longer than the device waits.
     Read,
@@ -20,8 +20,8 @@ pub enum Difference {
     Write,
 }
 
-/// The first step that could not be played, counted from 0, and why. All steps before it were played. The end of the script
-/// counts as a step.
+/// The first step that could not be played, counted from 0, and why. All steps before it were played. The end of the
+/// script counts as a step.
 #[derive(Clone, Copy, Drop)]
 pub struct Unplayed {
     pub step: usize,

@@ -77,8 +77,10 @@ fn read_piece(
     from: Direction,
     text: &[u8],
 ) -> Result<Option<Action>, BadLine>
-    ensures ok { IfOk result (λ read. (line : List ℕ) → SaysBy own line (piece_of from (decode_of (without_spaces text.now))) (Ok (option_map act_of read))) }
-    ensures wrong { (why : ScriptLineError) → result ≡ Err (BadLine.Wrong why) → (line : List ℕ) → SaysBy own line (piece_of from (decode_of (without_spaces text.now))) (Err why) }
+    ensures ok { IfOk result (λ read. (line : List ℕ)
+        → SaysBy own line (piece_of from (decode_of (without_spaces text.now))) (Ok (option_map act_of read))) }
+    ensures wrong { (why : ScriptLineError) → result ≡ Err (BadLine.Wrong why) → (line : List ℕ)
+        → SaysBy own line (piece_of from (decode_of (without_spaces text.now))) (Err why) }
 {
     let bytes = decode(alloc, text)?;
     if own == from {
@@ -91,7 +93,8 @@ fn read_piece(
 /// The bytes that the text spells.
 fn decode(alloc: Global, text: &[u8]) -> Result<Vec<u8>, BadLine>
     ensures ok { IfOk result (λ bytes. decode_of (without_spaces text.now) ≡ Ok bytes.items) }
-    ensures wrong { (why : ScriptLineError) → result ≡ Err (BadLine.Wrong why) → (why ≡ ScriptLineError.Trace TraceLineError.Hex) × IsErr (decode_of (without_spaces text.now)) }
+    ensures wrong { (why : ScriptLineError) → result ≡ Err (BadLine.Wrong why)
+        → (why ≡ ScriptLineError.Trace TraceLineError.Hex) × IsErr (decode_of (without_spaces text.now)) }
 {
     match spelled_bytes(alloc, text)? {
         Some(bytes) => Ok(bytes),

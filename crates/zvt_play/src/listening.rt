@@ -11,7 +11,8 @@ use zvt_io::Source;
 /// Listens until the other side closes the connection or sends nothing for the timeout of a read. If it still owes an
 /// acknowledgement, that may arrive. Anything else is a surplus.
 pub fn listen_on<R: Source>(reader: &mut R, is_owed: bool) -> Result<(), Difference>
-    ensures ok { OnOk result (FallsSilent is_owed (R.remaining reader.old) (R.remaining reader.new) (R.failures reader.old) (R.failures reader.new)) }
+    ensures ok { OnOk result (FallsSilent is_owed (R.remaining reader.old) (R.remaining reader.new)
+        (R.failures reader.old) (R.failures reader.new)) }
     ensures err { IfErr result (λ why. SaysMore is_owed why (R.remaining reader.old) (R.remaining reader.new)) }
 {
     let all = allowed(is_owed);
@@ -47,7 +48,8 @@ fn allowed(is_owed: bool) -> &'static [u8]
 fn read_more<R: Source>(reader: &mut R, heard: &mut Unheard) -> Option<usize>
     ensures { MatchOption result
         (NoneCame (R.remaining reader.old) (R.remaining reader.new) (R.failures reader.old) (R.failures reader.new))
-        (λ count. (0 < count) × (length (unheard_in heard.new) ≡ count) × Consumes (R.remaining reader.old) (R.remaining reader.new) (unheard_in heard.new) × (R.failures reader.new ≡ R.failures reader.old)) }
+        (λ count. (0 < count) × (length (unheard_in heard.new) ≡ count) × Consumes (R.remaining reader.old)
+        (R.remaining reader.new) (unheard_in heard.new) × (R.failures reader.new ≡ R.failures reader.old)) }
 {
     match heard.refill(reader) {
         Ok(0) => None,

@@ -16,7 +16,8 @@ const NAME_DIGITS: usize = 2;
 
 /// Reads a comment: nothing, or a mark, which begins with `#~`.
 pub(crate) fn read_comment(line: &[u8]) -> Result<Option<Action>, ScriptLineError>
-    ensures { MatchResult result (λ read. comment_says line.now ≡ Ok (option_map act_of read)) (λ why. comment_says line.now ≡ Err why) }
+    ensures { MatchResult result (λ read. comment_says line.now ≡ Ok (option_map act_of read))
+        (λ why. comment_says line.now ≡ Err why) }
 {
     let Some(words) = trailing(b"#~", line) else {
         return Ok(None);

@@ -1,6 +1,7 @@
 //! Messages that come, and what a line demands of them.
 ghost use Rattle.std.specs.Prelude.{IfErr, MatchOption, OnOk};
-ghost use Rattle.zvt_play.specs.Playing.{AreApart, Differs, Fills, Hears, IsReady, Leaves, NextMessage, NoMessage, NoMore};
+ghost use Rattle.zvt_play.specs.Playing.{AreApart, Differs, Fills, Hears, IsReady, Leaves, NextMessage, NoMessage};
+ghost use Rattle.zvt_play.specs.Playing.{NoMore};
 ghost use Rattle.zvt_play.specs.Unheard.{unheard_in};
 
 use crate::difference::Difference;
@@ -16,9 +17,11 @@ pub(crate) fn hear<R: Source>(
     demanded: &[u8],
 ) -> Result<(), Difference>
     requires { IsReady stream.old }
-    ensures ok { OnOk result (Hears demanded.now (unheard_in unheard.old) (R.remaining reader.old) (unheard_in unheard.new) (R.remaining reader.new) stream.new.lent) }
+    ensures ok { OnOk result (Hears demanded.now (unheard_in unheard.old) (R.remaining reader.old)
+        (unheard_in unheard.new) (R.remaining reader.new) stream.new.lent) }
     ensures ready { OnOk result (IsReady stream.new) }
-    ensures err { IfErr result (λ why. Differs why demanded.now (unheard_in unheard.old) (R.remaining reader.old) (R.remaining reader.new) stream.new) }
+    ensures err { IfErr result (λ why. Differs why demanded.now (unheard_in unheard.old) (R.remaining reader.old)
+        (R.remaining reader.new) stream.new) }
 {
     let mut wanted = demanded;
     'messages: loop {
@@ -39,7 +42,8 @@ pub(crate) fn hear<R: Source>(
 
 /// What is left of the bytes that are demanded after this message, where it agrees with them.
 fn left_after<'d>(demanded: &'d [u8], message: &[u8]) -> Option<&'d [u8]>
-    ensures { MatchOption result (AreApart demanded.now message.now) (λ left. Leaves demanded.now message.now left.now) }
+    ensures { MatchOption result (AreApart demanded.now message.now)
+        (λ left. Leaves demanded.now message.now left.now) }
 {
     match message.strip_prefix(demanded) {
         Some(_) => Some(&[]),
@@ -54,9 +58,11 @@ fn next_message<R: Source>(
     unheard: &mut Unheard,
 ) -> Result<(), Difference>
     requires { IsReady stream.old }
-    ensures ok { OnOk result (NextMessage (unheard_in unheard.old) (R.remaining reader.old) (unheard_in unheard.new) (R.remaining reader.new) stream.new) }
+    ensures ok { OnOk result (NextMessage (unheard_in unheard.old) (R.remaining reader.old) (unheard_in unheard.new)
+        (R.remaining reader.new) stream.new) }
     ensures ready { OnOk result (IsReady stream.new) }
-    ensures err { IfErr result (λ why. NoMessage why (unheard_in unheard.old) (R.remaining reader.old) (R.remaining reader.new)) }
+    ensures err { IfErr result (λ why. NoMessage why (unheard_in unheard.old) (R.remaining reader.old)
+        (R.remaining reader.new)) }
 {
     'pieces: loop {
         let have = stream.held();
@@ -76,8 +82,10 @@ fn next_message<R: Source>(
 
 /// Reads, where all that was read was heard. `have` bytes of a message have come before.
 fn fill<R: Source>(reader: &mut R, unheard: &mut Unheard, have: usize) -> Result<(), Difference>
-    ensures ok { OnOk result (Fills (unheard_in unheard.old) (R.remaining reader.old) (unheard_in unheard.new) (R.remaining reader.new)) }
-    ensures err { IfErr result (λ why. NoMore why have (unheard_in unheard.old) (R.remaining reader.old) (R.remaining reader.new)) }
+    ensures ok { OnOk result (Fills (unheard_in unheard.old) (R.remaining reader.old) (unheard_in unheard.new)
+        (R.remaining reader.new)) }
+    ensures err { IfErr result (λ why. NoMore why have (unheard_in unheard.old) (R.remaining reader.old)
+        (R.remaining reader.new)) }
 {
     if unheard.len() > 0 {
         return Ok(());

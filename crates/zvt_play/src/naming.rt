@@ -1,6 +1,7 @@
 //! Checks the names of a script: each is bound before it is used, and appears in place of a number.
 ghost use Rattle.std.specs.Prelude.{◌≡◌, MatchOption};
-ghost use Rattle.zvt_play.specs.Naming.{AreNamed, IsFirstFault, bound_field, bound_here, ends_with, fault_of, has_end, hears_last, is_heard, size_fault};
+ghost use Rattle.zvt_play.specs.Naming.{AreNamed, IsFirstFault, bound_field, bound_here, ends_with, fault_of, has_end};
+ghost use Rattle.zvt_play.specs.Naming.{hears_last, is_heard, size_fault};
 ghost use Rattle.zvt_play.specs.Playing.{acts_of};
 ghost use Rattle.zvt_play.specs.Script.{act_of};
 
@@ -31,7 +32,8 @@ pub enum NameFault {
 
 /// The first step whose mark can't be played where it stands, counted from 0, and why.
 pub(crate) fn first_fault(steps: &[ScriptStep]) -> Option<(usize, NameFault)>
-    ensures { MatchOption result (AreNamed (acts_of steps.now)) (λ fault. IsFirstFault (acts_of steps.now) fault.0 fault.1) }
+    ensures { MatchOption result (AreNamed (acts_of steps.now))
+        (λ fault. IsFirstFault (acts_of steps.now) fault.0 fault.1) }
 {
     for (at, step) in steps.iter().enumerate() {
         if let Some(why) = fault(&steps[..at], &step.action, &steps[at + 1..]) {

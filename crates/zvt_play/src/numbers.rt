@@ -2,7 +2,8 @@
 ghost use Rattle.std.specs.Prelude.{◌≡◌, IfErr, OnOk, option_map};
 ghost use Rattle.std.specs.Option.{option_copied};
 ghost use Rattle.zvt_field.specs.Named.{content_of};
-ghost use Rattle.zvt_play.specs.Numbers.{Binds, HasNoNew, IsNumbered, bmp_of, bytes_in, has_number, is_number, named, number_by, number_in, prepared, size_of, unused, used};
+ghost use Rattle.zvt_play.specs.Numbers.{Binds, HasNoNew, IsNumbered, bmp_of, bytes_in, has_number, is_number, named};
+ghost use Rattle.zvt_play.specs.Numbers.{number_by, number_in, prepared, size_of, unused, used};
 
 use crate::difference::Difference;
 use zvt_apdu::ApduView;
@@ -94,7 +95,8 @@ impl Names {
         name: u8,
     ) -> Result<(), Difference>
         ensures ok { OnOk result (Binds field name came.entry self.old self.new) }
-        ensures err { IfErr result (λ why. (why ≡ Difference.Other 0) × HasNoNew field came.entry self.old × (self.new ≡ self.old)) }
+        ensures err { IfErr result (λ why. (why ≡ Difference.Other 0) × HasNoNew field came.entry self.old
+            × (self.new ≡ self.old)) }
     {
         let Some(number) = number_in(came, field) else {
             return Err(Difference::Other { at: 0 });
@@ -128,7 +130,8 @@ impl Names {
         name: u8,
     ) -> Result<(), Difference>
         ensures ok { OnOk result (IsNumbered field name came.entry self.now) }
-        ensures err { IfErr result (λ why. (why ≡ Difference.Other 0) × (IsNumbered field name came.entry self.now → ⊥)) }
+        ensures err { IfErr result (λ why. (why ≡ Difference.Other 0)
+            × (IsNumbered field name came.entry self.now → ⊥)) }
     {
         if let Some(wanted) = self.named(name)
             && let Some(number) = number_in(came, field)

@@ -36,10 +36,17 @@ pub fn play<C: Clock, R: Source, W: Sink>(
     steps: &[ScriptStep],
 ) -> Result<usize, Unplayed>
     requires { IsReady end.old.stream }
-    ensures sent { IfOk result (λ count. WritesAll (take count (acts_of steps.now)) names.old names.new (W.written end.old.writer) (W.written end.new.writer)) }
-    ensures sent_before { IfErr result (λ unplayed. unplayed.why ≢ Difference.Write → WritesAll (take unplayed.step (acts_of steps.now)) names.old names.new (W.written end.old.writer) (W.written end.new.writer)) }
-    ensures ok { IfOk result (λ count. PlaysTo steps.now count (line_state [] (R.remaining end.old.reader) (W.written end.old.writer) end.old.stream.lent names.old) (R.remaining end.new.reader) (W.written end.new.writer) end.new.stream.lent names.new) }
-    ensures err { IfErr result (λ unplayed. StopsPlay steps.now unplayed (line_state [] (R.remaining end.old.reader) (W.written end.old.writer) end.old.stream.lent names.old) (R.remaining end.new.reader) (W.written end.new.writer) end.new.stream names.new) }
+    ensures sent { IfOk result (λ count. WritesAll (take count (acts_of steps.now)) names.old names.new
+        (W.written end.old.writer) (W.written end.new.writer)) }
+    ensures sent_before { IfErr result (λ unplayed. unplayed.why ≢ Difference.Write
+        → WritesAll (take unplayed.step (acts_of steps.now)) names.old names.new (W.written end.old.writer)
+        (W.written end.new.writer)) }
+    ensures ok { IfOk result (λ count. PlaysTo steps.now count
+        (line_state [] (R.remaining end.old.reader) (W.written end.old.writer) end.old.stream.lent names.old)
+        (R.remaining end.new.reader) (W.written end.new.writer) end.new.stream.lent names.new) }
+    ensures err { IfErr result (λ unplayed. StopsPlay steps.now unplayed
+        (line_state [] (R.remaining end.old.reader) (W.written end.old.writer) end.old.stream.lent names.old)
+        (R.remaining end.new.reader) (W.written end.new.writer) end.new.stream names.new) }
 {
     let mut unheard = Unheard::new();
     for (at, step) in steps.iter().enumerate() {
@@ -65,9 +72,15 @@ fn take_step<C: Clock, R: Source, W: Sink>(
     action: &Action,
 ) -> Result<bool, Difference>
     requires { IsReady end.old.stream }
-    ensures ok { IfOk result (λ goes_on. PlaysStep (act_of action.now) goes_on (line_state (unheard_in unheard.old) (R.remaining end.old.reader) (W.written end.old.writer) end.old.stream.lent names.old) (line_state (unheard_in unheard.new) (R.remaining end.new.reader) (W.written end.new.writer) end.new.stream.lent names.new)) }
+    ensures ok { IfOk result (λ goes_on. PlaysStep (act_of action.now) goes_on
+        (line_state (unheard_in unheard.old) (R.remaining end.old.reader) (W.written end.old.writer) end.old.stream.lent
+        names.old) (line_state (unheard_in unheard.new) (R.remaining end.new.reader) (W.written end.new.writer)
+        end.new.stream.lent names.new)) }
     ensures ready { OnOk result (IsReady end.new.stream) }
-    ensures err { IfErr result (λ why. Stops why (act_of action.now) (line_state (unheard_in unheard.old) (R.remaining end.old.reader) (W.written end.old.writer) end.old.stream.lent names.old) (line_state (unheard_in unheard.new) (R.remaining end.new.reader) (W.written end.new.writer) end.new.stream.lent names.new) end.new.stream) }
+    ensures err { IfErr result (λ why. Stops why (act_of action.now)
+        (line_state (unheard_in unheard.old) (R.remaining end.old.reader) (W.written end.old.writer) end.old.stream.lent
+        names.old) (line_state (unheard_in unheard.new) (R.remaining end.new.reader) (W.written end.new.writer)
+        end.new.stream.lent names.new) end.new.stream) }
 {
     match action {
         Action::Send(bytes) => send_step(&mut end.writer, unheard, names, bytes.as_slice())?,
@@ -97,8 +110,11 @@ fn send_step<W: Sink>(
     names: &mut Names,
     bytes: &[u8],
 ) -> Result<(), Difference>
-    ensures ok { OnOk result ((unheard_in unheard.now ≡ []) × (names.new ≡ used names.old) × Appends (W.written writer.old) (W.written writer.new) (sent_as names.old.next bytes.now)) }
-    ensures err { IfErr result (λ why. (coming : Option (List ℕ)) → (lent : Option Message) → (stream : StreamState) → Stops why (send bytes.now) (line_state (unheard_in unheard.now) coming (W.written writer.old) lent names.old) (line_state (unheard_in unheard.now) coming (W.written writer.new) lent names.new) stream) }
+    ensures ok { OnOk result ((unheard_in unheard.now ≡ []) × (names.new ≡ used names.old)
+        × Appends (W.written writer.old) (W.written writer.new) (sent_as names.old.next bytes.now)) }
+    ensures err { IfErr result (λ why. (coming : Option (List ℕ)) → (lent : Option Message) → (stream : StreamState)
+        → Stops why (send bytes.now) (line_state (unheard_in unheard.now) coming (W.written writer.old) lent names.old)
+        (line_state (unheard_in unheard.now) coming (W.written writer.new) lent names.new) stream) }
 {
     all_heard(unheard)?;
     let number = names.take();
@@ -112,7 +128,8 @@ fn send_line<W: Sink>(
     bytes: &[u8],
 ) -> Result<(), Difference>
     ensures ok { OnOk result (Appends (W.written writer.old) (W.written writer.new) (sent_as number bytes.now)) }
-    ensures err { IfErr result (λ why. (why ≡ Difference.Write) × (part : List ℕ) × IsPrefix part (sent_as number bytes.now) × Appends (W.written writer.old) (W.written writer.new) part) }
+    ensures err { IfErr result (λ why. (why ≡ Difference.Write) × (part : List ℕ)
+        × IsPrefix part (sent_as number bytes.now) × Appends (W.written writer.old) (W.written writer.new) part) }
 {
     let Some(number) = number else {
         return send(writer, bytes);
@@ -140,7 +157,8 @@ fn put_line(line: &mut [u8; LONGEST_LINE], bytes: &[u8], last: &[u8])
 /// Writes all the bytes.
 fn send<W: Sink>(writer: &mut W, bytes: &[u8]) -> Result<(), Difference>
     ensures ok { OnOk result (Appends (W.written writer.old) (W.written writer.new) bytes.now) }
-    ensures err { IfErr result (λ why. (why ≡ Difference.Write) × (part : List ℕ) × IsPrefix part bytes.now × Appends (W.written writer.old) (W.written writer.new) part) }
+    ensures err { IfErr result (λ why. (why ≡ Difference.Write) × (part : List ℕ) × IsPrefix part bytes.now
+        × Appends (W.written writer.old) (W.written writer.new) part) }
 {
     match writer.write_all(bytes) {
         Ok(()) => Ok(()),
@@ -151,7 +169,8 @@ fn send<W: Sink>(writer: &mut W, bytes: &[u8]) -> Result<(), Difference>
 /// Whether all that was read was heard: else how much was not.
 fn all_heard(unheard: &Unheard) -> Result<(), Difference>
     ensures ok { OnOk result (unheard_in unheard.now ≡ []) }
-    ensures err { IfErr result (λ why. (why ≡ Difference.Surplus (length (unheard_in unheard.now))) × (0 < length (unheard_in unheard.now))) }
+    ensures err { IfErr result (λ why. (why ≡ Difference.Surplus (length (unheard_in unheard.now)))
+        × (0 < length (unheard_in unheard.now))) }
 {
     match unheard.len() {
         0 => Ok(()),

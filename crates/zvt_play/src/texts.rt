@@ -2,7 +2,8 @@
 ghost use Rattle.std.specs.Prelude.{◌≡◌, ◌++◌, ℕ, List, codes, IfOk, OnOk};
 ghost use Rattle.zvt_trace.specs.Emitting.{other};
 ghost use Rattle.zvt_trace.specs.Lines.{direction_text};
-ghost use Rattle.zvt_play.specs.DifferenceTexts.{SaysAwaited, SaysDifference, SaysWanted, beginning_text, came_text, cause_text, field_text, heard_before, name_text, place_text, surplus};
+ghost use Rattle.zvt_play.specs.DifferenceTexts.{SaysAwaited, SaysDifference, SaysWanted, beginning_text, came_text};
+ghost use Rattle.zvt_play.specs.DifferenceTexts.{cause_text, field_text, heard_before, name_text, place_text, surplus};
 
 use crate::difference::Difference;
 use crate::numbers::{Names, Number, NumberField};
@@ -83,7 +84,9 @@ fn add_other(
     why: Difference,
     came: Option<&ApduView<'_>>,
 ) -> Result<(), AllocError>
-    ensures { OnOk result ((awaited : List ℕ) × SaysAwaited step.entry names.now why awaited × (text.new ≡ text.old ++ codes " awaits\n" ++ direction_text from ++ codes " " ++ awaited ++ cause_text from why came.entry)) }
+    ensures { OnOk result ((awaited : List ℕ) × SaysAwaited step.entry names.now why awaited
+        × (text.new ≡ text.old ++ codes " awaits\n" ++ direction_text from ++ codes " " ++ awaited ++ cause_text from
+        why came.entry)) }
 {
     text.word(b" awaits\n")?;
     add_sign(text, from)?;
@@ -107,7 +110,8 @@ fn add_awaited(
     names: &Names,
     why: Difference,
 ) -> Result<(), AllocError>
-    ensures { OnOk result ((awaited : List ℕ) × SaysAwaited step.entry names.now why awaited × (text.new ≡ text.old ++ awaited)) }
+    ensures { OnOk result ((awaited : List ℕ) × SaysAwaited step.entry names.now why awaited
+        × (text.new ≡ text.old ++ awaited)) }
 {
     match step {
         Some(

@@ -64,7 +64,8 @@ impl Unheard {
     /// Reads once in place of what there was, and answers how many bytes came: 0 at the end.
     pub(crate) fn refill<R: Source>(&mut self, reader: &mut R) -> Result<usize, Failed>
         ensures read { MatchResult result
-            (λ count. Consumes (R.remaining reader.old) (R.remaining reader.new) (unheard_in self.new) × (length (unheard_in self.new) ≡ count) × (count ≡ 0 → IsAtEnd (R.remaining reader.new)))
+            (λ count. Consumes (R.remaining reader.old) (R.remaining reader.new) (unheard_in self.new)
+            × (length (unheard_in self.new) ≡ count) × (count ≡ 0 → IsAtEnd (R.remaining reader.new)))
             (λ _. Keeps (R.remaining reader.old) (R.remaining reader.new) × (unheard_in self.new ≡ [])) }
         ensures failures { CountsFailure (R.failures reader.old) (R.failures reader.new) result }
     {

@@ -13,8 +13,9 @@ const MAX_LINE: usize = 2 + 2 * 1024 + 1;
 
 /// Wraps a device and records its traffic as a trace, one line for each write and each non-empty read.
 ///
-/// If the trace cannot be written, the device is no longer used: a write fails before it reaches the device, and so does
-/// every read after the current one. The buffer is allocated up front; only chunks of more than 1,024 bytes allocate later.
+/// If the trace cannot be written, the device is no longer used: a write fails before it reaches the device, and so
+/// does every read after the current one. The buffer is allocated up front; only chunks of more than 1,024 bytes
+/// allocate later.
 #[derive(Drop)]
 pub struct Recorded<D, T> {
     pub device: D,
@@ -63,9 +64,12 @@ impl<R: Source, T: Sink> Source for Recorded<R, T> {
 
     fn read(&mut self, buffer: &mut [u8]) -> Result<usize, Failed>
         ensures bytes { Reads (R.remaining self.old.device) (R.remaining self.new.device) result buffer.new }
-        ensures failures { CountsFailure (R.failures self.old.device + self.old.refused.count) (R.failures self.new.device + self.new.refused.count) result }
-        ensures counted { R.reads self.new.device + self.new.refused.count ≡ R.reads self.old.device + self.old.refused.count + 1 }
-        ensures recorded { RecordsRead self.old.from self.old.broken self.new.broken (T.written self.old.trace) (T.written self.new.trace) result buffer.new }
+        ensures failures { CountsFailure (R.failures self.old.device + self.old.refused.count)
+            (R.failures self.new.device + self.new.refused.count) result }
+        ensures counted { R.reads self.new.device + self.new.refused.count ≡ R.reads self.old.device +
+            self.old.refused.count + 1 }
+        ensures recorded { RecordsRead self.old.from self.old.broken self.new.broken (T.written self.old.trace)
+            (T.written self.new.trace) result buffer.new }
         ensures unmade { self.old.broken ≡ true → self.new.device ≡ self.old.device }
         ensures from { self.new.from ≡ self.old.from }
     {
@@ -91,8 +95,10 @@ impl<W: Sink, T: Sink> Sink for Recorded<W, T> {
 
     fn write_all(&mut self, bytes: &[u8]) -> Result<(), Failed>
         ensures bytes { Writes (W.written self.old.device) (W.written self.new.device) result bytes.now }
-        ensures failures { CountsFailure (W.failures self.old.device + self.old.refused.count) (W.failures self.new.device + self.new.refused.count) result }
-        ensures recorded { RecordsWrite self.old.from self.new.broken (T.written self.old.trace) (T.written self.new.trace) result bytes.now }
+        ensures failures { CountsFailure (W.failures self.old.device + self.old.refused.count)
+            (W.failures self.new.device + self.new.refused.count) result }
+        ensures recorded { RecordsWrite self.old.from self.new.broken (T.written self.old.trace)
+            (T.written self.new.trace) result bytes.now }
         ensures unmade { self.new.broken ≡ true → self.new.device ≡ self.old.device }
         ensures from { self.new.from ≡ self.old.from }
     {
@@ -109,7 +115,8 @@ impl<W: Sink, T: Sink> Sink for Recorded<W, T> {
     }
 }
 
-/// Makes the line of a chunk in this buffer, and writes it to the trace. After a failure some prefix of the line is written.
+/// Makes the line of a chunk in this buffer, and writes it to the trace. After a failure some prefix of the line is
+/// written.
 fn write_piece<T: Sink>(
     text: &mut Text,
     from: Direction,
@@ -146,7 +153,8 @@ pub fn end_trace<T: Sink>(trace: &mut T) -> Result<(), Failed>
 /// Ends a trace and returns whether it is incomplete: because it lacked a chunk before, or because its end could not
 /// be written.
 pub fn ends_lacking<T: Sink>(lacks: bool, trace: &mut T) -> bool
-    ensures { EndsTrace lacks (T.written trace.old) (T.written trace.new) (T.failures trace.old) (T.failures trace.new) result }
+    ensures { EndsTrace lacks (T.written trace.old) (T.written trace.new) (T.failures trace.old)
+        (T.failures trace.new) result }
 {
     let ended = end_trace(trace);
     lacks || ended.is_err()

@@ -55,7 +55,8 @@ impl Bookkeeping {
     /// Judges the next event. If an allocation fails, the books are no longer valid.
     #[inline(always)]
     pub fn take(&mut self, happening: &Happening) -> Result<(), AllocError>
-        ensures { OnOk result ((log : List Happening) → HasJudged log self.old → HasJudged (log ++ happening.now ∷ []) self.new) }
+        ensures { OnOk result ((log : List Happening) → HasJudged log self.old → HasJudged (log ++ happening.now ∷ [])
+            self.new) }
     {
         // Names the types that a running payment is made of, which the proof asks for.
         let _statuses: Option<Statuses> = None;
@@ -69,7 +70,8 @@ impl Bookkeeping {
     /// Processes a message of the terminal like `take`, and returns early for most messages.
     #[inline(always)]
     pub fn hear(&mut self, apdu: &ApduView<'_>) -> Result<(), AllocError>
-        ensures { OnOk result ((log : List Happening) → HasJudged log self.old → HasJudged (log ++ HeardIn (heard_as apdu.now) ∷ []) self.new) }
+        ensures { OnOk result ((log : List Happening) → HasJudged log self.old
+            → HasJudged (log ++ HeardIn (heard_as apdu.now) ∷ []) self.new) }
     {
         match apdu.kind() {
             Kind::Intermediate | Kind::PrintLine | Kind::TextBlock => Ok(()),
@@ -94,7 +96,8 @@ impl Bookkeeping {
     /// Notes what the fields of a status say of the payment that runs.
     #[inline(never)]
     fn note(&mut self, fields: &FieldsView<'_>)
-        ensures { (log : List Happening) → HasJudged log self.old → HasJudged (log ++ HeardIn (Status (facts_in_fields fields.now)) ∷ []) self.new }
+        ensures { (log : List Happening) → HasJudged log self.old
+            → HasJudged (log ++ HeardIn (Status (facts_in_fields fields.now)) ∷ []) self.new }
     {
         if let Some(payment) = &mut self.running {
             payment.note(&facts_shown(fields));
@@ -104,7 +107,8 @@ impl Bookkeeping {
     /// The terminal completes what runs.
     #[inline(never)]
     fn complete(&mut self) -> Result<(), AllocError>
-        ensures { OnOk result ((log : List Happening) → HasJudged log self.old → HasJudged (log ++ HeardIn Completion ∷ []) self.new) }
+        ensures { OnOk result ((log : List Happening) → HasJudged log self.old
+            → HasJudged (log ++ HeardIn Completion ∷ []) self.new) }
     {
         self.take(&Happening::Heard(Heard::Completion))
     }
@@ -112,7 +116,8 @@ impl Bookkeeping {
     /// Judges a message of any kind.
     #[inline(never)]
     fn hear_rare(&mut self, apdu: &ApduView<'_>) -> Result<(), AllocError>
-        ensures { OnOk result ((log : List Happening) → HasJudged log self.old → HasJudged (log ++ HeardIn (heard_as apdu.now) ∷ []) self.new) }
+        ensures { OnOk result ((log : List Happening) → HasJudged log self.old
+            → HasJudged (log ++ HeardIn (heard_as apdu.now) ∷ []) self.new) }
     {
         self.take(&Happening::Heard(heard_view(apdu)))
     }

@@ -11,7 +11,8 @@ ghost use Rattle.zvt_till.specs.Books.{books, settled};
 ghost use Rattle.zvt_till.specs.Doubts.{unclear_reversals};
 ghost use Rattle.zvt_till.specs.Marks.{entries, reversals_left};
 ghost use Rattle.zvt_grammar.specs.Reading.{shortest};
-ghost use Rattle.zvt_till.specs.Events.{IsTied, HoldsLine, Follows, IsLogOf, run_settings, sent_over, log_after_order, message_out, ReadsPiece};
+ghost use Rattle.zvt_till.specs.Events.{IsTied, HoldsLine, Follows, IsLogOf, run_settings, sent_over, log_after_order};
+ghost use Rattle.zvt_till.specs.Events.{message_out, ReadsPiece};
 
 use crate::happenings::{Happening, Sent};
 use crate::hearing::heard_view;
@@ -76,7 +77,8 @@ fn add(log: &mut Vec<Happening>, happening: Happening) -> Result<(), AllocError>
 
 /// Adds the bytes of a message to what was sent.
 fn send(sent: &mut Vec<u8>, outgoing: &Outgoing) -> Result<(), AllocError>
-    ensures { OnOk result ((before : List Message) → Spelled sent.old.items before [] → Spelled sent.new.items (before ++ message_out outgoing.now ∷ []) []) }
+    ensures { OnOk result ((before : List Message) → Spelled sent.old.items before [] → Spelled sent.new.items
+        (before ++ message_out outgoing.now ∷ []) []) }
 {
     let mut buffer = [0; MAX_BRIEF_LEN];
     let size = outgoing.put(&mut buffer);
@@ -98,7 +100,8 @@ impl Run {
     fn order(&mut self, order: Order) -> Result<(), AllocError>
         requires { IsTied self.old.log.items self.old.till.state self.old.sent.items }
         ensures tied { OnOk result (IsTied self.new.log.items self.new.till.state self.new.sent.items) }
-        ensures log { OnOk result (self.new.log.items ≡ log_after_order self.old.log.items order (refusal (facts_in self.old.log.items) order)) }
+        ensures log { OnOk result (self.new.log.items ≡ log_after_order self.old.log.items order
+            (refusal (facts_in self.old.log.items) order)) }
     {
         let as_sent = sent_as(self.till.currency(), &order);
         match self.till.order(order) {
@@ -170,7 +173,8 @@ impl Run {
         requires runs { stream.old.stopped ≡ false }
         requires strict { stream.old.reading ≡ shortest }
         ensures tied { OnOk result (IsTied self.new.log.items self.new.till.state self.new.sent.items) }
-        ensures read { OnOk result (ReadsPiece self.old.log.items stream.old.held piece.now self.new.log.items stream.new) }
+        ensures read { OnOk result (ReadsPiece self.old.log.items stream.old.held piece.now self.new.log.items
+            stream.new) }
     {
         let mut rest = piece;
         'messages: loop {
@@ -200,7 +204,9 @@ impl Run {
         requires runs { line_up self.old.log.items ≡ true → stream.old.stopped ≡ false }
         requires strict { line_up self.old.log.items ≡ true → stream.old.reading ≡ shortest }
         ensures tied { OnOk result (IsTied self.new.log.items self.new.till.state self.new.sent.items) }
-        ensures follows { OnOk result ((bytes : List ℕ) → HoldsLine self.old.log.items bytes stream.old → (later : List ℕ) × Follows self.old.log.items bytes event.now self.new.log.items later × HoldsLine self.new.log.items later stream.new) }
+        ensures follows { OnOk result ((bytes : List ℕ) → HoldsLine self.old.log.items bytes stream.old
+            → (later : List ℕ) × Follows self.old.log.items bytes event.now self.new.log.items later
+            × HoldsLine self.new.log.items later stream.new) }
     {
         match event {
             Event::Connected => {

@@ -56,8 +56,8 @@ pub trait Keeper: Machine {
     fn order(&mut self, alloc: Global, order: Order) -> Result<Outgoing, Untaken>
         ensures { orders self.old order result self.new };
 
-    /// Notes that a line is up. A book has a record by then that an earlier line was lost. Nothing changes where the line
-    /// is up.
+    /// Notes that a line is up. A book has a record by then that an earlier line was lost. Nothing changes where the
+    /// line is up.
     fn connect(&mut self, alloc: Global) -> Result<(), BookFault>
         ensures { connects self.old result self.new };
 

@@ -2,7 +2,8 @@
 ghost use Rattle.zvt_till.specs.Log.{StepsMeetLog};
 ghost use Rattle.zvt_till.specs.TillHistory.{RunsAreLogged, FaultsAreLogged, UnsentAreLogged, OrdersAreLogged};
 ghost use Rattle.zvt_till.specs.Cuttings.{LogsAreOne, CuttingsAgree};
-ghost use Rattle.zvt_till.specs.Laws.{NoApprovalDropped, NoReversalDropped, DoubtsStay, TracesStayDistinct, EntriesStay};
+ghost use Rattle.zvt_till.specs.Laws.{NoApprovalDropped, NoReversalDropped, DoubtsStay, TracesStayDistinct};
+ghost use Rattle.zvt_till.specs.Laws.{EntriesStay};
 
 /// The state of a till after a log is what the log says, judged by whole orders.
 pub fn steps_meet_log()
@@ -52,7 +53,8 @@ pub fn runs_are_logged()
     ensures { RunsAreLogged }
 {}
 
-/// An order whose line broke adds itself, messages of a prefix of the bytes that were read, and the report of the fault.
+/// An order whose line broke adds itself, messages of a prefix of the bytes that were read, and the report of the
+/// fault.
 pub fn faults_are_logged()
     ensures { FaultsAreLogged }
 {}

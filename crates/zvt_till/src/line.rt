@@ -123,7 +123,8 @@ pub fn run_order<R: Source, W: Sink, K: Keeper>(
         (R.remaining reader.old) (R.remaining reader.new) (W.written writer.old) (W.written writer.new)
         turns (R.reads reader.old) (R.reads reader.new)) }
     ensures err { IfErr result (λ fault.
-        Fails K.orders K.hears K.is_resting K.failed K.loses K.malforms fault order stream.old stream.new till.old till.new
+        Fails K.orders K.hears K.is_resting K.failed K.loses K.malforms fault order stream.old stream.new
+        till.old till.new
         (R.remaining reader.old) (R.remaining reader.new) (W.written writer.old) (W.written writer.new)
         turns (R.reads reader.old) (R.reads reader.new)) }
     // However it goes, it takes the place of one payment at most.

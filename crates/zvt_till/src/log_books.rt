@@ -82,7 +82,8 @@ impl OpenPayment {
         ensures amount { self.new.amount ≡ self.old.amount }
         ensures currency { self.new.currency ≡ self.old.currency }
         ensures positive { self.new.positive ≡ self.old.positive }
-        ensures statuses { self.new.statuses ≡ note (paying self.old.currency self.old.amount) self.old.statuses status.now }
+        ensures statuses { self.new.statuses ≡ note (paying self.old.currency self.old.amount) self.old.statuses
+            status.now }
     {
         let charge = Charge {
             amount: self.amount,
@@ -97,7 +98,8 @@ impl OpenPayment {
         ensures amount { self.new.amount ≡ self.old.amount }
         ensures currency { self.new.currency ≡ self.old.currency }
         ensures positive { self.new.positive ≡ (self.old.positive || is_positive happening.now) }
-        ensures statuses { self.new.statuses ≡ note_if (paying self.old.currency self.old.amount) self.old.statuses (status_of happening.now) }
+        ensures statuses { self.new.statuses ≡ note_if (paying self.old.currency self.old.amount) self.old.statuses
+            (status_of happening.now) }
     {
         match happening {
             Happening::Heard(Heard::Positive) => self.positive = true,
@@ -145,7 +147,8 @@ impl Books {
     /// Nothing more comes to the payment that runs: without an end it is unfinished.
     pub(crate) fn close(&mut self, running: &Option<OpenPayment>) -> Result<(), AllocError>
         requires { KnowsTraces self.old }
-        ensures closed { OnOk result ((log : List Happening) → IsJudged log (books_value self.old) running.now → books_value self.new ≡ books log) }
+        ensures closed { OnOk result ((log : List Happening) → IsJudged log (books_value self.old) running.now
+            → books_value self.new ≡ books log) }
         ensures traces { KnowsTraces self.new }
     {
         if let Some(payment) = running {
@@ -164,7 +167,9 @@ impl Books {
     ) -> Result<(), AllocError>
         requires { KnowsTraces self.old }
         ensures traces { KnowsTraces self.new }
-        ensures judged { OnOk result ((log : List Happening) → currency ≡ in_force log → IsJudged log (books_value self.old) running.old → IsJudged (log ++ happening.now ∷ []) (books_value self.new) running.new) }
+        ensures judged { OnOk result ((log : List Happening) → currency ≡ in_force log
+            → IsJudged log (books_value self.old) running.old → IsJudged (log ++ happening.now ∷ [])
+            (books_value self.new) running.new) }
     {
         if let Some(order) = begun(happening) {
             self.close(running)?;

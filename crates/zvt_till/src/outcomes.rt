@@ -2,7 +2,8 @@
 //!
 //! The outcomes of a payment are `#[inline(always)]`: an audit calls for one at the end of each payment.
 ghost use Rattle.std.specs.Prelude.{◌≡◌, List};
-ghost use Rattle.zvt_till.specs.Outcomes.{payment_outcome, reversal_outcome, closing_outcome, completion_outcome, broken_outcome, outcome_by};
+ghost use Rattle.zvt_till.specs.Outcomes.{payment_outcome, reversal_outcome, closing_outcome, completion_outcome};
+ghost use Rattle.zvt_till.specs.Outcomes.{broken_outcome, outcome_by};
 ghost use Rattle.zvt_till.specs.UsedTraces.{AreTracesOf};
 ghost use Rattle.zvt_till.specs.declared.entries.Entry.{Entry};
 
@@ -72,7 +73,8 @@ impl Cause {
             Cause::AmountDiffers => "its status information names another amount",
             Cause::NoTrace => "its status information does not name the trace number",
             Cause::TraceUsed => {
-                "the book has its trace number already; if the terminal was exchanged or counts from 1 again, begin a new book"
+                "the book has its trace number already; if the terminal was exchanged or counts from 1 again, begin a \
+                    new book"
             }
             Cause::AbortAfterApproval => {
                 "it was broken off after the terminal had approved it or contradicted itself"
@@ -192,7 +194,8 @@ pub fn outcome_by(
     so_far: &Statuses,
     happening: &Happening,
 ) -> Outcome
-    ensures { (book : List Entry) → AreTracesOf used.now book → result ≡ outcome_by book order.now so_far.now happening.now }
+    ensures { (book : List Entry) → AreTracesOf used.now book → result ≡ outcome_by book order.now so_far.now
+        happening.now }
 {
     match happening {
         Happening::Heard(Heard::Completion) => completion_outcome(used, order, *so_far),

@@ -244,7 +244,8 @@ impl Till {
     /// Writes down what a payment came to that runs no more.
     fn end_payment(&mut self, amount: Amount, outcome: &Outcome)
         requires ended { self.old.state.running ≡ None }
-        requires room { CanEnd (Order.Pay amount) (length self.old.state.book) (length self.old.state.unclear) self.old.spare }
+        requires room { CanEnd (Order.Pay amount) (length self.old.state.book) (length self.old.state.unclear)
+            self.old.spare }
         requires books { CanBook outcome.now self.old.state.book }
         ensures state { self.new.state ≡ payment_ended self.old.state amount outcome.now }
         ensures room { self.old.spare ≤ self.new.spare + 1 }
@@ -275,7 +276,8 @@ impl Till {
         ensures state { self.new.state ≡ meet self.old.state happening.now }
         ensures room { KeepsRoom self.old self.new }
         ensures outcome { result ≡ outcome_at self.old.state happening.now }
-        ensures numbers { self.new.numbers ≡ with_status_of self.old.state.running self.old.numbers (status_of happening.now) }
+        ensures numbers { self.new.numbers ≡ with_status_of self.old.state.running self.old.numbers
+            (status_of happening.now) }
         ensures heard { KeepsHeard self.old self.new }
     {
         let running = self.running?;
@@ -296,7 +298,8 @@ impl Till {
         ensures state { self.new.state ≡ step self.old.state (Happening.Heard heard) }
         ensures room { KeepsRoom self.old self.new }
         ensures send { result.send ≡ (if self.old.state.line_up then reply_to heard else None) }
-        ensures outcome { result.outcome ≡ (if self.old.state.line_up then outcome_at self.old.state (Happening.Heard heard) else None) }
+        ensures outcome { result.outcome ≡ (if self.old.state.line_up then outcome_at self.old.state
+            (Happening.Heard heard) else None) }
         ensures numbers { self.new.numbers ≡ numbers_after self.old.state self.old.numbers (Happening.Heard heard) }
         ensures heard { KeepsHeard self.old self.new }
     {

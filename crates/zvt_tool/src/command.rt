@@ -1,6 +1,7 @@
 //! The commands on traces, and the meaning of options that several commands have.
 ghost use Rattle.std.specs.Prelude.{◌≡◌, option_map};
-ghost use Rattle.zvt_tool.specs.Commands.{chosen_on_trace, connections_by, form_by, is_json, lengths_by, style_by, text_scope, working};
+ghost use Rattle.zvt_tool.specs.Commands.{chosen_on_trace, connections_by, form_by, is_json, lengths_by, style_by};
+ghost use Rattle.zvt_tool.specs.Commands.{text_scope, working};
 ghost use Rattle.zvt_tool.specs.declared.command.TraceWork.TheVariants.{Render};
 
 use zvt_cli::{Choice, TraceOptions};
@@ -99,7 +100,8 @@ fn working(work: TraceWork, lengths: Lengths, options: &TraceOptions<'_>) -> Tra
 
 /// A command that writes the text of the traces in one style, or in the other as JSON.
 fn rendering(text: Style, json: Style, options: &TraceOptions<'_>) -> TraceCommand
-    ensures { result ≡ working (Render (style_by text json options.now.json)) (lengths_by options.now.loose) options.now }
+    ensures { result ≡ working (Render (style_by text json options.now.json)) (lengths_by options.now.loose)
+        options.now }
 {
     let style = if options.json { json } else { text };
     working(TraceWork::Render(style), lengths_by(options.loose), options)

@@ -55,8 +55,8 @@ impl Label {
         })
     }
 
-    /// Adds the bytes to the text, with the label at the head of each line. `before` is the byte before them: a line feed
-    /// at the start.
+    /// Adds the bytes to the text, with the label at the head of each line. `before` is the byte before them: a line
+    /// feed at the start.
     pub fn add(&self, text: &mut Text, before: u8, bytes: &[u8]) -> Result<(), AllocError>
         ensures { OnOk result (text.new ≡ text.old ++ labelled self.now before bytes.now) }
     {

@@ -1,14 +1,17 @@
 //! The library of the program `zvt`, without its files, sockets and reports.
 //!
 //! - What the program does for a command line: [`command`]. What becomes of an answer: the exit [`statuses`].
-//! - What is written: the commands on a trace ([`on_trace`]), a [`label`] before each line, and the [`verdicts`] of situations.
-//! - The commands on what a reader brings: [`show`], [`join`], [`audit`], [`receipts`] and [`vectors`], and their loose forms.
+//! - What is written: the commands on a trace ([`on_trace`]), a [`label`] before each line, and the [`verdicts`] of
+//! situations.
+//! - The commands on what a reader brings: [`show`], [`join`], [`audit`], [`receipts`] and [`vectors`], and their loose
+//! forms.
 //! - The runs of steps that words name: [`run_loop`], [`run_till`] and [`run_terminal`].
 //!
 //! Reexported from other crates:
 //!
 //! - The command line: [`choice`] returns a [`Choice`], and [`with_show`] adds the command to a file alone.
-//! - [`write_notes`] reports what is bad in a trace, and [`hint_on`] why a line can't be read. [`follow_trace`] works on a
+//! - [`write_notes`] reports what is bad in a trace, and [`hint_on`] why a line can't be read. [`follow_trace`] works
+//! on a
 //!   trace while it comes.
 //! - The parts of a run: [`plan`] reads the steps, and `zvt_tcp` runs them with options.
 //! - The faults: [`ChoiceFault`] of the arguments, [`TraceFault`] of a command on a trace, and [`EndFault`] of a run.

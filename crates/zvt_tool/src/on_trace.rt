@@ -40,7 +40,8 @@ pub fn follow_work<R: Source, W: Sink>(
     reader: &mut R,
     writer: &mut W,
 ) -> Result<AuditSummary, TraceFault>
-    ensures follows { FollowsTrace command.now (R.remaining reader.old) (R.remaining reader.new) (W.written writer.old) (W.written writer.new) result }
+    ensures follows { FollowsTrace command.now (R.remaining reader.old) (R.remaining reader.new) (W.written writer.old)
+        (W.written writer.new) result }
     ensures read { result ≡ Err TraceFault.Read → R.failures reader.old < R.failures reader.new }
     ensures write { result ≡ Err TraceFault.Write → W.failures writer.old < W.failures writer.new }
 {

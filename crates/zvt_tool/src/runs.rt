@@ -65,7 +65,8 @@ where
     R: Net<Listener = TcpListener, Stream = TcpStream>,
     W: Sink,
     ensures run { MakesWords Both (map (λ word. word.now) steps.now) (W.written writer.old) (W.written writer.new)
-        (λ plan answer. AnswersRun MakesHereAlone BeginsHere run_settings plain plan (W.written writer.old) (W.written writer.new) (ReportsRun None None 0 0) (ReportsNothing None None 0 0) answer) result }
+        (λ plan answer. AnswersRun MakesHereAlone BeginsHere run_settings plain plan (W.written writer.old)
+        (W.written writer.new) (ReportsRun None None 0 0) (ReportsNothing None None 0 0) answer) result }
     ensures write { result ≡ Err ToolFault.Write → W.failures writer.old < W.failures writer.new }
 {
     let planned = match plan(alloc, Ends::Both, steps) {
@@ -80,8 +81,8 @@ where
     in_run(loop_alone(rt, alloc, &run, writer))
 }
 
-/// Connects a till to its terminal and runs the steps that the words name, as [`zvt_tcp::run_till`] does. The till has the
-/// default settings and waits for 60 seconds. With `loose` it reads lengths in any form that holds them.
+/// Connects a till to its terminal and runs the steps that the words name, as [`zvt_tcp::run_till`] does. The till has
+/// the default settings and waits for 60 seconds. With `loose` it reads lengths in any form that holds them.
 ///
 /// `BadStep` and `Net` come before anything is written.
 pub fn run_till<R, W>(
@@ -97,7 +98,9 @@ where
     R: Net<Listener = TcpListener, Stream = TcpStream>,
     W: Sink,
     ensures run { MakesWords Till (map (λ word. word.now) steps.now) (W.written writer.old) (W.written writer.new)
-        (λ plan answer. AnswersRun MakesThereAlone (BeginsThere (reading_of (lengths_by loose))) run_settings plain plan (W.written writer.old) (W.written writer.new) (ReportsRun None None 0 0) (ReportsNothing None None 0 0) answer) result }
+        (λ plan answer. AnswersRun MakesThereAlone (BeginsThere (reading_of (lengths_by loose))) run_settings plain plan
+        (W.written writer.old) (W.written writer.new) (ReportsRun None None 0 0) (ReportsNothing None None 0 0)
+        answer) result }
     ensures write { result ≡ Err ToolFault.Write → W.failures writer.old < W.failures writer.new }
 {
     let planned = match plan(alloc, Ends::Till, steps) {
@@ -127,7 +130,8 @@ fn loop_alone<R, W>(
 where
     R: Net<Listener = TcpListener, Stream = TcpStream>,
     W: Sink,
-    ensures run { AnswersRun MakesHereAlone BeginsHere run_settings run.now.options run.now.plan.now (W.written writer.old) (W.written writer.new)
+    ensures run { AnswersRun MakesHereAlone BeginsHere run_settings run.now.options run.now.plan.now
+        (W.written writer.old) (W.written writer.new)
         (ReportsRun None None 0 0) (ReportsNothing None None 0 0) result }
     ensures write { result ≡ Err EndFault.Write → W.failures writer.old < W.failures writer.new }
 {
@@ -145,7 +149,8 @@ fn till_alone<R, W>(
 where
     R: Net<Listener = TcpListener, Stream = TcpStream>,
     W: Sink,
-    ensures run { AnswersRun MakesThereAlone (BeginsThere (reading_of run.now.lengths)) run_settings run.now.options run.now.plan.now (W.written writer.old) (W.written writer.new)
+    ensures run { AnswersRun MakesThereAlone (BeginsThere (reading_of run.now.lengths)) run_settings run.now.options
+        run.now.plan.now (W.written writer.old) (W.written writer.new)
         (ReportsRun None None 0 0) (ReportsNothing None None 0 0) result }
     ensures write { result ≡ Err EndFault.Write → W.failures writer.old < W.failures writer.new }
 {

@@ -1,7 +1,9 @@
 //! The exit statuses.
 ghost use Rattle.std.specs.Prelude.{◌≡◌};
 ghost use Rattle.std.specs.IoError.{error_kind};
-ghost use Rattle.zvt_tool.specs.Statuses.{status_of_bad, status_of_call, status_of_device, status_of_file_error, status_of_recovery, status_of_end_fault, status_of_found, status_of_run, status_of_trace_fault};
+ghost use Rattle.zvt_tool.specs.Statuses.{status_of_bad, status_of_call, status_of_device, status_of_file_error};
+ghost use Rattle.zvt_tool.specs.Statuses.{status_of_recovery, status_of_end_fault, status_of_found, status_of_run};
+ghost use Rattle.zvt_tool.specs.Statuses.{status_of_trace_fault};
 
 use std::io::{self, ErrorKind};
 use zvt_audit::AuditSummary;

@@ -25,8 +25,10 @@ pub fn show<R: Source, W: Sink>(
     reader: &mut R,
     writer: &mut W,
 ) -> Result<Tally, ToolFault>
-    ensures taken { (taken : List ℕ) × (length taken ≤ limit + 1) × Consumes (R.remaining reader.old) (R.remaining reader.new) taken }
-    ensures writes { IfSome (R.remaining reader.old) (λ trace. Renders shortest Show trace (W.written writer.old) (W.written writer.new) result) }
+    ensures taken { (taken : List ℕ) × (length taken ≤ limit + 1) × Consumes (R.remaining reader.old)
+        (R.remaining reader.new) taken }
+    ensures writes { IfSome (R.remaining reader.old) (λ trace. Renders shortest Show trace (W.written writer.old)
+        (W.written writer.new) result) }
     ensures read { result ≡ Err ToolFault.Read → R.failures reader.old < R.failures reader.new }
     ensures write { result ≡ Err ToolFault.Write → W.failures writer.old < W.failures writer.new }
 {
@@ -39,8 +41,10 @@ pub fn join<R: Source, W: Sink>(
     reader: &mut R,
     writer: &mut W,
 ) -> Result<Tally, ToolFault>
-    ensures taken { (taken : List ℕ) × (length taken ≤ limit + 1) × Consumes (R.remaining reader.old) (R.remaining reader.new) taken }
-    ensures writes { IfSome (R.remaining reader.old) (λ trace. Renders shortest Join trace (W.written writer.old) (W.written writer.new) result) }
+    ensures taken { (taken : List ℕ) × (length taken ≤ limit + 1) × Consumes (R.remaining reader.old)
+        (R.remaining reader.new) taken }
+    ensures writes { IfSome (R.remaining reader.old) (λ trace. Renders shortest Join trace (W.written writer.old)
+        (W.written writer.new) result) }
     ensures read { result ≡ Err ToolFault.Read → R.failures reader.old < R.failures reader.new }
     ensures write { result ≡ Err ToolFault.Write → W.failures writer.old < W.failures writer.new }
 {
@@ -54,8 +58,10 @@ pub fn receipts<R: Source, W: Sink>(
     reader: &mut R,
     writer: &mut W,
 ) -> Result<Tally, ToolFault>
-    ensures taken { (taken : List ℕ) × (length taken ≤ limit + 1) × Consumes (R.remaining reader.old) (R.remaining reader.new) taken }
-    ensures writes { IfSome (R.remaining reader.old) (λ trace. Renders shortest Receipts trace (W.written writer.old) (W.written writer.new) result) }
+    ensures taken { (taken : List ℕ) × (length taken ≤ limit + 1) × Consumes (R.remaining reader.old)
+        (R.remaining reader.new) taken }
+    ensures writes { IfSome (R.remaining reader.old) (λ trace. Renders shortest Receipts trace (W.written writer.old)
+        (W.written writer.new) result) }
     ensures read { result ≡ Err ToolFault.Read → R.failures reader.old < R.failures reader.new }
     ensures write { result ≡ Err ToolFault.Write → W.failures writer.old < W.failures writer.new }
 {
@@ -68,8 +74,10 @@ pub fn show_loose<R: Source, W: Sink>(
     reader: &mut R,
     writer: &mut W,
 ) -> Result<Tally, ToolFault>
-    ensures taken { (taken : List ℕ) × (length taken ≤ limit + 1) × Consumes (R.remaining reader.old) (R.remaining reader.new) taken }
-    ensures writes { IfSome (R.remaining reader.old) (λ trace. Renders padded Show trace (W.written writer.old) (W.written writer.new) result) }
+    ensures taken { (taken : List ℕ) × (length taken ≤ limit + 1) × Consumes (R.remaining reader.old)
+        (R.remaining reader.new) taken }
+    ensures writes { IfSome (R.remaining reader.old)
+        (λ trace. Renders padded Show trace (W.written writer.old) (W.written writer.new) result) }
     ensures read { result ≡ Err ToolFault.Read → R.failures reader.old < R.failures reader.new }
     ensures write { result ≡ Err ToolFault.Write → W.failures writer.old < W.failures writer.new }
 {
@@ -83,8 +91,10 @@ pub fn normalise_trace<R: Source, W: Sink>(
     reader: &mut R,
     writer: &mut W,
 ) -> Result<Tally, ToolFault>
-    ensures taken { (taken : List ℕ) × (length taken ≤ limit + 1) × Consumes (R.remaining reader.old) (R.remaining reader.new) taken }
-    ensures writes { IfSome (R.remaining reader.old) (λ trace. Renders padded Join trace (W.written writer.old) (W.written writer.new) result) }
+    ensures taken { (taken : List ℕ) × (length taken ≤ limit + 1) × Consumes (R.remaining reader.old)
+        (R.remaining reader.new) taken }
+    ensures writes { IfSome (R.remaining reader.old)
+        (λ trace. Renders padded Join trace (W.written writer.old) (W.written writer.new) result) }
     ensures read { result ≡ Err ToolFault.Read → R.failures reader.old < R.failures reader.new }
     ensures write { result ≡ Err ToolFault.Write → W.failures writer.old < W.failures writer.new }
 {
@@ -97,8 +107,10 @@ pub fn receipts_loose<R: Source, W: Sink>(
     reader: &mut R,
     writer: &mut W,
 ) -> Result<Tally, ToolFault>
-    ensures taken { (taken : List ℕ) × (length taken ≤ limit + 1) × Consumes (R.remaining reader.old) (R.remaining reader.new) taken }
-    ensures writes { IfSome (R.remaining reader.old) (λ trace. Renders padded Receipts trace (W.written writer.old) (W.written writer.new) result) }
+    ensures taken { (taken : List ℕ) × (length taken ≤ limit + 1) × Consumes (R.remaining reader.old)
+        (R.remaining reader.new) taken }
+    ensures writes { IfSome (R.remaining reader.old) (λ trace. Renders padded Receipts trace (W.written writer.old)
+        (W.written writer.new) result) }
     ensures read { result ≡ Err ToolFault.Read → R.failures reader.old < R.failures reader.new }
     ensures write { result ≡ Err ToolFault.Write → W.failures writer.old < W.failures writer.new }
 {
@@ -111,8 +123,10 @@ pub fn audit<R: Source, W: Sink>(
     reader: &mut R,
     writer: &mut W,
 ) -> Result<Tally, ToolFault>
-    ensures taken { (taken : List ℕ) × (length taken ≤ limit + 1) × Consumes (R.remaining reader.old) (R.remaining reader.new) taken }
-    ensures writes { IfSome (R.remaining reader.old) (λ trace. Audits shortest trace (W.written writer.old) (W.written writer.new) result) }
+    ensures taken { (taken : List ℕ) × (length taken ≤ limit + 1) × Consumes (R.remaining reader.old)
+        (R.remaining reader.new) taken }
+    ensures writes { IfSome (R.remaining reader.old)
+        (λ trace. Audits shortest trace (W.written writer.old) (W.written writer.new) result) }
     ensures read { result ≡ Err ToolFault.Read → R.failures reader.old < R.failures reader.new }
     ensures write { result ≡ Err ToolFault.Write → W.failures writer.old < W.failures writer.new }
 {
@@ -125,8 +139,10 @@ pub fn audit_loose<R: Source, W: Sink>(
     reader: &mut R,
     writer: &mut W,
 ) -> Result<Tally, ToolFault>
-    ensures taken { (taken : List ℕ) × (length taken ≤ limit + 1) × Consumes (R.remaining reader.old) (R.remaining reader.new) taken }
-    ensures writes { IfSome (R.remaining reader.old) (λ trace. Audits padded trace (W.written writer.old) (W.written writer.new) result) }
+    ensures taken { (taken : List ℕ) × (length taken ≤ limit + 1) × Consumes (R.remaining reader.old)
+        (R.remaining reader.new) taken }
+    ensures writes { IfSome (R.remaining reader.old)
+        (λ trace. Audits padded trace (W.written writer.old) (W.written writer.new) result) }
     ensures read { result ≡ Err ToolFault.Read → R.failures reader.old < R.failures reader.new }
     ensures write { result ≡ Err ToolFault.Write → W.failures writer.old < W.failures writer.new }
 {
@@ -140,8 +156,10 @@ pub fn vectors<R: Source, W: Sink>(
     reader: &mut R,
     writer: &mut W,
 ) -> Result<Tally, ToolFault>
-    ensures taken { (taken : List ℕ) × (length taken ≤ limit + 1) × Consumes (R.remaining reader.old) (R.remaining reader.new) taken }
-    ensures writes { IfSome (R.remaining reader.old) (λ text. Checks text (W.written writer.old) (W.written writer.new) result) }
+    ensures taken { (taken : List ℕ) × (length taken ≤ limit + 1) × Consumes (R.remaining reader.old)
+        (R.remaining reader.new) taken }
+    ensures writes { IfSome (R.remaining reader.old)
+        (λ text. Checks text (W.written writer.old) (W.written writer.new) result) }
     ensures read { result ≡ Err ToolFault.Read → R.failures reader.old < R.failures reader.new }
     ensures write { result ≡ Err ToolFault.Write → W.failures writer.old < W.failures writer.new }
 {
@@ -156,8 +174,10 @@ fn read_and_render<R: Source, W: Sink>(
     reader: &mut R,
     writer: &mut W,
 ) -> Result<Tally, ToolFault>
-    ensures taken { (taken : List ℕ) × (length taken ≤ limit + 1) × Consumes (R.remaining reader.old) (R.remaining reader.new) taken }
-    ensures writes { IfSome (R.remaining reader.old) (λ trace. Renders (reading_of lengths) style trace (W.written writer.old) (W.written writer.new) result) }
+    ensures taken { (taken : List ℕ) × (length taken ≤ limit + 1) × Consumes (R.remaining reader.old)
+        (R.remaining reader.new) taken }
+    ensures writes { IfSome (R.remaining reader.old)
+        (λ trace. Renders (reading_of lengths) style trace (W.written writer.old) (W.written writer.new) result) }
     ensures read { result ≡ Err ToolFault.Read → R.failures reader.old < R.failures reader.new }
     ensures write { result ≡ Err ToolFault.Write → W.failures writer.old < W.failures writer.new }
 {
@@ -171,8 +191,10 @@ fn read_and_audit<R: Source, W: Sink>(
     reader: &mut R,
     writer: &mut W,
 ) -> Result<Tally, ToolFault>
-    ensures taken { (taken : List ℕ) × (length taken ≤ limit + 1) × Consumes (R.remaining reader.old) (R.remaining reader.new) taken }
-    ensures writes { IfSome (R.remaining reader.old) (λ trace. Audits (reading_of lengths) trace (W.written writer.old) (W.written writer.new) result) }
+    ensures taken { (taken : List ℕ) × (length taken ≤ limit + 1) × Consumes (R.remaining reader.old)
+        (R.remaining reader.new) taken }
+    ensures writes { IfSome (R.remaining reader.old) (λ trace. Audits (reading_of lengths) trace (W.written writer.old)
+        (W.written writer.new) result) }
     ensures read { result ≡ Err ToolFault.Read → R.failures reader.old < R.failures reader.new }
     ensures write { result ≡ Err ToolFault.Write → W.failures writer.old < W.failures writer.new }
 {
@@ -187,8 +209,11 @@ fn render_read<R: Source, W: Sink>(
     reader: &mut R,
     writer: &mut W,
 ) -> Result<Tally, TraceFault>
-    ensures taken { (taken : List ℕ) × (length taken ≤ limit + 1) × Consumes (R.remaining reader.old) (R.remaining reader.new) taken }
-    ensures writes { IfSome (R.remaining reader.old) (λ trace. AnswersTraceBy (reading_of lengths) style trace (W.written writer.old) (W.written writer.new) result) }
+    ensures taken { (taken : List ℕ) × (length taken ≤ limit + 1) × Consumes (R.remaining reader.old)
+        (R.remaining reader.new) taken }
+    ensures writes { IfSome (R.remaining reader.old)
+        (λ trace. AnswersTraceBy (reading_of lengths) style trace (W.written writer.old)
+        (W.written writer.new) result) }
     ensures read { result ≡ Err TraceFault.Read → R.failures reader.old < R.failures reader.new }
     ensures write { result ≡ Err TraceFault.Write → W.failures writer.old < W.failures writer.new }
 {
@@ -210,8 +235,10 @@ fn audit_read<R: Source, W: Sink>(
     reader: &mut R,
     writer: &mut W,
 ) -> Result<Tally, TraceFault>
-    ensures taken { (taken : List ℕ) × (length taken ≤ limit + 1) × Consumes (R.remaining reader.old) (R.remaining reader.new) taken }
-    ensures writes { IfSome (R.remaining reader.old) (λ trace. AnswersAuditBy (reading_of lengths) trace (W.written writer.old) (W.written writer.new) result) }
+    ensures taken { (taken : List ℕ) × (length taken ≤ limit + 1) × Consumes (R.remaining reader.old)
+        (R.remaining reader.new) taken }
+    ensures writes { IfSome (R.remaining reader.old)
+        (λ trace. AnswersAuditBy (reading_of lengths) trace (W.written writer.old) (W.written writer.new) result) }
     ensures read { result ≡ Err TraceFault.Read → R.failures reader.old < R.failures reader.new }
     ensures write { result ≡ Err TraceFault.Write → W.failures writer.old < W.failures writer.new }
 {

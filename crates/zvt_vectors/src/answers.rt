@@ -10,7 +10,8 @@ use zvt_grammar::Scan;
 
 /// Writes after the text what the reader of messages answers that is given these bytes.
 pub(crate) fn write_answer(alloc: Global, text: &mut String, bytes: &[u8]) -> Result<(), AllocError>
-    ensures { OnOk result ((answer : List ℕ) × AnswersAs bytes.now answer × (string_bytes text.new ≡ string_bytes text.old ++ answer)) }
+    ensures { OnOk result ((answer : List ℕ) × AnswersAs bytes.now answer
+        × (string_bytes text.new ≡ string_bytes text.old ++ answer)) }
 {
     match scan(alloc, bytes) {
         Ok(Scan::Whole((_, size))) => write!(text, "whole {size}"),

@@ -26,8 +26,10 @@ pub fn vectors<R: Source, W: Sink>(
     reader: &mut R,
     writer: &mut W,
 ) -> Result<Tally, TraceFault>
-    ensures taken { (taken : List ℕ) × (length taken ≤ limit + 1) × Consumes (R.remaining reader.old) (R.remaining reader.new) taken }
-    ensures writes { IfSome (R.remaining reader.old) (λ text. AnswersVectors form text (W.written writer.old) (W.written writer.new) result) }
+    ensures taken { (taken : List ℕ) × (length taken ≤ limit + 1) × Consumes (R.remaining reader.old)
+        (R.remaining reader.new) taken }
+    ensures writes { IfSome (R.remaining reader.old)
+        (λ text. AnswersVectors form text (W.written writer.old) (W.written writer.new) result) }
     ensures read { result ≡ Err TraceFault.Read → R.failures reader.old < R.failures reader.new }
     ensures write { result ≡ Err TraceFault.Write → W.failures writer.old < W.failures writer.new }
 {

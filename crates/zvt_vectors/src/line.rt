@@ -1,5 +1,6 @@
 //! One line of a file of vectors.
-ghost use Rattle.std.specs.Prelude.{◌≡◌, ◌<◌, ◌≤◌, ℕ, true, false, List, Ok, Err, IfOk, IfSome, IsErr, IsNone, length, slice_index, take};
+ghost use Rattle.std.specs.Prelude.{◌≡◌, ◌<◌, ◌≤◌, ℕ, true, false, List, Ok, Err, IfOk, IfSome, IsErr, IsNone, length};
+ghost use Rattle.std.specs.Prelude.{slice_index, take};
 ghost use Rattle.std.specs.List.{All};
 ghost use Rattle.hex.specs.Hex.{decode_of};
 ghost use Rattle.zvt_trace.specs.Meanings.{without_spaces};
@@ -95,8 +96,10 @@ fn read_vector<'a>(
     spelled: &[u8],
     claim: &'a [u8],
 ) -> Result<VectorLine<'a>, BadLine>
-    ensures ok { IfOk result (λ read. (bytes : List ℕ) × (decode_of (without_spaces spelled.now) ≡ Ok bytes) × (meant_by read ≡ vector bytes claim.now)) }
-    ensures wrong { (what : TraceLineError) → result ≡ Err (BadLine.Wrong what) → (what ≡ TraceLineError.Hex) × IsErr (decode_of (without_spaces spelled.now)) }
+    ensures ok { IfOk result (λ read. (bytes : List ℕ) × (decode_of (without_spaces spelled.now) ≡ Ok bytes)
+        × (meant_by read ≡ vector bytes claim.now)) }
+    ensures wrong { (what : TraceLineError) → result ≡ Err (BadLine.Wrong what) → (what ≡ TraceLineError.Hex)
+        × IsErr (decode_of (without_spaces spelled.now)) }
 {
     match spelled_bytes(alloc, spelled)? {
         Some(bytes) => Ok(VectorLine::Vector { bytes, claim }),

@@ -38,7 +38,8 @@ impl Till {
 
     /// The receipt number by which this entry is taken back, or why it is not.
     fn receipt_at(&self, entry: usize) -> Result<[u8; 2], OrderRefusal>
-        ensures ok { IfOk result (λ receipt. (row_refusal (slice_get self.now.state.book entry) ≡ None) × (receipt_at (slice_get self.now.state.book entry) ≡ Some receipt)) }
+        ensures ok { IfOk result (λ receipt. (row_refusal (slice_get self.now.state.book entry) ≡ None)
+            × (receipt_at (slice_get self.now.state.book entry) ≡ Some receipt)) }
         ensures err { IfErr result (λ why. row_refusal (slice_get self.now.state.book entry) ≡ Some why) }
     {
         match self.book.get(entry) {
@@ -73,7 +74,8 @@ impl Till {
 
     /// The message that the order sends, or why it is not sent, out of memory left aside.
     fn message_of(&self, order: &Order) -> Result<Outgoing, OrderRefusal>
-        ensures ok { IfOk result (λ message. (refusal (facts_of self.now.state) order.now ≡ None) × (message_of self.now.state.settings self.now.state.book order.now ≡ Some message)) }
+        ensures ok { IfOk result (λ message. (refusal (facts_of self.now.state) order.now ≡ None)
+            × (message_of self.now.state.settings self.now.state.book order.now ≡ Some message)) }
         ensures err { IfErr result (λ why. refusal (facts_of self.now.state) order.now ≡ Some why) }
     {
         if let Some(why) = self.line_refusal(order) {
@@ -155,7 +157,8 @@ impl Till {
     /// in that case. A payment allocates only if [`spare`](Till::spare) is 0.
     pub fn order(&mut self, order: Order) -> Result<Outgoing, OrderRefusal>
         ensures taken { IfOk result (λ message. refusal (facts_of self.old.state) order ≡ None) }
-        ensures sent { IfOk result (λ message. message_of self.old.state.settings self.old.state.book order ≡ Some message) }
+        ensures sent { IfOk result (λ message. message_of self.old.state.settings self.old.state.book
+            order ≡ Some message) }
         ensures runs { OnOk result (self.new.state ≡ accept self.old.state order) }
         ensures room { OnOk result (self.old.spare ≤ self.new.spare) }
         ensures numbers { OnOk result (self.new.numbers ≡ numbers_begun self.old.numbers order) }

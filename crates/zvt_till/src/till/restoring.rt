@@ -46,7 +46,8 @@ impl Till {
     ghost use Rattle.zvt_till.specs.Till.{step};
 
     /// A till with the settings of this one, whose line is down, with these payments booked and these unclear, and with
-    /// this as its last outcome; what the terminal named of its orders is not known. Err where no till has these rows, or memory was refused.
+    /// this as its last outcome; what the terminal named of its orders is not known. Err where no till has these rows,
+    /// or memory was refused.
     pub fn restored(
         &self,
         alloc: Global,
@@ -54,7 +55,8 @@ impl Till {
         unclear: Vec<(Amount, Cause)>,
         last: Option<Outcome>,
     ) -> Result<Till, RestoreError>
-        ensures state { IfOk result (λ till. till.state ≡ at_rest self.now.state.settings book.items unclear.items last) }
+        ensures state { IfOk result (λ till. till.state ≡ at_rest self.now.state.settings book.items
+            unclear.items last) }
         ensures numbers { IfOk result (λ till. till.numbers ≡ no_numbers) }
         ensures heard { IfOk result (λ till. till.heard ≡ replicate (length unclear.items) no_numbers) }
         ensures stands { OnOk result (CanStand book.items unclear.items) }
