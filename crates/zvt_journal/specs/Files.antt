@@ -1,9 +1,9 @@
 -- What a journal's file may hold.
-use Rattle.std.specs.Prelude.{◌≡◌, ◌⊎◌, ◌≤◌, ◌+◌, ◌-◌, ◌^◌, ℕ, List, [], ◌∷◌, length, take, drop, codes, ◌==◌, ◌&&◌, ◌||◌, ◌++◌, nat_le, replicate, not, Bool, true, false, if◌then◌else◌, Vec}
+use Rattle.std.specs.Prelude.{◌≡◌, ◌⊎◌, ◌≤◌, ◌+◌, ◌-◌, ◌^◌, ℕ, List, [], ◌∷◌, length, take, drop, codes, ◌==◌, ◌&&◌, ◌||◌, ◌++◌, nat_le, replicate, Bool, true, false, if◌then◌else◌, Vec}
 use Rattle.std.specs.declared.alloc.Global.{Global}
 use Rattle.zvt_journal.specs.declared.file.FileDevice.{FileDevice}
 use Rattle.zvt_journal.specs.Calls.{seen_after, may_leave_after}
-use Rattle.zvt_journal.specs.Text.{begins_marked, is_mark, recovered, whole}
+use Rattle.zvt_journal.specs.Text.{begins_marked, recovered, whole}
 
 -- what a read of the device's file returns
 abbrev pub file_seen : FileDevice → List ℕ

@@ -1,5 +1,5 @@
 -- What opening a journal's file calls, the newest first, and why it is refused.
-use Rattle.std.specs.Prelude.{◌≡◌, ◌⊎◌, ◌<◌, ◌-◌, ℕ, Bool, true, false, List, [], ◌∷◌, ◌++◌, length}
+use Rattle.std.specs.Prelude.{◌≡◌, ◌<◌, ◌-◌, ℕ, Bool, true, false, List, [], ◌∷◌, ◌++◌, length}
 use Rattle.zvt_journal.specs.declared.call.Call.TheVariants.{Aside}
 use Rattle.zvt_journal.specs.declared.call.Step.{Step}
 use Rattle.zvt_journal.specs.declared.call.Step.TheVariants.{Made, Found, Locked, Read, Peeked, InPlace, Beside, KeptBeside, FolderSynced}
