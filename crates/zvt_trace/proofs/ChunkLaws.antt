@@ -1,21 +1,16 @@
 -- Chunks that are taken raw emit what the lines of their trace emit.
-use Rattle.std.proofs.Common.{◌≡◌, ◌≢◌, ◌∙◌, sym, ap, subst, refl, arith, ℕ, suc, ◌+◌, ◌/◌, ◌%◌, ◌<◌, false, List, [], ◌∷◌, ◌++◌, length, slice_index, ◌==◌, Some, Ok}
-use Rattle.std.specs.Prelude.{IsSome}
+use Rattle.std.proofs.Common.{◌≡◌, ◌≢◌, ◌∙◌, sym, ap, subst, refl, arith, ℕ, suc, ◌+◌, ◌/◌, ◌%◌, ◌<◌, false, List, [], ◌∷◌, ◌++◌, ◌==◌, Some, Ok}
 use Rattle.std.specs.List.{position}
 use Rattle.std.specs.Str.Lines.{lines}
 use Rattle.std.proofs.lemmas.Bool.Decides.{nat_tests}
-use Rattle.hex.specs.Hex.{IsBytes, decode_of, encode_upper, encode_with, hex_digit_value, upper_digits}
+use Rattle.hex.specs.Hex.{IsBytes, decode_of, encode_upper, encode_with}
 use Rattle.hex.proofs.HexLemmas.{IsDigits-upper_digits, decode_of-encode_upper}
-use Rattle.zvt_grammar.specs.Reading.{Reading}
-use Rattle.zvt_trace.specs.ChunkLaw.{Chunk, ChunksAreLines, ChunksEmit, HasBytes, HaveBytes, ended, meaning_in, sent, sign_of, spelled_line, spelled_trace}
+use Rattle.zvt_trace.specs.ChunkLaw.{Chunk, ChunksAreLines, HasBytes, ended, meaning_in, sent, sign_of, spelled_line, spelled_trace}
 use Rattle.zvt_trace.specs.Emitting.{LinesEmit}
-use Rattle.zvt_trace.specs.Meanings.{IsSign, lost, meaning_of, piece, without_spaces}
+use Rattle.zvt_trace.specs.Meanings.{IsSign, meaning_of, without_spaces}
 use Rattle.zvt_trace.specs.Spelled.{AreHex}
-use Rattle.zvt_trace.specs.Trace.{Sides}
-use Rattle.zvt_trace.specs.TraceEvent.{At}
 use Rattle.zvt_trace.specs.declared.direction.Direction.{Direction}
 use Rattle.zvt_trace.specs.declared.direction.Direction.TheVariants.{FromTill, FromTerminal}
-use Rattle.zvt_trace.specs.declared.listener.Scope.{Scope}
 use Rattle.zvt_trace.proofs.LineLemmas.{lines-first, newline}
 use Rattle.zvt_trace.proofs.PlainLemmas.{first_is, no_digit_at, sign_means}
 

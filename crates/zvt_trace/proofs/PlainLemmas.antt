@@ -7,12 +7,12 @@ use Rattle.std.proofs.lemmas.Bool.Decides.{nat_tests}
 use Rattle.std.proofs.lemmas.List.{length-take-le, take-append-drop, take_all}
 use Rattle.std.proofs.Math.Seq.{take-append_seam, drop-append-add}
 use Rattle.hex.specs.Hex.{decode_of, hex_digit_value}
-use Rattle.zvt_trace.specs.Meanings.{Begins, IsSign, SpellsBytes, bytes_of, meaning_of, piece, without_spaces}
+use Rattle.zvt_trace.specs.Meanings.{Begins, IsSign, meaning_of, piece, without_spaces}
 use Rattle.zvt_trace.specs.Spelled.{AreHex, after_bytes, spells}
 use Rattle.zvt_trace.specs.declared.direction.Direction.{Direction}
 use Rattle.zvt_trace.specs.declared.direction.Direction.TheVariants.{FromTill, FromTerminal}
 use Rattle.zvt_trace.proofs.LineLemmas.{lines-first, newline}
-use Rattle.zvt_trace.proofs.SpelledLemmas.{no_bytes_of, no_text, reads_all}
+use Rattle.zvt_trace.proofs.SpelledLemmas.{reads_all}
 
 -- what comes after that many
 abbrev pub after_first : ℕ → List ℕ → List ℕ

@@ -1,5 +1,5 @@
 -- What a tally counts beside a listener.
-use Rattle.std.proofs.Common.{◌≡◌, ◌∙◌, arith, refl, subst, sym, ap, inl, inr, ℕ, ◌+◌, ◌≤◌, ◌<◌, min, List, [], ◌∷◌, ◌++◌}
+use Rattle.std.proofs.Common.{◌≡◌, arith, refl, subst, sym, inl, inr, ℕ, ◌+◌, ◌≤◌, List, [], ◌∷◌, ◌++◌}
 use Rattle.zvt_grammar.specs.Reading.{Reading}
 use Rattle.zvt_trace.specs.Listening.{Fails, FaultsFrom, Hears, HearsAll, counted_in}
 use Rattle.zvt_trace.specs.Pairs.{BothHear, OneFails, counted}

@@ -1,4 +1,4 @@
-use Rattle.std.proofs.Common.{◌≡◌, ◌∙◌, ◌||◌, sym, true, rules}
+use Rattle.std.proofs.Common.{◌≡◌, ◌∙◌, sym, true, rules}
 use Rattle.std.proofs.lemmas.Bool.{or_left}
 use Rattle.std.proofs.lemmas.Result.{err_from_is_err_and}
 use Rattle.zvt_trace.specs.Written.{is_nothing}
