@@ -16,20 +16,15 @@ struct Counts {
 }
 
 /// It never fails.
-impl Listener<()> for Counts {
+impl Listener for Counts {
     ghost use Rattle.std.specs.Prelude.{◌≡◌};
     ghost use Rattle.uses.specs.Counting.{counted};
 
-    ghost hears = { λ old at new. new.0 ≡ counted old.0 at.trace_event };
+    ghost hears = { λ old at new. new ≡ counted old at.trace_event };
 
     ghost fails = { λ _ _ _ _. ⊥ };
 
-    fn hear(
-        &mut self,
-        _device: &mut (),
-        _line: u64,
-        trace_event: &TraceEvent<'_>,
-    ) -> Result<(), ListenerError> {
+    fn hear(&mut self, _line: u64, trace_event: &TraceEvent<'_>) -> Result<(), ListenerError> {
         if let TraceEvent::Message { from, .. } = trace_event {
             match from {
                 Direction::FromTill => self.till = self.till.saturating_add(1),
@@ -52,7 +47,6 @@ pub fn print_counts(rt: &HostRuntime, text: &[u8]) -> io::Result<()> {
     };
     match walk(
         &mut counts,
-        &mut (),
         rt.alloc(),
         Scope::OneSide,
         Lengths::Shortest,

@@ -31,12 +31,12 @@ at_both P r q s t same_reading same_scope p = subst (λ (x : Scope). P q x) same
 
 abbrev Feeds : (old new : Walker) → (now next : Auditor) → (all : List ℕ) → Result Unit TraceFault → Type 0
 Feeds old new now next all answer =
-    (bytes : List ℕ) (earlier : List At) → HasRead (walker_reading old) (walker_scope old) bytes earlier old → AnswersFeed (walker_reading old) hears wants_memory (walker_scope old) (bytes ++ all) earlier new (now, tt) (next, tt) answer
+    (bytes : List ℕ) (earlier : List At) → HasRead (walker_reading old) (walker_scope old) bytes earlier old → AnswersFeed (walker_reading old) hears wants_memory (walker_scope old) (bytes ++ all) earlier new now next answer
 
 turn_fed : (r : Reading) (bytes all : List ℕ) (start now next : Auditor) (old new : Walker) (answer : Result Unit TraceFault) → (has : HasHeard r bytes start now old) → Feeds old new now next all answer
-    → AnswersFeed r hears wants_memory WholeLine (bytes ++ all) has.events new (now, tt) (next, tt) answer
+    → AnswersFeed r hears wants_memory WholeLine (bytes ++ all) has.events new now next answer
 turn_fed r bytes all start now next old new answer has feeds =
-    at_both (λ q s. HasRead q s bytes has.events old → AnswersFeed q hears wants_memory s (bytes ++ all) has.events new (now, tt) (next, tt) answer) (walker_reading old) r (walker_scope old) WholeLine has.reading has.whole_line (feeds bytes has.events) has.read
+    at_both (λ q s. HasRead q s bytes has.events old → AnswersFeed q hears wants_memory s (bytes ++ all) has.events new now next answer) (walker_reading old) r (walker_scope old) WholeLine has.reading has.whole_line (feeds bytes has.events) has.read
 
 heard_on : (r : Reading) (bytes chunk : List ℕ) (start now next : Auditor) (old new : Walker) → (has : HasHeard r bytes start now old) → Feeds old new now next chunk (Ok tt)
     → walker_reading new ≡ walker_reading old → walker_scope new ≡ walker_scope old → HasHeard r (bytes ++ chunk) start next new
@@ -44,7 +44,7 @@ heard_on r bytes chunk start now next old new has feeds same_reading same_scope 
     let fed = turn_fed r bytes chunk start now next old new (Ok tt) has feeds in record {
       events = has.events ++ fed.0;
       read = fed.1;
-      heard = hears_append hears has.events fed.0 (start, tt) (now, tt) (next, tt) has.heard fed.2;
+      heard = hears_append hears has.events fed.0 start now next has.heard fed.2;
       reading = same_reading ∙ has.reading;
       whole_line = same_scope ∙ has.whole_line;
     }
@@ -53,12 +53,12 @@ heard_on r bytes chunk start now next old new has feeds same_reading same_scope 
 turn_failed : (r : Reading) (bytes chunk : List ℕ) (start now next : Auditor) (old new : Walker) (fault : TraceFault) → (has : HasHeard r bytes start now old) → Feeds old new now next chunk (Err fault)
     → HearingFaults r (bytes ++ chunk) fault
 turn_failed r bytes chunk start now next old new fault has feeds =
-    by fault (fault_before r hears wants_memory WholeLine (bytes ++ chunk) [] has.events (start, tt) (now, tt) (next, tt) fault has.heard (turn_fed r bytes chunk start now next old new (Err fault) has feeds))
+    by fault (fault_before r hears wants_memory WholeLine (bytes ++ chunk) [] has.events start now next fault has.heard (turn_fed r bytes chunk start now next old new (Err fault) has feeds))
   where
-    by : (fault : TraceFault) → FeedFaults r hears wants_memory WholeLine (bytes ++ chunk) [] (start, tt) (next, tt) fault → HearingFaults r (bytes ++ chunk) fault
+    by : (fault : TraceFault) → FeedFaults r hears wants_memory WholeLine (bytes ++ chunk) [] start next fault → HearingFaults r (bytes ++ chunk) fault
     by (Trace number what) failed = (failed.0, failed.1)
     by Memory failed = tt
-    by Write failed = absurd (no_write (lines (bytes ++ chunk)) (start, tt) (next, tt) failed)
+    by Write failed = absurd (no_write (lines (bytes ++ chunk)) start next failed)
     by TooLong (events, long, heard) = (events, long)
     by Read never = absurd never
 
@@ -76,12 +76,12 @@ turn_heard r bytes chunk old next new (Err fault) has feeds same_reading same_sc
 
 -- all that the bytes say was walked
 pub all_walked : (r : Reading) (bytes : List ℕ) (audit : Audit) (next : Auditor) (answer : Result Tally TraceFault) → (has : HasAudited r bytes audit)
-    → ((bytes : List ℕ) (earlier : List At) → HasRead (walker_reading audit.walker) (walker_scope audit.walker) bytes earlier audit.walker → AnswersFrom (walker_reading audit.walker) hears wants_memory (walker_scope audit.walker) (lines bytes) earlier (audit.auditor, tt) (next, tt) answer)
-    → AnswersWalk r hears wants_memory WholeLine (lines bytes) (has.start, tt) (next, tt) answer
-all_walked r bytes audit next answer has feeds = whole_walk r hears wants_memory WholeLine (lines bytes) answer (has.start, tt) (next, tt) (from_before r hears wants_memory WholeLine (lines bytes) [] has.has.events answer (has.start, tt) (audit.auditor, tt) (next, tt) has.has.heard there)
+    → ((bytes : List ℕ) (earlier : List At) → HasRead (walker_reading audit.walker) (walker_scope audit.walker) bytes earlier audit.walker → AnswersFrom (walker_reading audit.walker) hears wants_memory (walker_scope audit.walker) (lines bytes) earlier audit.auditor next answer)
+    → AnswersWalk r hears wants_memory WholeLine (lines bytes) has.start next answer
+all_walked r bytes audit next answer has feeds = whole_walk r hears wants_memory WholeLine (lines bytes) answer has.start next (from_before r hears wants_memory WholeLine (lines bytes) [] has.has.events answer has.start audit.auditor next has.has.heard there)
   where
-    there : AnswersFrom r hears wants_memory WholeLine (lines bytes) has.has.events (audit.auditor, tt) (next, tt) answer
-    there = at_both (λ q s. HasRead q s bytes has.has.events audit.walker → AnswersFrom q hears wants_memory s (lines bytes) has.has.events (audit.auditor, tt) (next, tt) answer) (walker_reading audit.walker) r (walker_scope audit.walker) WholeLine has.has.reading has.has.whole_line (feeds bytes has.has.events) has.has.read
+    there : AnswersFrom r hears wants_memory WholeLine (lines bytes) has.has.events audit.auditor next answer
+    there = at_both (λ q s. HasRead q s bytes has.has.events audit.walker → AnswersFrom q hears wants_memory s (lines bytes) has.has.events audit.auditor next answer) (walker_reading audit.walker) r (walker_scope audit.walker) WholeLine has.has.reading has.has.whole_line (feeds bytes has.has.events) has.has.read
 
 -- no reader brings so many bytes
 pub hearing_endless : (r : Reading) (bytes : List ℕ) (audit : Audit) → HasAudited r bytes audit → most < length bytes → HearingFaults r bytes TooLong

@@ -76,10 +76,10 @@ AnswersBooks form log tally swapped currency lines old new (Err Read) = ⊥
 -- ---- an auditor as a listener
 
 -- what it becomes by an event, and how it fails
-abbrev pub hears : Hears (Auditor × Unit {0})
-hears old event new = Becomes old.0 event new.0
+abbrev pub hears : Hears Auditor
+hears old event new = Becomes old event new
 
-abbrev pub wants_memory : Fails (Auditor × Unit {0})
+abbrev pub wants_memory : Fails Auditor
 wants_memory old event why new = why ≡ failure.Memory
 
 -- the device has besides the text of the books of what the trace emits, by that reading of lengths

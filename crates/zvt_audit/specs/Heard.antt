@@ -21,7 +21,7 @@ use Rattle.zvt_audit.specs.declared.follow.Audit.{Audit}
 pub record HasHeard (r : Reading) (bytes : List ℕ) (start now : Auditor) (walker : Walker) : Type 0 where
   pub events : List At
   pub read : HasRead r WholeLine bytes events walker
-  pub heard : HearsAll hears (start, tt) events (now, tt)
+  pub heard : HearsAll hears start events now
   pub reading : walker_reading walker ≡ r
   pub whole_line : walker_scope walker ≡ WholeLine
 

@@ -9,7 +9,7 @@ use zvt_till::{Bookkeeping, Happening};
 use zvt_trace::{Direction, Listener, ListenerError, TraceEvent};
 
 /// Judges the events of a trace as happenings of a till. It notices who sends orders, which currencies the till names, and
-/// at which lines payments end. It writes to no device.
+/// at which lines payments end.
 #[derive(Drop)]
 pub(crate) struct Auditor {
     pub(crate) books: Bookkeeping,
@@ -18,22 +18,17 @@ pub(crate) struct Auditor {
     pub(crate) ends: Ends,
 }
 
-impl Listener<()> for Auditor {
+impl Listener for Auditor {
     ghost use Rattle.std.specs.Prelude.{◌≡◌};
     ghost use Rattle.zvt_audit.specs.Audited.{Becomes};
     ghost use Rattle.zvt_trace.specs.declared.listener.ListenerError.TheVariants.{Memory};
 
-    ghost hears = { λ old event new. Becomes old.0 event new.0 };
+    ghost hears = { λ old event new. Becomes old event new };
 
     ghost fails = { λ _ _ failure _. failure ≡ Memory };
 
     #[inline(always)]
-    fn hear(
-        &mut self,
-        _device: &mut (),
-        line: u64,
-        trace_event: &TraceEvent<'_>,
-    ) -> Result<(), ListenerError> {
+    fn hear(&mut self, line: u64, trace_event: &TraceEvent<'_>) -> Result<(), ListenerError> {
         match trace_event {
             TraceEvent::Message { from, apdu, .. } => match from {
                 Direction::FromTill => self.hear_till(line, apdu)?,

@@ -84,7 +84,7 @@ impl Audit {
         ensures hears { (r : Reading) (bytes : List ℕ) → HasAudited r bytes self.old → AnswersTurn r (bytes ++ chunk.now) self.new result }
         ensures ready { OnOk result (IsAuditing self.new) }
     {
-        self.walker.feed(&mut self.auditor, &mut (), chunk)
+        self.walker.feed(&mut self.auditor, chunk)
     }
 
     /// Writes the books of all that was heard, in this form, and what a last line without a line feed says.
@@ -102,7 +102,7 @@ impl Audit {
             mut auditor,
             walker,
         } = self;
-        let tally = walker.finish(&mut auditor, &mut ())?;
+        let tally = walker.finish(&mut auditor)?;
         write_books(alloc, form, auditor, tally, writer)
     }
 }

@@ -54,14 +54,7 @@ pub fn audit_trace<W: Sink>(
     ensures write { result ≡ Err TraceFault.Write → W.failures writer.old < W.failures writer.new }
 {
     let mut auditor = connected(alloc)?;
-    let tally = walk(
-        &mut auditor,
-        &mut (),
-        alloc,
-        Scope::WholeLine,
-        lengths,
-        trace,
-    )?;
+    let tally = walk(&mut auditor, alloc, Scope::WholeLine, lengths, trace)?;
     write_books(alloc, form, auditor, tally, writer)
 }
 

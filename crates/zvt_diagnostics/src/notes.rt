@@ -11,7 +11,7 @@ use std::alloc::{AllocError, Global};
 use zvt_text::Text;
 use zvt_trace::{Listener, ListenerError, Scope, TraceEvent};
 
-/// The notes of the events so far, and their counts. It writes to no device.
+/// The notes of the events so far, and their counts.
 #[derive(Drop)]
 pub(crate) struct Notes {
     scope: Scope,
@@ -45,20 +45,15 @@ impl Notes {
     }
 }
 
-impl Listener<()> for Notes {
+impl Listener for Notes {
     ghost use Rattle.zvt_diagnostics.specs.Noting.{Noted};
     ghost use Rattle.zvt_trace.specs.declared.listener.ListenerError.TheVariants.{Memory};
 
-    ghost hears = { λ old event new. Noted old.0 new.0 event };
+    ghost hears = { λ old event new. Noted old new event };
 
     ghost fails = { λ _ _ failure _. failure ≡ Memory };
 
-    fn hear(
-        &mut self,
-        _device: &mut (),
-        line: u64,
-        trace_event: &TraceEvent<'_>,
-    ) -> Result<(), ListenerError> {
+    fn hear(&mut self, line: u64, trace_event: &TraceEvent<'_>) -> Result<(), ListenerError> {
         note::put(&mut self.text, line, trace_event)?;
         self.counts.add(trace_event);
         match trace_event {

@@ -33,7 +33,7 @@ pub fn write_notes<W: Sink>(
     ensures write { result ≡ Err ListenerError.Write → W.failures device.old < W.failures device.new }
 {
     let mut notes = Notes::new(alloc, scope);
-    let answer = walk(&mut notes, &mut (), alloc, scope, lengths, trace);
+    let answer = walk(&mut notes, alloc, scope, lengths, trace);
     has_memory(&answer)?;
     notes.close()?;
     device.write_all(notes.text.bytes())?;

@@ -2,4 +2,5 @@ pub mod AddLemmas
 pub mod BlockLemmas
 pub mod FollowLemmas
 pub mod PageLemmas
+pub mod PrinterLemmas
 pub mod TurnLemmas

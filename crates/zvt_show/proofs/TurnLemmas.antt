@@ -5,7 +5,7 @@ use Rattle.std.specs.Io.KnownBytes.{Appends, Consumes, IsAtEnd}
 use Rattle.std.specs.Str.Lines.{lines}
 use Rattle.zvt_grammar.specs.Reading.{Reading}
 use Rattle.zvt_trace.specs.Chunks.{AnswersFeed, FeedFaults, HasRead, walker_reading, walker_scope}
-use Rattle.zvt_trace.specs.Listening.{AnswersFrom, most}
+use Rattle.zvt_trace.specs.Listening.{AnswersFrom, Fails, Hears, most}
 use Rattle.zvt_trace.specs.TraceEvent.{At}
 use Rattle.zvt_trace.specs.Written.{AppendsPrefix}
 use Rattle.zvt_trace.specs.declared.chunks.Walker.{Walker}
@@ -15,8 +15,7 @@ use Rattle.zvt_trace.specs.declared.fault.TraceFault.TheVariants.{Memory, Read, 
 use Rattle.zvt_trace.specs.declared.listener.Scope.{Scope}
 use Rattle.zvt_trace.proofs.WalkerLemmas.{read_so_far, too_long, whole_lines}
 use Rattle.zvt_show.specs.Followed.{AnswersFollow, AnswersTurn, CountsWrites, HasWritten, TurnFaults}
-use Rattle.zvt_show.specs.Written.{AnswersLinesBy, Page, page}
-use Rattle.zvt_show.specs.declared.pages.Pages.{Pages}
+use Rattle.zvt_show.specs.Written.{AnswersLinesBy, Page}
 use Rattle.zvt_show.specs.declared.follow.Follower.{Follower}
 use Rattle.zvt_show.specs.declared.render.Style.{Style}
 use Rattle.zvt_show.proofs.FollowLemmas.{Said, fault_counted, fault_lost, fault_said, fault_written, kept_style, lost_out, said_before, said_less, said_more, said_out}
@@ -27,17 +26,17 @@ use Rattle.zvt_show.proofs.PageLemmas.{fails, shown, writes}
 at_both : (P : Reading → Scope → Type 0) (r q : Reading) (s t : Scope) → r ≡ q → s ≡ t → P r s → P q t
 at_both P r q s t same_reading same_scope p = subst (λ (x : Scope). P q x) same_scope (subst (λ (x : Reading). P x s) same_reading p)
 
-pub turn_fed : {S : Type 0} (r : Reading) (scope : Scope) (view : S → Page) (style : Style) (bytes all : List ℕ) (first now : Option (List ℕ)) (old : Follower) (walker : Walker) (answer : Result Unit TraceFault) (x y : S) → (has : HasWritten r scope style bytes first now old)
-    → (HasRead (walker_reading old.walker) (walker_scope old.walker) bytes has.events old.walker → AnswersFeed (walker_reading old.walker) (writes view) (fails view) (walker_scope old.walker) all has.events walker x y answer)
-    → AnswersFeed r (writes view) (fails view) scope all has.events walker x y answer
-turn_fed r scope view style bytes all first now old walker answer x y has feeds =
-    at_both (λ q s. HasRead q s bytes has.events old.walker → AnswersFeed q (writes view) (fails view) s all has.events walker x y answer) (walker_reading old.walker) r (walker_scope old.walker) scope has.reading has.by_scope feeds has.read
+pub turn_fed : {S : Type 0} (r : Reading) (scope : Scope) (hears : Hears S) (failing : Fails S) (style : Style) (bytes all : List ℕ) (first now : Option (List ℕ)) (old : Follower) (walker : Walker) (answer : Result Unit TraceFault) (x y : S) → (has : HasWritten r scope style bytes first now old)
+    → (HasRead (walker_reading old.walker) (walker_scope old.walker) bytes has.events old.walker → AnswersFeed (walker_reading old.walker) hears failing (walker_scope old.walker) all has.events walker x y answer)
+    → AnswersFeed r hears failing scope all has.events walker x y answer
+turn_fed r scope hears failing style bytes all first now old walker answer x y has feeds =
+    at_both (λ q s. HasRead q s bytes has.events old.walker → AnswersFeed q hears failing s all has.events walker x y answer) (walker_reading old.walker) r (walker_scope old.walker) scope has.reading has.by_scope feeds has.read
 
-pub end_fed : {S : Type 0} (r : Reading) (scope : Scope) (view : S → Page) (style : Style) (bytes : List ℕ) (first now : Option (List ℕ)) (old : Follower) (answer : Result Tally TraceFault) (x y : S) → (has : HasWritten r scope style bytes first now old)
-    → (HasRead (walker_reading old.walker) (walker_scope old.walker) bytes has.events old.walker → AnswersFrom (walker_reading old.walker) (writes view) (fails view) (walker_scope old.walker) (lines bytes) has.events x y answer)
-    → AnswersFrom r (writes view) (fails view) scope (lines bytes) has.events x y answer
-end_fed r scope view style bytes first now old answer x y has feeds =
-    at_both (λ q s. HasRead q s bytes has.events old.walker → AnswersFrom q (writes view) (fails view) s (lines bytes) has.events x y answer) (walker_reading old.walker) r (walker_scope old.walker) scope has.reading has.by_scope feeds has.read
+pub end_fed : {S : Type 0} (r : Reading) (scope : Scope) (hears : Hears S) (failing : Fails S) (style : Style) (bytes : List ℕ) (first now : Option (List ℕ)) (old : Follower) (answer : Result Tally TraceFault) (x y : S) → (has : HasWritten r scope style bytes first now old)
+    → (HasRead (walker_reading old.walker) (walker_scope old.walker) bytes has.events old.walker → AnswersFrom (walker_reading old.walker) hears failing (walker_scope old.walker) (lines bytes) has.events x y answer)
+    → AnswersFrom r hears failing scope (lines bytes) has.events x y answer
+end_fed r scope hears failing style bytes first now old answer x y has feeds =
+    at_both (λ q s. HasRead q s bytes has.events old.walker → AnswersFrom q hears failing s (lines bytes) has.events x y answer) (walker_reading old.walker) r (walker_scope old.walker) scope has.reading has.by_scope feeds has.read
 
 -- ---- one turn
 
@@ -94,11 +93,6 @@ turn_counted r scope view all earlier walker (Err Memory) x y failed = let count
 turn_counted r scope view all earlier walker (Err Write) x y failed = let counted = fault_counted r scope view (lines all) earlier Write x y failed in (counted.0, λ is. counted.1 refl)
 turn_counted r scope view all earlier walker (Err TooLong) x y (own, long, heard) = (omega (arith, (shown view own x y heard).failures), λ is. cc is)
 turn_counted r scope view all earlier walker (Err Read) x y never = absurd never
-
--- ---- the page of a writer
-
-abbrev pub viewed : {W : Type 0} → (W → Option (List ℕ)) → (W → ℕ) → (Pages × W) → Page
-viewed written failures s = page s.0.style (written s.1) s.0.block (failures s.1)
 
 -- ---- all turns
 

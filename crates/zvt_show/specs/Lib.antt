@@ -1,3 +1,4 @@
+pub mod Printed
 pub mod Followed
 pub mod Lines
 pub mod Text

@@ -10,7 +10,7 @@ ghost use Rattle.zvt_show.specs.Written.{AnswersLinesBy};
 ghost use Rattle.zvt_trace.specs.declared.listener.Scope.{Scope};
 ghost use Rattle.zvt_show.specs.declared.render.Style.{Style};
 
-use crate::pages::{Pages, flush};
+use crate::pages::{Pages, Printer, flush};
 use crate::render::Style;
 use std::alloc::Global;
 use zvt_grammar::Lengths;
@@ -77,7 +77,13 @@ impl Follower {
         ensures following { OnOk result (IsFollowing self.new) }
         ensures counts { (r : Reading) (scope : Scope) (style : Style) (bytes : List ℕ) (first : Option (List ℕ)) → HasWritten r scope style bytes first (W.written writer.old) self.old → CountsWrites (W.failures writer.old) (W.failures writer.new) result }
     {
-        let answer = self.walker.feed(&mut self.pages, writer, chunk);
+        let mut pages = self.pages.take();
+        let mut printer = Printer {
+            pages: &mut pages,
+            writer,
+        };
+        let answer = self.walker.feed(&mut printer, chunk);
+        self.pages = pages;
         flush(&mut self.pages.block, writer)?;
         answer
     }
@@ -89,7 +95,11 @@ impl Follower {
         ensures counts { (r : Reading) (scope : Scope) (style : Style) (bytes : List ℕ) (first : Option (List ℕ)) → HasWritten r scope style bytes first (W.written writer.old) self → CountsWrites (W.failures writer.old) (W.failures writer.new) result }
     {
         let Follower { mut pages, walker } = self;
-        let answer = walker.finish(&mut pages, writer);
+        let mut printer = Printer {
+            pages: &mut pages,
+            writer,
+        };
+        let answer = walker.finish(&mut printer);
         flush(&mut pages.block, writer)?;
         answer
     }

@@ -9,6 +9,7 @@ ghost use Rattle.zvt_show.specs.Written.{AnswersLinesBy, Extends, IsShortOf, aft
 
 use crate::render::{Style, render_event};
 use std::alloc::Global;
+use std::mem;
 use zvt_grammar::Lengths;
 use zvt_io::Sink;
 use zvt_text::Text;
@@ -35,12 +36,16 @@ pub fn render_trace<W: Sink>(
     ensures write { result ≡ Err TraceFault.Write → W.failures writer.old < W.failures writer.new }
 {
     let mut pages = Pages::new(alloc, style);
-    let answer = walk(&mut pages, writer, alloc, scope, lengths, trace);
+    let mut printer = Printer {
+        pages: &mut pages,
+        writer,
+    };
+    let answer = walk(&mut printer, alloc, scope, lengths, trace);
     flush(&mut pages.block, writer)?;
     answer
 }
 
-/// Writes the text of events. The text of each event joins the block whole or not at all.
+/// The text of events that is not written yet. The text of each event joins the block whole or not at all.
 #[derive(Drop)]
 pub(crate) struct Pages {
     alloc: Global,
@@ -60,24 +65,41 @@ impl Pages {
             block: Text::new(alloc),
         }
     }
+
+    /// Takes the pages out, and leaves empty ones of the same style.
+    pub(crate) fn take(&mut self) -> Pages
+        ensures { result ≡ self.old }
+    {
+        let empty = Pages::new(self.alloc, self.style);
+        mem::replace(self, empty)
+    }
 }
 
-impl<W: Sink> Listener<W> for Pages {
-    ghost use Rattle.zvt_show.specs.Written.{FailsEvent, WritesEvent, page};
+/// Writes the text of events to a device. Both are lent.
+#[derive(Drop)]
+pub(crate) struct Printer<'p, W> {
+    pub(crate) pages: &'p mut Pages,
+    pub(crate) writer: &'p mut W,
+}
 
-    ghost hears = { λ old event new. WritesEvent event (page old.0.style (W.written old.1) old.0.block (W.failures old.1)) (page new.0.style (W.written new.1) new.0.block (W.failures new.1)) };
+impl<W: Sink> Listener for Printer<'_, W> {
+    ghost use Rattle.zvt_show.specs.Printed.{FailsPrinting, Prints};
 
-    ghost fails = { λ old event failure new. FailsEvent failure (page old.0.style (W.written old.1) old.0.block (W.failures old.1)) (page new.0.style (W.written new.1) new.0.block (W.failures new.1)) };
+    ghost hears = { Prints W.written W.failures };
+
+    ghost fails = { FailsPrinting W.written W.failures };
 
     #[inline(always)]
-    fn hear(
-        &mut self,
-        device: &mut W,
-        line: u64,
-        trace_event: &TraceEvent<'_>,
-    ) -> Result<(), ListenerError> {
-        flush_full(&mut self.block, device)?;
-        render_event(&mut self.block, self.alloc, self.style, line, trace_event)?;
+    fn hear(&mut self, number: u64, trace_event: &TraceEvent<'_>) -> Result<(), ListenerError> {
+        let pages = &mut *self.pages;
+        flush_full(&mut pages.block, self.writer)?;
+        render_event(
+            &mut pages.block,
+            pages.alloc,
+            pages.style,
+            number,
+            trace_event,
+        )?;
         Ok(())
     }
 }

@@ -1,5 +1,6 @@
 -- What the parts of a piece emit.
 use Rattle.std.proofs.Common.{◌≡◌, ℕ, ◌-◌, ◌<◌, ◌≤◌, zero, suc, min, Bool, true, false, subst, List, [], ◌∷◌, ◌++◌, length, take, slice_index, Option, None, Some, Result, Ok, Err, refl, sym, ◌∙◌, ap, arith, append-nil}
+use Rattle.std.specs.Prelude.{MatchResult}
 use Rattle.std.proofs.lemmas.List.{length-take-le, take-append-drop}
 use Rattle.std.proofs.lemmas.Bool.{false≢true}
 use Rattle.zvt_grammar.specs.Cuts.{Cut}
@@ -12,15 +13,14 @@ use Rattle.zvt_stream.specs.Apdus.{IsRefusedIn, UnfinishedIn}
 use Rattle.zvt_stream.specs.StreamState.{StreamState, HasRefused, Holds, Keeps}
 use Rattle.zvt_stream.specs.Head.{head_of}
 use Rattle.zvt_stream.specs.declared.head.Head.{Head}
-use Rattle.zvt_trace.specs.Listening.{BytesBegin, EmitsRest, Fails, FailsIn, Hears, HearsAll, HearsBytes, HearsEnd, StaysSilent, one_message, one_refusal, uncounted}
-use Rattle.zvt_trace.specs.TraceEvent.{At, Tallies, message, on}
+use Rattle.zvt_trace.specs.Listening.{BytesBegin, EmitsEnd, EmitsRest, Fails, FailsIn, Hears, HearsAll, HearsBytes, HearsEnd, StaysSilent, counted_in}
+use Rattle.zvt_trace.specs.TraceEvent.{At, message, on}
 use Rattle.zvt_trace.specs.TraceEvent as trace_event
 use Rattle.zvt_trace.specs.Emitting.{PartEmits, PrefixOf, SideEnds}
 use Rattle.zvt_trace.specs.Resuming.{IsWithin, announced, refused_size, resuming_events, side_refused, side_skipping, skipping_events}
 use Rattle.zvt_trace.specs.Trace.{Side, begun, refused, running, skipping, stopped}
 use Rattle.zvt_trace.specs.Written.{Follows, IsOpening, Skips, SkipsTo, StreamFollows, is_everything, skipped_by}
 use Rattle.zvt_trace.specs.declared.direction.Direction.{Direction}
-use Rattle.zvt_trace.specs.declared.fault.Tally.{Tally}
 use Rattle.zvt_trace.specs.declared.listener.ListenerError.{ListenerError}
 use Rattle.zvt_trace.specs.declared.listener.Scope.{Scope}
 use Rattle.zvt_trace.specs.declared.side.SideReader.{SideReader}
@@ -45,20 +45,20 @@ message_emits {r = r} scope line from before part reader m follows spells = reco
   is_after = refl;
 }
 
-pub hears_message : {S : Type 0} {r : Reading} (hears : Hears S) (scope : Scope) (line : ℕ) (from : Direction) (part : List ℕ) (reader next : SideReader) (m : Message) (now new : S) → reader.stream.stopped ≡ false → Spells r m (reader.stream.held ++ part)
-    → Holds [] next.stream → IsOpening next.opening [] → next.skipped ≡ reader.skipped → hears now (on line (message from m)) new → (side : Side) → Follows r reader side → HearsBytes r hears scope line from side part next one_message now new
+pub hears_message : {S : Type 0} {r : Reading} (hears : Hears S) (scope : Scope) (line : ℕ) (from : Direction) (part : List ℕ) (reader next : SideReader) (m : Message) (now new : S) → 0 < length part → reader.stream.stopped ≡ false → Spells r m (reader.stream.held ++ part)
+    → Holds [] next.stream → IsOpening next.opening [] → next.skipped ≡ reader.skipped → hears now (on line (message from m)) new → (side : Side) → Follows r reader side → HearsBytes r hears scope line from side part next true now new
 unfolding message_emits
-hears_message hears scope line from part reader next m now new going spells is_next opens same heard stopped follows = absurd (false≢true (sym going ∙ (follows.0).1))
-hears_message hears scope line from part reader next m now new going spells is_next opens same heard (skipping size left) follows = absurd (false≢true (sym going ∙ (follows.0).1))
-hears_message {r = r} hears scope line from part reader next m now new going spells is_next opens same heard (running before) follows =
+hears_message hears scope line from part reader next m now new long going spells is_next opens same heard stopped follows = absurd (false≢true (sym going ∙ (follows.0).1))
+hears_message hears scope line from part reader next m now new long going spells is_next opens same heard (skipping size left) follows = absurd (false≢true (sym going ∙ (follows.0).1))
+hears_message {r = r} hears scope line from part reader next m now new long going spells is_next opens same heard (running before) follows =
     let emits = message_emits scope line from before part reader m follows spells in record {
       events = on line (message from m) ∷ [];
       after = running (before ++ part);
       passes = one_part r scope line from (running before) (running (before ++ part)) part (on line (message from m) ∷ []) emits;
       heard = hears_one hears (on line (message from m)) now new heard;
       follows = (goes_on_with before part [] next.stream (m ∷ []) begun emits.arrives is_next, (same ∙ (follows.1).0, opens ∙ ap (λ (held : List ℕ). take 5 held) (sym is_next.0)));
-      counts = record { messages = refl; bad = refl };
-      any = refl;
+      few = long;
+      some = refl;
     }
 
 pub fails_message : {S : Type 0} {r : Reading} (hears : Hears S) (fails : Fails S) (why : ListenerError) (scope : Scope) (line : ℕ) (from : Direction) (part : List ℕ) (reader : SideReader) (m : Message) (now new : S) → reader.stream.stopped ≡ false
@@ -73,7 +73,7 @@ fails_message {r = r} hears fails why scope line from part reader m now new goin
 
 pub hears_more : {S : Type 0} {r : Reading} (hears : Hears S) (scope : Scope) (line : ℕ) (from : Direction) (part : List ℕ) (reader next : SideReader) (now : S) → reader.stream.stopped ≡ false → UnfinishedIn r (reader.stream.held ++ part)
     → Holds (reader.stream.held ++ part) next.stream → ((held : List ℕ) → IsOpening reader.opening held → IsOpening next.opening (held ++ part)) → next.skipped ≡ reader.skipped
-    → (side : Side) → Follows r reader side → HearsBytes r hears scope line from side part next (uncounted false) now now
+    → (side : Side) → Follows r reader side → HearsBytes r hears scope line from side part next false now now
 hears_more hears scope line from part reader next now going unfinished is_next opens same stopped follows = absurd (false≢true (sym going ∙ (follows.0).1))
 hears_more hears scope line from part reader next now going unfinished is_next opens same (skipping size left) follows = absurd (false≢true (sym going ∙ (follows.0).1))
 hears_more {r = r} hears scope line from part reader next now going unfinished is_next opens same (running before) follows =
@@ -87,8 +87,8 @@ hears_more {r = r} hears scope line from part reader next now going unfinished i
         goes_on_with before part (reader.stream.held ++ part) next.stream [] begun arrives is_next,
         (same ∙ (follows.1).0, opens reader.stream.held (follows.1).1 ∙ ap (λ (held : List ℕ). take 5 held) (sym is_next.0)),
       );
-      counts = record { messages = refl; bad = refl };
-      any = refl;
+      few = omega arith;
+      some = refl;
     }
 
 -- ---- a refusal
@@ -125,13 +125,13 @@ ends_refusal {S = S} r hears fails line from None come reader next now new answe
 ends_refusal r hears fails line from (Some size) come reader next now new (Ok any) gone is rest all = let ended = rest size (size - come) (gone, is) in (ended.0, ended.1)
 ends_refusal r hears fails line from (Some size) come reader next now new (Err why) gone is rest all = rest size (size - come) (gone, is)
 
-pub hears_refused : {S : Type 0} {r : Reading} (hears : Hears S) (fails : Fails S) (scope : Scope) (line : ℕ) (from : Direction) (part : List ℕ) (reader next : SideReader) (place : ℕ) (why : Why) (now middle new : S) (any : Bool) → reader.stream.stopped ≡ false
+pub hears_refused : {S : Type 0} {r : Reading} (hears : Hears S) (fails : Fails S) (scope : Scope) (line : ℕ) (from : Direction) (part : List ℕ) (reader next : SideReader) (place : ℕ) (why : Why) (now middle new : S) (any : Bool) → 0 < length part → reader.stream.stopped ≡ false
     → IsRefusedIn r (reader.stream.held ++ part) place why → suc place ≡ length (reader.stream.held ++ part) → ((held : List ℕ) → IsOpening reader.opening held → suc place ≡ length (held ++ part) → hears now (refusal_event line from (held ++ part) place why) middle)
     → (((held : List ℕ) → IsOpening reader.opening held → suc place ≡ length (held ++ part) → EndsRefusal r hears fails line from (refused_size scope (held ++ part) place) (length (held ++ part)) next middle new (Ok any)))
-    → (side : Side) → Follows r reader side → HearsBytes r hears scope line from side part next one_refusal now new
-hears_refused hears fails scope line from part reader next place why now middle new any going fatal all heard ended stopped follows = absurd (false≢true (sym going ∙ (follows.0).1))
-hears_refused hears fails scope line from part reader next place why now middle new any going fatal all heard ended (skipping size left) follows = absurd (false≢true (sym going ∙ (follows.0).1))
-hears_refused {r = r} hears fails scope line from part reader next place why now middle new any going fatal all heard ended (running before) follows =
+    → (side : Side) → Follows r reader side → HearsBytes r hears scope line from side part next true now new
+hears_refused hears fails scope line from part reader next place why now middle new any long going fatal all heard ended stopped follows = absurd (false≢true (sym going ∙ (follows.0).1))
+hears_refused hears fails scope line from part reader next place why now middle new any long going fatal all heard ended (skipping size left) follows = absurd (false≢true (sym going ∙ (follows.0).1))
+hears_refused {r = r} hears fails scope line from part reader next place why now middle new any long going fatal all heard ended (running before) follows =
     let whole = reader.stream.held ++ part in
     let size = refused_size scope whole place in
     let first = refusal_event line from whole place why in
@@ -143,16 +143,16 @@ hears_refused {r = r} hears fails scope line from part reader next place why now
       passes = one_part r scope line from (running before) after part (first ∷ later) (refusal_emits scope line from before part reader place why follows fatal all);
       heard = (middle, heard reader.stream.held (follows.1).1 all, over.0);
       follows = over.1;
-      counts = no_more size (length whole);
-      any = refl;
+      few = omega (arith, long, no_more size (length whole));
+      some = refl;
     }
   where
-    none_left : (size left : ℕ) → Tallies one_refusal.tally (refusal_event line from (reader.stream.held ++ part) place why ∷ skipping_events line from size left)
-    none_left size zero = record { messages = refl; bad = refl }
-    none_left size (suc left) = record { messages = refl; bad = refl }
+    none_left : (size left : ℕ) → counted_in (refusal_event line from (reader.stream.held ++ part) place why ∷ skipping_events line from size left) ≡ 1
+    none_left size zero = refl
+    none_left size (suc left) = refl
 
-    no_more : (size : Option ℕ) (come : ℕ) → Tallies one_refusal.tally (refusal_event line from (reader.stream.held ++ part) place why ∷ resuming_events line from size come)
-    no_more None come = record { messages = refl; bad = refl }
+    no_more : (size : Option ℕ) (come : ℕ) → counted_in (refusal_event line from (reader.stream.held ++ part) place why ∷ resuming_events line from size come) ≡ 1
+    no_more None come = refl
     no_more (Some size) come = none_left size (size - come)
 
 pub fails_refused : {S : Type 0} {r : Reading} (hears : Hears S) (fails : Fails S) (failure : ListenerError) (scope : Scope) (line : ℕ) (from : Direction) (part : List ℕ) (reader : SideReader) (place : ℕ) (why : Why) (now new : S) → reader.stream.stopped ≡ false
@@ -208,9 +208,9 @@ skips_part Everything next bytes rest skips = sym (append-nil bytes) ∙ ap (λ 
 kept_refused : (old new : StreamState) → Keeps old new → HasRefused old → HasRefused new
 kept_refused old new kept gone = (kept.0 ∙ gone.0, kept.1 ∙ gone.1)
 
-rest_count : (line : ℕ) (from : Direction) (size left : ℕ) → Tallies (let t : Tally = record { messages = 0; bad = 0 } in t) (skipping_events line from size left)
-rest_count line from size zero = record { messages = refl; bad = refl }
-rest_count line from size (suc left) = record { messages = refl; bad = refl }
+none_counted : (line : ℕ) (from : Direction) (size left : ℕ) → counted_in (skipping_events line from size left) ≡ 0
+none_counted line from size zero = refl
+none_counted line from size (suc left) = refl
 
 rest_emits : (r : Reading) (scope : Scope) (line : ℕ) (from : Direction) (size left count : ℕ) (bytes : List ℕ) → count ≡ min left (length bytes)
     → PartEmits r scope line from (skipping size left) (take count bytes) (skipping_events line from size (left - count)) (side_skipping size (left - count))
@@ -222,30 +222,30 @@ rest_emits r scope line from size left count bytes is =
 pub hears_skipped : {S : Type 0} {r : Reading} (hears : Hears S) (fails : Fails S) (scope : Scope) (line : ℕ) (from : Direction) (bytes rest : List ℕ) (reader middle next : SideReader) (now new : S) (any : Bool) → reader.stream.stopped ≡ true
     → Keeps reader.stream middle.stream → Skips reader.skipped bytes middle.skipped rest → ((size left : ℕ) → SkipsTo middle size left → EmitsRest r hears fails line from size left next now new (Ok any))
     → (is_everything middle.skipped ≡ true → StaysSilent hears middle next now new (Ok any))
-    → (side : Side) → Follows r reader side → HearsBytes r hears scope line from side (skipped_part reader.skipped bytes) next (uncounted any) now new
+    → (side : Side) → Follows r reader side → HearsBytes r hears scope line from side (skipped_part reader.skipped bytes) next any now new
 hears_skipped hears fails scope line from bytes rest reader middle next now new any still kept skips ended all (running before) follows = absurd (false≢true (sym (follows.0).0 ∙ still))
 hears_skipped {r = r} hears fails scope line from bytes rest reader middle next now new any still kept skips ended all stopped follows =
-    subst (λ (s : Skipped). Skips s bytes middle.skipped rest → HearsBytes r hears scope line from stopped (skipped_part s bytes) next (uncounted any) now new) (sym follows.1)
+    subst (λ (s : Skipped). Skips s bytes middle.skipped rest → HearsBytes r hears scope line from stopped (skipped_part s bytes) next any now new) (sym follows.1)
     (λ skipped. let stays = all (ap is_everything skipped.0) in record {
       events = [];
       after = stopped;
       passes = one_part r scope line from stopped stopped bytes [] (refl, refl);
       heard = stays.2;
       follows = subst (λ (n : SideReader). Follows r n stopped) (sym stays.1) (kept_refused reader.stream middle.stream kept follows.0, skipped.0);
-      counts = record { messages = refl; bad = refl };
-      any = cc (stays.0);
+      few = omega arith;
+      some = cc (stays.0);
     }) skips
 hears_skipped {r = r} hears fails scope line from bytes rest reader middle next now new any still kept skips ended all (skipping size left) follows =
     let count = min left (length bytes) in
-    subst (λ (s : Skipped). Skips s bytes middle.skipped rest → HearsBytes r hears scope line from (skipping size left) (skipped_part s bytes) next (uncounted any) now new) (sym (follows.1).0)
+    subst (λ (s : Skipped). Skips s bytes middle.skipped rest → HearsBytes r hears scope line from (skipping size left) (skipped_part s bytes) next any now new) (sym (follows.1).0)
     (λ skipped. let over = ended size (left - count) (kept_refused reader.stream middle.stream kept follows.0, skipped.0) in record {
       events = skipping_events line from size (left - count);
       after = side_skipping size (left - count);
       passes = one_part r scope line from (skipping size left) (side_skipping size (left - count)) (take count bytes) (skipping_events line from size (left - count)) (rest_emits r scope line from size left count bytes refl);
       heard = over.0;
       follows = over.1;
-      counts = rest_count line from size (left - count);
-      any = over.2;
+      few = omega (arith, none_counted line from size (left - count));
+      some = over.2;
     }) skips
 
 pub fails_skipped : {S : Type 0} {r : Reading} (hears : Hears S) (fails : Fails S) (why : ListenerError) (scope : Scope) (line : ℕ) (from : Direction) (bytes rest : List ℕ) (reader middle next : SideReader) (now new : S) → reader.stream.stopped ≡ true
@@ -306,15 +306,15 @@ none_to_rest r hears fails line from reader size left now none skips = absurd (f
 
 -- ---- the end of a side
 
-pub none_cut : {S : Type 0} (r : Reading) (hears : Hears S) (line : ℕ) (from : Direction) (side : Side) (state : StreamState) (now : S) → StreamFollows r state side → state.held ≡ [] → HearsEnd hears (SideEnds r line from side) 0 now now
+pub none_cut : {S : Type 0} (r : Reading) (hears : Hears S) (line : ℕ) (from : Direction) (side : Side) (state : StreamState) (now : S) → StreamFollows r state side → state.held ≡ [] → HearsEnd hears (SideEnds r line from side) 1 now now
 none_cut r hears line from (running bytes) state now follows none = record {
   events = [];
   ends = (follows.1, [], subst (λ (h : List ℕ). Cut (Spells r) bytes follows.1 h) none follows.2, refl);
   heard = refl;
-  counts = record { messages = refl; bad = refl };
+  few = omega arith;
 }
-none_cut r hears line from (skipping size left) state now follows none = record { events = []; ends = refl; heard = refl; counts = record { messages = refl; bad = refl } }
-none_cut r hears line from stopped state now follows none = record { events = []; ends = refl; heard = refl; counts = record { messages = refl; bad = refl } }
+none_cut r hears line from (skipping size left) state now follows none = record { events = []; ends = refl; heard = refl; few = omega arith }
+none_cut r hears line from stopped state now follows none = record { events = []; ends = refl; heard = refl; few = omega arith }
 
 -- what is cut off, as its events are emitted
 pub ends_cut : (r : Reading) (line : ℕ) (from : Direction) (side : Side) (state : StreamState) (head : Head) (have : ℕ) → StreamFollows r state side → 0 < have → have ≡ length state.held → head ≡ head_of state.held
@@ -327,16 +327,22 @@ ends_cut r line from (running bytes) state head have follows some is is_head = b
     by_held [] cut is is_head = absurd (omega (arith, some, is))
     by_held (byte ∷ held) cut is is_head = (follows.1, byte ∷ held, cut, rw (is, is_head) refl)
 
-pub some_cut : {S : Type 0} (r : Reading) (hears : Hears S) (line : ℕ) (from : Direction) (side : Side) (head : Head) (have : ℕ) (old new : S) → SideEnds r line from side (on line (trace_event.cut_off from head have) ∷ []) → hears old (on line (trace_event.cut_off from head have)) new
+some_cut : {S : Type 0} (r : Reading) (hears : Hears S) (line : ℕ) (from : Direction) (side : Side) (head : Head) (have : ℕ) (old new : S) → SideEnds r line from side (on line (trace_event.cut_off from head have) ∷ []) → hears old (on line (trace_event.cut_off from head have)) new
     → HearsEnd hears (SideEnds r line from side) 1 old new
 some_cut r hears line from side head have old new ended heard = record {
   events = on line (trace_event.cut_off from head have) ∷ [];
   ends = ended;
   heard = hears_one hears (on line (trace_event.cut_off from head have)) old new heard;
-  counts = record { messages = refl; bad = refl };
+  few = omega arith;
 }
 
-pub cut_failed : {S : Type 0} (r : Reading) (hears : Hears S) (fails : Fails S) (why : ListenerError) (line : ℕ) (from : Direction) (side : Side) (head : Head) (have : ℕ) (old new : S) → SideEnds r line from side (on line (trace_event.cut_off from head have) ∷ []) → fails old (on line (trace_event.cut_off from head have)) why new
+cut_failed : {S : Type 0} (r : Reading) (hears : Hears S) (fails : Fails S) (why : ListenerError) (line : ℕ) (from : Direction) (side : Side) (head : Head) (have : ℕ) (old new : S) → SideEnds r line from side (on line (trace_event.cut_off from head have) ∷ []) → fails old (on line (trace_event.cut_off from head have)) why new
     → FailsIn hears fails why (PrefixOf (SideEnds r line from side)) old new
 cut_failed r hears fails why line from side head have old new ended failed =
     fails_next hears fails why [] (on line (trace_event.cut_off from head have)) old old new refl (prefix_whole (on line (trace_event.cut_off from head have) ∷ []) ended) failed
+
+-- what emitting that it is cut off answers
+pub cut_ends : {S : Type 0} (r : Reading) (hears : Hears S) (fails : Fails S) (line : ℕ) (from : Direction) (side : Side) (head : Head) (have : ℕ) (old new : S) (answer : Result Unit ListenerError) → SideEnds r line from side (on line (trace_event.cut_off from head have) ∷ [])
+    → MatchResult answer (λ _. hears old (on line (trace_event.cut_off from head have)) new) (λ why. fails old (on line (trace_event.cut_off from head have)) why new) → EmitsEnd hears fails (SideEnds r line from side) 1 old new answer
+cut_ends r hears fails line from side head have old new (Ok done) ended heard = some_cut r hears line from side head have old new ended heard
+cut_ends r hears fails line from side head have old new (Err why) ended failed = cut_failed r hears fails why line from side head have old new ended failed

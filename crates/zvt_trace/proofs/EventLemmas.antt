@@ -3,10 +3,9 @@ use Rattle.std.proofs.Common.{◌≡◌, inl, inr, ℕ, ◌+◌, List, [], ◌�
 use Rattle.std.proofs.lemmas.List.Sums.{sum_by-append, sum_by-cons}
 use Rattle.zvt_apdu.specs.Message.{Message}
 use Rattle.zvt_trace.specs.Listening.{Fails, FailsIn, Hears, HearsAll, Stops}
-use Rattle.zvt_trace.specs.TraceEvent.{At, Tallies, bad_count, bad_in, message, message_count, messages_in, on}
+use Rattle.zvt_trace.specs.TraceEvent.{At, bad_count, bad_in, message, message_count, messages_in, on}
 use Rattle.zvt_trace.specs.Emitting.{PrefixOf, messages_emitted}
 use Rattle.zvt_trace.specs.declared.direction.Direction.{Direction}
-use Rattle.zvt_trace.specs.declared.fault.Tally.{Tally}
 use Rattle.zvt_trace.specs.declared.listener.ListenerError.{ListenerError}
 use Rattle.zvt_trace.specs.declared.listener.ListenerError.TheVariants.{Memory}
 
@@ -42,12 +41,6 @@ pub none_bad : (line : ℕ) (from : Direction) (messages : List Message) → bad
 none_bad line from [] = refl
 none_bad line from (m ∷ messages) =
     sum_by-cons (λ (event : At). bad_count event.trace_event) (on line (message from m)) (messages_emitted line from messages) ∙ ap (λ (n : ℕ). 0 + n) (none_bad line from messages)
-
-pub tallies_both : (s t all : Tally) (a b : List At) → Tallies s a → Tallies t b → all.messages ≡ s.messages + t.messages → all.bad ≡ s.bad + t.bad → Tallies all (a ++ b)
-tallies_both s t all a b first second messages bad = record {
-  messages = omega (arith, messages, first.messages, second.messages, messages_append a b);
-  bad = omega (arith, bad, first.bad, second.bad, bad_append a b);
-}
 
 -- ---- prefixes
 

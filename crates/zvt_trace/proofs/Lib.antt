@@ -1,8 +1,10 @@
+pub mod ChunkLaws
 pub mod ChunkLemmas
 mod ChunkRows
 pub mod EventLemmas
 pub mod FeedLemmas
 pub mod InputLemmas
+pub mod KeptLemmas
 pub mod LineLemmas
 pub mod PairLemmas
 mod PartRows
@@ -15,6 +17,7 @@ pub mod SidesLemmas
 pub mod SpelledLemmas
 pub mod StartLemmas
 pub mod EmitLemmas
+pub mod TallyLemmas
 pub mod ToldLemmas
 pub mod WalkedLemmas
 pub mod WalkerLemmas

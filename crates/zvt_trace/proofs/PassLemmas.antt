@@ -1,15 +1,14 @@
 -- What bytes emit, part by part.
-use Rattle.std.proofs.Common.{◌≡◌, ℕ, Bool, false, ◌||◌, subst, List, [], ◌∷◌, ◌++◌, length, refl, sym, ◌∙◌, ap, arith, append_assoc, append-nil}
+use Rattle.std.proofs.Common.{◌≡◌, ℕ, Bool, false, ◌||◌, length-append, subst, List, [], ◌∷◌, ◌++◌, length, refl, sym, ◌∙◌, ap, arith, append_assoc, append-nil}
 use Rattle.std.specs.List.{concat}
 use Rattle.zvt_grammar.specs.Reading.{Reading}
 use Rattle.zvt_trace.specs.Emitting.{PartEmits, PartsEmit, Passes}
-use Rattle.zvt_trace.specs.Listening.{BytesBegin, Fails, FailsIn, Hears, HearsBytes, HearsFirst, IsBoth, has_some, uncounted}
+use Rattle.zvt_trace.specs.Listening.{BytesBegin, Fails, FailsIn, Hears, HearsBytes, HearsFirst, has_some}
 use Rattle.zvt_trace.specs.Meanings.{bytes_of}
 use Rattle.zvt_trace.specs.TraceEvent.{At}
 use Rattle.zvt_trace.specs.Trace.{Side}
 use Rattle.zvt_trace.specs.Written.{Follows}
 use Rattle.zvt_trace.specs.declared.direction.Direction.{Direction}
-use Rattle.zvt_trace.specs.declared.feed.Heard.{Heard}
 use Rattle.zvt_trace.specs.declared.listener.ListenerError.{ListenerError}
 use Rattle.zvt_trace.specs.declared.listener.ListenerError.TheVariants.{Memory}
 use Rattle.zvt_trace.specs.declared.listener.Scope.{Scope}
@@ -59,8 +58,8 @@ some_both : (a b : List At) → (has_some a || has_some b) ≡ has_some (a ++ b)
 some_both [] b = refl
 some_both (event ∷ a) b = refl
 
-pub hears_both : {S : Type 0} {r : Reading} (hears : Hears S) (scope : Scope) (line : ℕ) (from : Direction) (side : Side) (first second : List ℕ) (reader next : SideReader) (one two both : Heard) (old now new : S)
-    → (heard : HearsBytes r hears scope line from side first reader one old now) → HearsBytes r hears scope line from heard.after second next two now new → IsBoth one two both
+pub hears_both : {S : Type 0} {r : Reading} (hears : Hears S) (scope : Scope) (line : ℕ) (from : Direction) (side : Side) (first second : List ℕ) (reader next : SideReader) (one two both : Bool) (old now new : S)
+    → (heard : HearsBytes r hears scope line from side first reader one old now) → HearsBytes r hears scope line from heard.after second next two now new → both ≡ (one || two)
     → HearsBytes r hears scope line from side (first ++ second) next both old new
 hears_both {r = r} hears scope line from side first second reader next one two both old now new heard later sum = record {
   events = heard.events ++ later.events;
@@ -68,11 +67,8 @@ hears_both {r = r} hears scope line from side first second reader next one two b
   passes = passes_both scope line from side heard.after later.after first second heard.events later.events heard.passes later.passes;
   heard = hears_append hears heard.events later.events old now new heard.heard later.heard;
   follows = later.follows;
-  counts = record {
-    messages = omega (arith, sum.messages, heard.counts.messages, later.counts.messages, messages_append heard.events later.events);
-    bad = omega (arith, sum.bad, heard.counts.bad, later.counts.bad, bad_append heard.events later.events);
-  };
-  any = sum.any ∙ ap (λ (b : Bool). b || two.any) heard.any ∙ ap (λ (b : Bool). has_some heard.events || b) later.any ∙ some_both heard.events later.events;
+  few = omega (arith, heard.few, later.few, messages_append heard.events later.events, bad_append heard.events later.events, length-append first second);
+  some = sum ∙ ap (λ (b : Bool). b || two) heard.some ∙ ap (λ (b : Bool). has_some heard.events || b) later.some ∙ some_both heard.events later.events;
 }
 
 -- a prefix of what the first bytes emit, and of what those after them do
@@ -92,7 +88,7 @@ pub fails_part : {S : Type 0} {r : Reading} (hears : Hears S) (fails : Fails S) 
 fails_part {r = r} hears fails why scope line from side bytes first second old new cut failed =
     subst (λ (b : List ℕ). FailsIn hears fails why (BytesBegin r scope line from side b) old new) (sym cut) (fails_first hears fails why scope line from side first second old new failed)
 
-pub fails_second : {S : Type 0} {r : Reading} (hears : Hears S) (fails : Fails S) (why : ListenerError) (scope : Scope) (line : ℕ) (from : Direction) (side : Side) (first second : List ℕ) (reader : SideReader) (one : Heard) (old now new : S)
+pub fails_second : {S : Type 0} {r : Reading} (hears : Hears S) (fails : Fails S) (why : ListenerError) (scope : Scope) (line : ℕ) (from : Direction) (side : Side) (first second : List ℕ) (reader : SideReader) (one : Bool) (old now new : S)
     → (heard : HearsBytes r hears scope line from side first reader one old now) → FailsIn hears fails why (BytesBegin r scope line from heard.after second) now new → FailsIn hears fails why (BytesBegin r scope line from side (first ++ second)) old new
 fails_second {r = r} hears fails why scope line from side first second reader one old now new heard failed =
     fails_after hears fails why heard.events old now new heard.heard failed (λ events so. record {
@@ -106,7 +102,7 @@ fails_second {r = r} hears fails why scope line from side first second reader on
 -- ---- the first bytes
 
 pub none_heard : {S : Type 0} {r : Reading} (hears : Hears S) (scope : Scope) (line : ℕ) (from : Direction) (side : Side) (bytes : List ℕ) (reader : SideReader) (old : S) → Follows r reader side
-    → HearsFirst r hears scope line from side bytes bytes reader (uncounted false) old old
+    → HearsFirst r hears scope line from side bytes bytes reader false old old
 none_heard hears scope line from side bytes reader old follows = record {
   first = [];
   cut = refl;
@@ -116,18 +112,18 @@ none_heard hears scope line from side bytes reader old follows = record {
     passes = record { parts = []; cut = refl; emit = (refl, refl) };
     heard = refl;
     follows = follows;
-    counts = record { messages = refl; bad = refl };
-    any = refl;
+    few = omega arith;
+    some = refl;
   };
 }
 
-pub first_heard : {S : Type 0} {r : Reading} (hears : Hears S) (scope : Scope) (line : ℕ) (from : Direction) (side : Side) (bytes rest : List ℕ) (reader : SideReader) (so_far : Heard) (old now : S)
-    → HearsBytes r hears scope line from side bytes reader so_far old now → HearsFirst r hears scope line from side (bytes ++ rest) rest reader so_far old now
-first_heard hears scope line from side bytes rest reader so_far old now heard = record { first = bytes; cut = refl; heard = heard }
+pub first_heard : {S : Type 0} {r : Reading} (hears : Hears S) (scope : Scope) (line : ℕ) (from : Direction) (side : Side) (bytes rest : List ℕ) (reader : SideReader) (any : Bool) (old now : S)
+    → HearsBytes r hears scope line from side bytes reader any old now → HearsFirst r hears scope line from side (bytes ++ rest) rest reader any old now
+first_heard hears scope line from side bytes rest reader any old now heard = record { first = bytes; cut = refl; heard = heard }
 
 -- and those after them
-pub heard_more : {S : Type 0} {r : Reading} (hears : Hears S) (scope : Scope) (line : ℕ) (from : Direction) (side : Side) (bytes rest after : List ℕ) (reader next : SideReader) (one two both : Heard) (old now new : S)
-    → (so : HearsFirst r hears scope line from side bytes rest reader one old now) → HearsFirst r hears scope line from so.heard.after rest after next two now new → IsBoth one two both
+pub heard_more : {S : Type 0} {r : Reading} (hears : Hears S) (scope : Scope) (line : ℕ) (from : Direction) (side : Side) (bytes rest after : List ℕ) (reader next : SideReader) (one two both : Bool) (old now new : S)
+    → (so : HearsFirst r hears scope line from side bytes rest reader one old now) → HearsFirst r hears scope line from so.heard.after rest after next two now new → both ≡ (one || two)
     → HearsFirst r hears scope line from side bytes after next both old new
 heard_more hears scope line from side bytes rest after reader next one two both old now new so later sum = record {
   first = so.first ++ later.first;
@@ -135,17 +131,17 @@ heard_more hears scope line from side bytes rest after reader next one two both 
   heard = hears_both hears scope line from side so.first later.first reader next one two both old now new so.heard later.heard sum;
 }
 
-pub heard_fails : {S : Type 0} {r : Reading} (hears : Hears S) (fails : Fails S) (why : ListenerError) (scope : Scope) (line : ℕ) (from : Direction) (side : Side) (bytes rest : List ℕ) (reader : SideReader) (one : Heard) (old now new : S)
+pub heard_fails : {S : Type 0} {r : Reading} (hears : Hears S) (fails : Fails S) (why : ListenerError) (scope : Scope) (line : ℕ) (from : Direction) (side : Side) (bytes rest : List ℕ) (reader : SideReader) (one : Bool) (old now new : S)
     → (so : HearsFirst r hears scope line from side bytes rest reader one old now) → FailsIn hears fails why (BytesBegin r scope line from so.heard.after rest) now new → FailsIn hears fails why (BytesBegin r scope line from side bytes) old new
 heard_fails {r = r} hears fails why scope line from side bytes rest reader one old now new so failed =
     subst (λ (b : List ℕ). FailsIn hears fails why (BytesBegin r scope line from side b) old new) (sym so.cut) (fails_second hears fails why scope line from side so.first rest reader one old now new so.heard failed)
 
 -- nothing is left
-pub heard_all : {S : Type 0} {r : Reading} (hears : Hears S) (scope : Scope) (line : ℕ) (from : Direction) (side : Side) (bytes rest : List ℕ) (reader : SideReader) (so_far : Heard) (old now : S) → HearsFirst r hears scope line from side bytes rest reader so_far old now
-    → rest ≡ [] → HearsBytes r hears scope line from side bytes reader so_far old now
-heard_all {r = r} hears scope line from side bytes rest reader so_far old now so none =
+pub heard_all : {S : Type 0} {r : Reading} (hears : Hears S) (scope : Scope) (line : ℕ) (from : Direction) (side : Side) (bytes rest : List ℕ) (reader : SideReader) (any : Bool) (old now : S) → HearsFirst r hears scope line from side bytes rest reader any old now
+    → rest ≡ [] → HearsBytes r hears scope line from side bytes reader any old now
+heard_all {r = r} hears scope line from side bytes rest reader any old now so none =
     let all : so.first ≡ bytes = sym (append-nil so.first) ∙ ap (λ (b : List ℕ). so.first ++ b) (sym none) ∙ sym so.cut in
-    subst (λ (b : List ℕ). HearsBytes r hears scope line from side b reader so_far old now) all so.heard
+    subst (λ (b : List ℕ). HearsBytes r hears scope line from side b reader any old now) all so.heard
 
 pub is_empty : (rest : List ℕ) → length rest ≡ 0 → rest ≡ []
 is_empty [] none = refl

@@ -7,18 +7,18 @@ use Rattle.std.proofs.lemmas.Bool.Decides.{nat_tests}
 use Rattle.std.proofs.lemmas.List.{length-take-le, take-append-drop, take_all}
 use Rattle.std.proofs.Math.Seq.{take-append_seam, drop-append-add}
 use Rattle.hex.specs.Hex.{decode_of, hex_digit_value}
-use Rattle.zvt_trace.specs.Meanings.{Begins, IsSign, SpellsBytes, bytes_of, meaning_of, piece, without_spaces}
+use Rattle.zvt_trace.specs.Meanings.{Begins, IsSign, meaning_of, piece, without_spaces}
 use Rattle.zvt_trace.specs.Spelled.{AreHex, after_bytes, spells}
 use Rattle.zvt_trace.specs.declared.direction.Direction.{Direction}
 use Rattle.zvt_trace.specs.declared.direction.Direction.TheVariants.{FromTill, FromTerminal}
 use Rattle.zvt_trace.proofs.LineLemmas.{lines-first, newline}
-use Rattle.zvt_trace.proofs.SpelledLemmas.{no_bytes_of, no_text, reads_all}
+use Rattle.zvt_trace.proofs.SpelledLemmas.{reads_all}
 
 -- what comes after that many
 abbrev pub after_first : ℕ → List ℕ → List ℕ
 after_first n text = take (length text - n) (drop n text)
 
-no_digit_at : (n : ℕ) (digit : ℕ) → IsSome (hex_digit_value digit) → (IsSome (hex_digit_value n) → ⊥) → digit ≢ n
+pub no_digit_at : (n : ℕ) (digit : ℕ) → IsSome (hex_digit_value digit) → (IsSome (hex_digit_value n) → ⊥) → digit ≢ n
 no_digit_at n digit is never e = never (subst (λ (k : ℕ). IsSome (hex_digit_value k)) e is)
 
 first_feed : (digits after : List ℕ) → AreHex digits → position_or_len newline (digits ++ 10 ∷ after) ≡ length digits
@@ -39,7 +39,7 @@ strip_other line other =
     rw differs refl
 
 -- the first line of a sign, a space, digits and a line feed
-first_is : (sign : ℕ) (digits after : List ℕ) → sign ≢ 10 → AreHex digits → lines (sign ∷ 32 ∷ digits ++ 10 ∷ after) ≡ (sign ∷ 32 ∷ digits) ∷ lines after
+pub first_is : (sign : ℕ) (digits after : List ℕ) → sign ≢ 10 → AreHex digits → lines (sign ∷ 32 ∷ digits ++ 10 ∷ after) ≡ (sign ∷ 32 ∷ digits) ∷ lines after
 first_is sign digits after other all =
     let text = sign ∷ 32 ∷ digits ++ 10 ∷ after in
     let line = sign ∷ 32 ∷ digits in
@@ -58,7 +58,7 @@ first_is sign digits after other all =
     ∙ ap (λ (t : List ℕ). t ∷ lines (drop (length line + 1) text)) kept ∙ ap (λ (t : List ℕ). line ∷ lines t) rest
 
 -- what the signs of a piece mean
-sign_means : (sign : ℕ) (from : Direction) (digits bytes : List ℕ) → IsSign sign from → decode_of (without_spaces digits) ≡ Ok bytes
+pub sign_means : (sign : ℕ) (from : Direction) (digits bytes : List ℕ) → IsSign sign from → decode_of (without_spaces digits) ≡ Ok bytes
     → (sign ≢ 10) × (meaning_of (sign ∷ 32 ∷ digits) ≡ Ok (piece from bytes))
 sign_means sign FromTill digits bytes is decoded = rw is ((λ e. cc e), rw decoded refl)
 sign_means sign FromTerminal digits bytes is decoded = rw is ((λ e. cc e), rw decoded refl)
@@ -109,10 +109,3 @@ plain_read (sign ∷ blank ∷ after) buffer count from some space is fits all s
     let begins = plain_begins sign from text buffer (after_first 1 rest) count is cut all so fits in
     let same : sign ∷ 32 ∷ text ≡ sign ∷ blank ∷ after = ap (λ (t : List ℕ). sign ∷ 32 ∷ t) whole ∙ ap (λ (k : ℕ). sign ∷ k ∷ after) (sym space) in
     subst (λ (t : List ℕ). Begins t (λ line. (meaning_of line ≡ Ok (piece from (take count buffer))) × (count ≤ length line)) (after_first 1 rest)) same begins
-
--- a piece in the plain form leaves no text
-pub plain_line : (rest after buffer : List ℕ) (count : ℕ) (from : Direction) → count ≤ length buffer → Begins rest (λ line. (meaning_of line ≡ Ok (piece from (take count buffer))) × (count ≤ length line)) after
-    → Begins rest (λ line. (meaning_of line ≡ Ok (piece from (take count buffer ++ bytes_of []))) × (length (take count buffer ++ bytes_of []) ≤ length line) × SpellsBytes []) after
-plain_line rest after buffer count from few (line, cut, says, size, shorter) =
-    let all : take count buffer ++ bytes_of [] ≡ take count buffer = ap (λ (b : List ℕ). take count buffer ++ b) no_bytes_of ∙ append-nil (take count buffer) in
-    (line, cut, (says.0 ∙ ap (λ (b : List ℕ). Ok (piece from b)) (sym all), rw all (omega (arith, says.1, length-take-le count buffer few)), no_text), size, shorter)

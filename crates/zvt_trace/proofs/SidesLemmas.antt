@@ -1,25 +1,25 @@
 -- What both sides of the line emit.
-use Rattle.std.proofs.Common.{◌≡◌, ℕ, ◌+◌, Bool, true, false, subst, List, [], ◌∷◌, ◌++◌, refl, sym, ◌∙◌, arith, append-nil}
+use Rattle.std.proofs.Common.{◌≡◌, ℕ, Result, Ok, Err, Bool, true, false, subst, List, [], ◌∷◌, ◌++◌, refl, sym, ◌∙◌, arith, append-nil}
+use Rattle.std.specs.Prelude.{MatchResult}
 use Rattle.std.proofs.lemmas.Bool.{false≢true}
 use Rattle.zvt_grammar.specs.Reading.{Reading}
 use Rattle.zvt_trace.specs.declared.side.SideReader.{SideReader}
-use Rattle.zvt_trace.specs.Listening.{BesideBegins, Fails, FailsIn, FollowBoth, FollowsUntil, Hears, HearsBeside, HearsEnd, HearsLine, HearsPiece, PieceBegins, is_stopped}
+use Rattle.zvt_trace.specs.Listening.{BesideBegins, EmitsEnd, EmitsLine, Fails, FailsIn, FollowBoth, FollowsUntil, Hears, HearsBeside, HearsEnd, HearsLine, HearsPiece, PieceBegins, is_stopped}
 use Rattle.zvt_trace.specs.Meanings.{lost, piece, comment}
-use Rattle.zvt_trace.specs.TraceEvent.{At, Tallies, on, unread}
+use Rattle.zvt_trace.specs.TraceEvent.{At, on, unread}
 use Rattle.zvt_trace.specs.TraceEvent as trace_event
 use Rattle.zvt_trace.specs.Emitting.{PrefixOf, Leaves, LineEnds, LineEmits, MeaningBegins, PieceEmits, SideEnds, both_sides, cut_off_event, other}
 use Rattle.zvt_trace.specs.Trace.{Side, Sides, new_line, running, skipping, stopped}
-use Rattle.zvt_trace.specs.Written.{Follows}
+use Rattle.zvt_trace.specs.Written.{Follows, is_everything}
 use Rattle.zvt_trace.specs.declared.walker.BothSides.{BothSides}
 use Rattle.zvt_trace.specs.declared.direction.Direction.{Direction}
 use Rattle.zvt_trace.specs.declared.direction.Direction.TheVariants.{FromTill, FromTerminal}
-use Rattle.zvt_trace.specs.declared.fault.Tally.{Tally}
 use Rattle.zvt_trace.specs.declared.listener.ListenerError.{ListenerError}
 use Rattle.zvt_trace.specs.declared.listener.Scope.{Scope}
 use Rattle.zvt_trace.specs.declared.listener.Scope.TheVariants.{OneMessage, OneSide, WholeLine}
-use Rattle.zvt_trace.specs.declared.feed.Hearing.{Hearing}
-use Rattle.zvt_trace.proofs.EventLemmas.{fails_as, fails_after, fails_next, prefix_before, prefix_after, prefix_whole, hears_append, hears_one, hears_push, messages_append, bad_append, tallies_both}
+use Rattle.zvt_trace.proofs.EventLemmas.{fails_as, fails_after, fails_next, prefix_before, prefix_after, prefix_whole, hears_append, hears_one, hears_push, messages_append, bad_append}
 use Rattle.zvt_trace.proofs.PassLemmas.{one_part}
+use Rattle.zvt_trace.proofs.ToldLemmas.{ends_with}
 
 -- ---- a piece, and the other side
 
@@ -31,10 +31,9 @@ leaves_all r WholeLine line from (running bytes) beside going = (refl, refl)
 leaves_all r WholeLine line from (skipping size left) beside going = (refl, refl)
 leaves_all r WholeLine line from stopped beside going = absurd (false≢true (sym (going refl)))
 
-pub goes_on : {S : Type 0} {r : Reading} (hears : Hears S) (scope : Scope) (line : ℕ) (from : Direction) (side beside : Side) (bytes : List ℕ) (state others : SideReader) (hearing whole : Hearing) (old new : S)
-    → HearsPiece r hears scope line from side bytes state hearing old new → Follows r others beside → (scope ≡ WholeLine → hearing.stopped ≡ false) → whole.tally ≡ hearing.tally → whole.stopped ≡ false
-    → HearsBeside r hears scope line from side beside bytes state others whole old new
-goes_on {r = r} hears scope line from side beside bytes state others hearing whole old new heard follows going same still = record {
+pub goes_on : {S : Type 0} {r : Reading} (hears : Hears S) (scope : Scope) (line : ℕ) (from : Direction) (side beside : Side) (bytes : List ℕ) (state others : SideReader) (old new : S)
+    → HearsPiece r hears scope line from side bytes state old new → Follows r others beside → (scope ≡ WholeLine → is_everything state.skipped ≡ false) → HearsBeside r hears scope line from side beside bytes state others false old new
+goes_on {r = r} hears scope line from side beside bytes state others old new heard follows going = record {
   events = heard.events;
   after = heard.after;
   beside_after = beside;
@@ -42,13 +41,13 @@ goes_on {r = r} hears scope line from side beside bytes state others hearing who
     own = heard.events;
     others = [];
     emits = heard.emits;
-    leaves = leaves_all r scope line from heard.after beside (λ is. sym heard.ends ∙ going is);
+    leaves = leaves_all r scope line from heard.after beside (λ is. sym (ends_with state heard.after (heard.follows).1) ∙ going is);
     is_all = sym (append-nil heard.events);
   };
   heard = heard.heard;
-  follows = subst (λ (b : Bool). FollowsUntil r b state heard.after) (sym still) heard.follows;
-  follows_beside = subst (λ (b : Bool). FollowsUntil r b others beside) (sym still) follows;
-  counts = subst (λ (t : Tally). Tallies t heard.events) (sym same) heard.counts;
+  follows = heard.follows;
+  follows_beside = follows;
+  few = omega (arith, heard.few);
 }
 
 is_end : (side : Side) → is_stopped side ≡ true → side ≡ stopped
@@ -56,12 +55,11 @@ is_end (running bytes) e = absurd (false≢true e)
 is_end (skipping size left) e = absurd (false≢true e)
 is_end stopped e = refl
 
-pub gives_up : {S : Type 0} {r : Reading} (hears : Hears S) (scope : Scope) (line : ℕ) (from there : Direction) (side beside : Side) (bytes : List ℕ) (state others : SideReader) (hearing whole : Hearing) (bad : ℕ) (old middle new : S)
-    → scope ≡ WholeLine → there ≡ other from → HearsPiece r hears scope line from side bytes state hearing old middle → hearing.stopped ≡ true → HearsEnd hears (SideEnds r line there beside) bad middle new
-    → whole.tally.messages ≡ hearing.tally.messages → whole.tally.bad ≡ hearing.tally.bad + bad → whole.stopped ≡ true
-    → HearsBeside r hears scope line from side beside bytes state others whole old new
-gives_up {r = r} hears scope line from there side beside bytes state others hearing whole bad old middle new is_whole is_other heard over cut messages bads still =
-    let after : heard.after ≡ stopped = is_end heard.after (sym heard.ends ∙ over) in
+pub gives_up : {S : Type 0} {r : Reading} (hears : Hears S) (scope : Scope) (line : ℕ) (from there : Direction) (side beside : Side) (bytes : List ℕ) (state others : SideReader) (old middle new : S)
+    → scope ≡ WholeLine → there ≡ other from → HearsPiece r hears scope line from side bytes state old middle → is_everything state.skipped ≡ true → HearsEnd hears (SideEnds r line there beside) 1 middle new
+    → HearsBeside r hears scope line from side beside bytes state others true old new
+gives_up {r = r} hears scope line from there side beside bytes state others old middle new is_whole is_other heard over cut =
+    let after : heard.after ≡ stopped = is_end heard.after (sym (ends_with state heard.after (heard.follows).1) ∙ over) in
     let ended : SideEnds r line (other from) beside cut.events = subst (λ (d : Direction). SideEnds r line d beside cut.events) is_other cut.ends in
     let emits : PieceEmits r scope line from side bytes heard.events stopped = subst (λ (s : Side). PieceEmits r scope line from side bytes heard.events s) after heard.emits in
     record {
@@ -76,9 +74,9 @@ gives_up {r = r} hears scope line from there side beside bytes state others hear
         is_all = refl;
       };
       heard = hears_append hears heard.events cut.events old middle new heard.heard cut.heard;
-      follows = subst (λ (b : Bool). FollowsUntil r b state stopped) (sym still) refl;
-      follows_beside = subst (λ (b : Bool). FollowsUntil r b others stopped) (sym still) refl;
-      counts = tallies_both hearing.tally (record { messages = 0; bad = bad }) whole.tally heard.events cut.events heard.counts cut.counts (omega (arith, messages)) bads;
+      follows = refl;
+      follows_beside = refl;
+      few = omega (arith, heard.few, cut.few, messages_append heard.events cut.events, bad_append heard.events cut.events);
     }
 
 -- there is something that a refusal leaves
@@ -111,11 +109,11 @@ pub piece_fails : {S : Type 0} {r : Reading} (hears : Hears S) (fails : Fails S)
 piece_fails hears fails why scope line from side beside bytes others old new failed follows =
     fails_as hears fails why old new failed (λ events so. beside_begins scope line from side beside bytes others events follows so)
 
-pub cut_off_fails : {S : Type 0} {r : Reading} (hears : Hears S) (fails : Fails S) (why : ListenerError) (scope : Scope) (line : ℕ) (from there : Direction) (side beside : Side) (bytes : List ℕ) (state : SideReader) (hearing : Hearing) (old middle new : S)
-    → scope ≡ WholeLine → there ≡ other from → HearsPiece r hears scope line from side bytes state hearing old middle → hearing.stopped ≡ true → FailsIn hears fails why (PrefixOf (SideEnds r line there beside)) middle new
+pub cut_off_fails : {S : Type 0} {r : Reading} (hears : Hears S) (fails : Fails S) (why : ListenerError) (scope : Scope) (line : ℕ) (from there : Direction) (side beside : Side) (bytes : List ℕ) (state : SideReader) (old middle new : S)
+    → scope ≡ WholeLine → there ≡ other from → HearsPiece r hears scope line from side bytes state old middle → is_everything state.skipped ≡ true → FailsIn hears fails why (PrefixOf (SideEnds r line there beside)) middle new
     → FailsIn hears fails why (BesideBegins r scope line from side beside bytes) old new
-cut_off_fails {r = r} hears fails why scope line from there side beside bytes state hearing old middle new is_whole is_other heard over failed =
-    let after : heard.after ≡ stopped = is_end heard.after (sym heard.ends ∙ over) in
+cut_off_fails {r = r} hears fails why scope line from there side beside bytes state old middle new is_whole is_other heard over failed =
+    let after : heard.after ≡ stopped = is_end heard.after (sym (ends_with state heard.after (heard.follows).1) ∙ over) in
     let emits : PieceEmits r scope line from side bytes heard.events stopped = subst (λ (s : Side). PieceEmits r scope line from side bytes heard.events s) after heard.emits in
     fails_after hears fails why heard.events old middle new heard.heard failed (λ events prefix. record {
       first = bytes;
@@ -165,19 +163,19 @@ silent_piece {r = r} scope line FromTill bytes =
 silent_piece {r = r} scope line FromTerminal bytes =
     (stopped, stopped, record { own = on line (unread FromTerminal) ∷ []; others = []; emits = silent_emits r scope line FromTerminal bytes; leaves = leaves_silent r scope line FromTerminal; is_all = refl }, refl)
 
-pub unheard : {S : Type 0} {r : Reading} (hears : Hears S) (scope : Scope) (line : ℕ) (from : Direction) (bytes : List ℕ) (sides : Sides) (state : BothSides) (tally : Tally) (old new : S) → FollowBoth r state sides → state.rejected ≡ true
-    → hears old (on line (unread from)) new → tally.messages ≡ 0 → tally.bad ≡ 0 → HearsLine r hears scope line (piece from bytes) sides state tally old new
-unheard {r = r} hears scope line from bytes sides state tally old new follow rejected heard messages bad =
+unheard : {S : Type 0} {r : Reading} (hears : Hears S) (scope : Scope) (line : ℕ) (from : Direction) (bytes : List ℕ) (sides : Sides) (state : BothSides) (old new : S) → FollowBoth r state sides → state.rejected ≡ true
+    → hears old (on line (unread from)) new → HearsLine r hears scope line (piece from bytes) sides state old new
+unheard {r = r} hears scope line from bytes sides state old new follow rejected heard =
     let is = is_silent state sides follow rejected in record {
       events = on line (unread from) ∷ [];
       after = silent;
       emits = subst (λ (s : Sides). LineEmits r scope line (piece from bytes) s (on line (unread from) ∷ []) silent) (sym is) (silent_piece scope line from bytes);
       heard = hears_one hears (on line (unread from)) old new heard;
       follow = subst (λ (s : Sides). FollowBoth r state s) is follow;
-      counts = record { messages = messages; bad = bad };
+      few = omega arith;
     }
 
-pub unheard_fails : {S : Type 0} {r : Reading} (hears : Hears S) (fails : Fails S) (why : ListenerError) (scope : Scope) (line : ℕ) (from : Direction) (bytes : List ℕ) (sides : Sides) (state : BothSides) (old new : S) → FollowBoth r state sides → state.rejected ≡ true
+unheard_fails : {S : Type 0} {r : Reading} (hears : Hears S) (fails : Fails S) (why : ListenerError) (scope : Scope) (line : ℕ) (from : Direction) (bytes : List ℕ) (sides : Sides) (state : BothSides) (old new : S) → FollowBoth r state sides → state.rejected ≡ true
     → fails old (on line (unread from)) why new → FailsIn hears fails why (MeaningBegins r scope line (piece from bytes) sides) old new
 unheard_fails {r = r} hears fails why scope line from bytes sides state old new follow rejected failed =
     let is = is_silent state sides follow rejected in
@@ -185,11 +183,17 @@ unheard_fails {r = r} hears fails why scope line from bytes sides state old new 
     fails_next hears fails why [] (on line (unread from)) old old new refl
     (record { prefix = piece from bytes; after = silent; begins = (bytes, [], refl, sym (append-nil bytes)); emits = prefix_whole (on line (unread from) ∷ []) emits }) failed
 
+-- what saying that a piece is not read answers
+pub unheard_ends : {S : Type 0} {r : Reading} (hears : Hears S) (fails : Fails S) (scope : Scope) (line : ℕ) (from : Direction) (bytes : List ℕ) (sides : Sides) (state : BothSides) (old new : S) (answer : Result Unit ListenerError) → FollowBoth r state sides → state.rejected ≡ true
+    → MatchResult answer (λ _. hears old (on line (unread from)) new) (λ why. fails old (on line (unread from)) why new) → EmitsLine r hears fails scope line (piece from bytes) sides state old new answer
+unheard_ends hears fails scope line from bytes sides state old new (Ok done) follow rejected heard = unheard hears scope line from bytes sides state old new follow rejected heard
+unheard_ends hears fails scope line from bytes sides state old new (Err why) follow rejected failed = unheard_fails hears fails why scope line from bytes sides state old new follow rejected failed
+
 -- a piece of the till is heard
-pub till_heard : {S : Type 0} {r : Reading} (hears : Hears S) (scope : Scope) (line : ℕ) (from : Direction) (bytes : List ℕ) (sides : Sides) (start state : BothSides) (hearing : Hearing) (old new : S) → from ≡ FromTill
-    → HearsBeside r hears scope line from sides.till sides.terminal bytes state.till start.terminal hearing old new → state.terminal ≡ start.terminal → state.rejected ≡ hearing.stopped
-    → HearsLine r hears scope line (piece from bytes) sides state hearing.tally old new
-till_heard {r = r} hears scope line from bytes sides start state hearing old new is heard same over =
+pub till_heard : {S : Type 0} {r : Reading} (hears : Hears S) (scope : Scope) (line : ℕ) (from : Direction) (bytes : List ℕ) (sides : Sides) (start state : BothSides) (stops : Bool) (old new : S) → from ≡ FromTill
+    → HearsBeside r hears scope line from sides.till sides.terminal bytes state.till start.terminal stops old new → state.terminal ≡ start.terminal → state.rejected ≡ stops
+    → HearsLine r hears scope line (piece from bytes) sides state old new
+till_heard {r = r} hears scope line from bytes sides start state stops old new is heard same over =
     let trace_event = rw is at heard in rw is (record {
       events = trace_event.events;
       after = both_sides FromTill trace_event.after trace_event.beside_after;
@@ -197,26 +201,26 @@ till_heard {r = r} hears scope line from bytes sides start state hearing old new
       heard = trace_event.heard;
       follow = record {
         till = subst (λ (b : Bool). FollowsUntil r b state.till trace_event.after) (sym over) trace_event.follows;
-        terminal = subst (λ (b : Bool). FollowsUntil r b state.terminal trace_event.beside_after) (sym over) (subst (λ (s : SideReader). FollowsUntil r hearing.stopped s trace_event.beside_after) (sym same) trace_event.follows_beside);
+        terminal = subst (λ (b : Bool). FollowsUntil r b state.terminal trace_event.beside_after) (sym over) (subst (λ (s : SideReader). FollowsUntil r stops s trace_event.beside_after) (sym same) trace_event.follows_beside);
       };
-      counts = trace_event.counts;
+      few = omega (arith, trace_event.few);
     })
 
 -- and one of the terminal
-pub terminal_heard : {S : Type 0} {r : Reading} (hears : Hears S) (scope : Scope) (line : ℕ) (from : Direction) (bytes : List ℕ) (sides : Sides) (start state : BothSides) (hearing : Hearing) (old new : S) → from ≡ FromTerminal
-    → HearsBeside r hears scope line from sides.terminal sides.till bytes state.terminal start.till hearing old new → state.till ≡ start.till → state.rejected ≡ hearing.stopped
-    → HearsLine r hears scope line (piece from bytes) sides state hearing.tally old new
-terminal_heard {r = r} hears scope line from bytes sides start state hearing old new is heard same over =
+pub terminal_heard : {S : Type 0} {r : Reading} (hears : Hears S) (scope : Scope) (line : ℕ) (from : Direction) (bytes : List ℕ) (sides : Sides) (start state : BothSides) (stops : Bool) (old new : S) → from ≡ FromTerminal
+    → HearsBeside r hears scope line from sides.terminal sides.till bytes state.terminal start.till stops old new → state.till ≡ start.till → state.rejected ≡ stops
+    → HearsLine r hears scope line (piece from bytes) sides state old new
+terminal_heard {r = r} hears scope line from bytes sides start state stops old new is heard same over =
     let trace_event = rw is at heard in rw is (record {
       events = trace_event.events;
       after = both_sides FromTerminal trace_event.after trace_event.beside_after;
       emits = (trace_event.after, trace_event.beside_after, trace_event.emits, refl);
       heard = trace_event.heard;
       follow = record {
-        till = subst (λ (b : Bool). FollowsUntil r b state.till trace_event.beside_after) (sym over) (subst (λ (s : SideReader). FollowsUntil r hearing.stopped s trace_event.beside_after) (sym same) trace_event.follows_beside);
+        till = subst (λ (b : Bool). FollowsUntil r b state.till trace_event.beside_after) (sym over) (subst (λ (s : SideReader). FollowsUntil r stops s trace_event.beside_after) (sym same) trace_event.follows_beside);
         terminal = subst (λ (b : Bool). FollowsUntil r b state.terminal trace_event.after) (sym over) trace_event.follows;
       };
-      counts = trace_event.counts;
+      few = omega (arith, trace_event.few);
     })
 
 pub till_fails : {S : Type 0} {r : Reading} (hears : Hears S) (fails : Fails S) (why : ListenerError) (scope : Scope) (line : ℕ) (from : Direction) (bytes : List ℕ) (sides : Sides) (old new : S) → from ≡ FromTill
@@ -243,22 +247,22 @@ terminal_fails hears fails why scope line from bytes sides old new is failed =
 
 -- ---- the end of the line
 
-pub none_ends : {S : Type 0} {r : Reading} (hears : Hears S) (line : ℕ) (sides : Sides) (state : BothSides) (now : S) → FollowBoth r state sides → state.rejected ≡ true → HearsEnd hears (LineEnds r line sides) 0 now now
+pub none_ends : {S : Type 0} {r : Reading} (hears : Hears S) (line : ℕ) (sides : Sides) (state : BothSides) (now : S) → FollowBoth r state sides → state.rejected ≡ true → HearsEnd hears (LineEnds r line sides) 2 now now
 none_ends {r = r} hears line sides state now follow rejected =
     let is = is_silent state sides follow rejected in record {
       events = [];
       ends = subst (λ (s : Sides). LineEnds r line s []) (sym is) (record { till = []; terminal = []; till_ends = refl; terminal_ends = refl; is_all = refl });
       heard = refl;
-      counts = record { messages = refl; bad = refl };
+      few = omega arith;
     }
 
-pub both_end : {S : Type 0} {r : Reading} (hears : Hears S) (line : ℕ) (sides : Sides) (a b all : ℕ) (old middle new : S) → HearsEnd hears (SideEnds r line FromTill sides.till) a old middle → HearsEnd hears (SideEnds r line FromTerminal sides.terminal) b middle new
-    → all ≡ a + b → HearsEnd hears (LineEnds r line sides) all old new
-both_end hears line sides a b all old middle new till terminal is = record {
+both_end : {S : Type 0} {r : Reading} (hears : Hears S) (line : ℕ) (sides : Sides) (old middle new : S) → HearsEnd hears (SideEnds r line FromTill sides.till) 1 old middle → HearsEnd hears (SideEnds r line FromTerminal sides.terminal) 1 middle new
+    → HearsEnd hears (LineEnds r line sides) 2 old new
+both_end hears line sides old middle new till terminal = record {
   events = till.events ++ terminal.events;
   ends = record { till = till.events; terminal = terminal.events; till_ends = till.ends; terminal_ends = terminal.ends; is_all = refl };
   heard = hears_append hears till.events terminal.events old middle new till.heard terminal.heard;
-  counts = tallies_both (record { messages = 0; bad = a }) (record { messages = 0; bad = b }) (record { messages = 0; bad = all }) till.events terminal.events till.counts terminal.counts refl is;
+  few = omega (arith, till.few, terminal.few, messages_append till.events terminal.events, bad_append till.events terminal.events);
 }
 
 pub till_end_fails : {S : Type 0} {r : Reading} (hears : Hears S) (fails : Fails S) (why : ListenerError) (line : ℕ) (sides : Sides) (terminal : SideReader) (old new : S) → FailsIn hears fails why (PrefixOf (SideEnds r line FromTill sides.till)) old new
@@ -268,38 +272,40 @@ till_end_fails {r = r} hears fails why line sides terminal old new failed follow
     fails_as hears fails why old new failed (λ events so. prefix_before events so
     (λ all till. (ended.0, record { till = all; terminal = ended.0; till_ends = till; terminal_ends = ended.1; is_all = refl })))
 
-pub terminal_end_fails : {S : Type 0} {r : Reading} (hears : Hears S) (fails : Fails S) (why : ListenerError) (line : ℕ) (sides : Sides) (bad : ℕ) (old middle new : S) → HearsEnd hears (SideEnds r line FromTill sides.till) bad old middle
+terminal_end_fails : {S : Type 0} {r : Reading} (hears : Hears S) (fails : Fails S) (why : ListenerError) (line : ℕ) (sides : Sides) (old middle new : S) → HearsEnd hears (SideEnds r line FromTill sides.till) 1 old middle
     → FailsIn hears fails why (PrefixOf (SideEnds r line FromTerminal sides.terminal)) middle new → FailsIn hears fails why (PrefixOf (LineEnds r line sides)) old new
-terminal_end_fails hears fails why line sides bad old middle new till failed =
+terminal_end_fails hears fails why line sides old middle new till failed =
     fails_after hears fails why till.events old middle new till.heard failed (λ events so. prefix_after till.events events so
     (λ all terminal. record { till = till.events; terminal = all; till_ends = till.ends; terminal_ends = terminal; is_all = refl }))
 
+-- the till's side was emitted, and this comes of the terminal's
+pub terminal_ends : {S : Type 0} (r : Reading) (hears : Hears S) (fails : Fails S) (line : ℕ) (sides : Sides) (old middle new : S) (answer : Result Unit ListenerError) → HearsEnd hears (SideEnds r line FromTill sides.till) 1 old middle
+    → EmitsEnd hears fails (SideEnds r line FromTerminal sides.terminal) 1 middle new answer → EmitsEnd hears fails (LineEnds r line sides) 2 old new answer
+terminal_ends r hears fails line sides old middle new (Ok done) till terminal = both_end hears line sides old middle new till terminal
+terminal_ends r hears fails line sides old middle new (Err why) till failed = terminal_end_fails hears fails why line sides old middle new till failed
+
 -- ---- the other lines
 
-pub comments : {S : Type 0} {r : Reading} (hears : Hears S) (scope : Scope) (line : ℕ) (sides : Sides) (state : BothSides) (tally : Tally) (now : S) → FollowBoth r state sides → tally.messages ≡ 0 → tally.bad ≡ 0
-    → HearsLine r hears scope line comment sides state tally now now
-comments hears scope line sides state tally now follow messages bad = record {
+pub comments : {S : Type 0} {r : Reading} (hears : Hears S) (scope : Scope) (line : ℕ) (sides : Sides) (state : BothSides) (now : S) → FollowBoth r state sides → HearsLine r hears scope line comment sides state now now
+comments hears scope line sides state now follow = record {
   events = [];
   after = sides;
   emits = (refl, refl);
   heard = refl;
   follow = follow;
-  counts = record { messages = messages; bad = bad };
+  few = omega arith;
 }
 
-pub loses : {S : Type 0} {r : Reading} (hears : Hears S) (scope : Scope) (line : ℕ) (sides : Sides) (state : BothSides) (tally : Tally) (bad : ℕ) (old middle new : S) → HearsEnd hears (LineEnds r line sides) bad old middle → hears middle (on line trace_event.lost) new
-    → FollowBoth r state new_line → tally.messages ≡ 0 → tally.bad ≡ bad → HearsLine r hears scope line lost sides state tally old new
-loses hears scope line sides state tally bad old middle new ended heard fresh messages bads =
+pub loses : {S : Type 0} {r : Reading} (hears : Hears S) (scope : Scope) (line : ℕ) (sides : Sides) (state : BothSides) (old middle new : S) → HearsEnd hears (LineEnds r line sides) 2 old middle → hears middle (on line trace_event.lost) new
+    → FollowBoth r state new_line → HearsLine r hears scope line lost sides state old new
+loses hears scope line sides state old middle new ended heard fresh =
     let last = on line trace_event.lost ∷ [] in record {
       events = ended.events ++ last;
       after = new_line;
       emits = (ended.events, ended.ends, refl, refl);
       heard = hears_push hears ended.events (on line trace_event.lost) old middle new ended.heard heard;
       follow = fresh;
-      counts = record {
-        messages = omega (arith, messages, ended.counts.messages, messages_append ended.events last);
-        bad = omega (arith, bads, ended.counts.bad, bad_append ended.events last);
-      };
+      few = omega (arith, ended.few, messages_append ended.events last, bad_append ended.events last);
     }
 
 pub end_fails : {S : Type 0} {r : Reading} (hears : Hears S) (fails : Fails S) (why : ListenerError) (scope : Scope) (line : ℕ) (sides : Sides) (old new : S) → FailsIn hears fails why (PrefixOf (LineEnds r line sides)) old new
@@ -312,9 +318,9 @@ end_fails hears fails why scope line sides old new failed =
       emits = prefix_before events so (λ all ended. (on line trace_event.lost ∷ [], (all, ended, refl, refl)));
     })
 
-pub loss_fails : {S : Type 0} {r : Reading} (hears : Hears S) (fails : Fails S) (why : ListenerError) (scope : Scope) (line : ℕ) (sides : Sides) (bad : ℕ) (old middle new : S) → HearsEnd hears (LineEnds r line sides) bad old middle → fails middle (on line trace_event.lost) why new
+pub loss_fails : {S : Type 0} {r : Reading} (hears : Hears S) (fails : Fails S) (why : ListenerError) (scope : Scope) (line : ℕ) (sides : Sides) (old middle new : S) → HearsEnd hears (LineEnds r line sides) 2 old middle → fails middle (on line trace_event.lost) why new
     → FailsIn hears fails why (MeaningBegins r scope line lost sides) old new
-loss_fails hears fails why scope line sides bad old middle new ended failed =
+loss_fails hears fails why scope line sides old middle new ended failed =
     fails_next hears fails why ended.events (on line trace_event.lost) old middle new ended.heard (record {
       prefix = lost;
       after = new_line;

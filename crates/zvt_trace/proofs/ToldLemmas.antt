@@ -1,16 +1,14 @@
 -- What a whole piece emits.
 use Rattle.std.proofs.Common.{◌≡◌, ℕ, Bool, true, false, ◌||◌, subst, List, [], ◌∷◌, ◌++◌, length, arith, refl, sym, ◌∙◌, ap, append-nil}
+use Rattle.std.specs.Prelude.{MatchResult, Result, Ok, Err}
 use Rattle.std.proofs.lemmas.Bool.{false≢true, or_parts, true≢false}
 use Rattle.zvt_grammar.specs.Reading.{Reading}
 use Rattle.zvt_trace.specs.Emitting.{Passes, PieceEmits, PrefixOf, or_unread, told}
-use Rattle.zvt_trace.specs.Listening.{BytesBegin, Fails, FailsIn, Hears, HearsAll, HearsBytes, HearsPiece, PieceBegins, has_some, is_stopped}
-use Rattle.zvt_trace.specs.TraceEvent.{At, Tallies, bad_in, messages_in, on, unread}
+use Rattle.zvt_trace.specs.Listening.{BytesBegin, EmitsPiece, Fails, FailsIn, Hears, HearsAll, HearsBytes, HearsPiece, PieceBegins, has_some, is_stopped}
+use Rattle.zvt_trace.specs.TraceEvent.{At, on, unread}
 use Rattle.zvt_trace.specs.Trace.{Side, running, skipping, stopped}
 use Rattle.zvt_trace.specs.Written.{Follows, Knows, is_everything, is_nothing}
 use Rattle.zvt_trace.specs.declared.direction.Direction.{Direction}
-use Rattle.zvt_trace.specs.declared.feed.Heard.{Heard}
-use Rattle.zvt_trace.specs.declared.feed.Hearing.{Hearing}
-use Rattle.zvt_trace.specs.declared.fault.Tally.{Tally}
 use Rattle.zvt_trace.specs.declared.listener.ListenerError.{ListenerError}
 use Rattle.zvt_trace.specs.declared.listener.Scope.{Scope}
 use Rattle.zvt_trace.specs.declared.side.SideReader.{SideReader}
@@ -18,7 +16,7 @@ use Rattle.zvt_trace.specs.declared.side.Skipped.{Skipped}
 use Rattle.zvt_trace.proofs.EventLemmas.{fails_as, fails_next, hears_one, prefix_whole}
 
 -- nothing more is read, or some of what comes is
-ends_with : (reader : SideReader) (side : Side) → Knows reader side → is_everything reader.skipped ≡ is_stopped side
+pub ends_with : (reader : SideReader) (side : Side) → Knows reader side → is_everything reader.skipped ≡ is_stopped side
 ends_with reader (running bytes) knows = ap is_everything knows.0
 ends_with reader (skipping size left) knows = ap is_everything knows.0
 ends_with reader stopped knows = ap is_everything knows
@@ -56,17 +54,16 @@ bytes_fail hears fails why scope line from side bytes old new failed =
     })
 
 -- what the bytes emit, the piece does, where the side is read on or something is emitted
-pub hears_piece : {S : Type 0} {r : Reading} (hears : Hears S) (scope : Scope) (line : ℕ) (from : Direction) (side : Side) (bytes : List ℕ) (start reader : SideReader) (so_far : Heard) (hearing : Hearing) (old new : S) → Follows r start side
-    → HearsBytes r hears scope line from side bytes reader so_far old new → hearing.tally ≡ so_far.tally → hearing.stopped ≡ is_everything reader.skipped → (is_nothing start.skipped || so_far.any) ≡ true
-    → HearsPiece r hears scope line from side bytes reader hearing old new
-hears_piece hears scope line from side bytes start reader so_far hearing old new follows heard same over some = record {
+pub hears_piece : {S : Type 0} {r : Reading} (hears : Hears S) (scope : Scope) (line : ℕ) (from : Direction) (side : Side) (bytes : List ℕ) (start reader : SideReader) (any : Bool) (old new : S) → Follows r start side
+    → HearsBytes r hears scope line from side bytes reader any old new → (is_nothing start.skipped || any) ≡ true
+    → HearsPiece r hears scope line from side bytes reader old new
+hears_piece hears scope line from side bytes start reader any old new follows heard some = record {
   events = heard.events;
   after = heard.after;
-  emits = record { own = heard.events; passes = heard.passes; is_all = sym (told_some side heard.events (subst (λ (b : Bool). (is_nothing start.skipped || b) ≡ true) heard.any some) follows.1) };
+  emits = record { own = heard.events; passes = heard.passes; is_all = sym (told_some side heard.events (subst (λ (b : Bool). (is_nothing start.skipped || b) ≡ true) heard.some some) follows.1) };
   heard = heard.heard;
   follows = heard.follows;
-  counts = subst (λ (t : Tally). Tallies t heard.events) (sym same) heard.counts;
-  ends = over ∙ ends_with reader heard.after (heard.follows).1;
+  few = heard.few;
 }
   where
     some_told : (events : List At) → has_some events ≡ true → or_unread line from events ≡ events
@@ -79,10 +76,10 @@ hears_piece hears scope line from side bytes start reader so_far hearing old new
     told_some stopped events e knows = some_told events (subst (λ (s : Skipped). (is_nothing s || has_some events) ≡ true) knows e)
 
 -- else none of it was read
-unread_emits : {S : Type 0} {r : Reading} (hears : Hears S) (scope : Scope) (line : ℕ) (from : Direction) (side : Side) (bytes : List ℕ) (start reader : SideReader) (so_far : Heard) (old now : S) → Follows r start side
-    → (heard : HearsBytes r hears scope line from side bytes reader so_far old now) → (is_nothing start.skipped || so_far.any) ≡ false
+unread_emits : {S : Type 0} {r : Reading} (hears : Hears S) (scope : Scope) (line : ℕ) (from : Direction) (side : Side) (bytes : List ℕ) (start reader : SideReader) (any : Bool) (old now : S) → Follows r start side
+    → (heard : HearsBytes r hears scope line from side bytes reader any old now) → (is_nothing start.skipped || any) ≡ false
     → PieceEmits r scope line from side bytes (on line (unread from) ∷ []) heard.after × (now ≡ old) × (heard.events ≡ [])
-unread_emits {r = r} hears scope line from side bytes start reader so_far old now follows heard none = (
+unread_emits {r = r} hears scope line from side bytes start reader any old now follows heard none = (
   record {
     own = [];
     passes = subst (λ (es : List At). Passes r scope line from side bytes es heard.after) silent heard.passes;
@@ -92,26 +89,26 @@ unread_emits {r = r} hears scope line from side bytes start reader so_far old no
   silent,
 )
   where
-    quiet : (is_nothing start.skipped ≡ false) × (so_far.any ≡ false)
-    quiet = or_parts (is_nothing start.skipped) so_far.any none
+    quiet : (is_nothing start.skipped ≡ false) × (any ≡ false)
+    quiet = or_parts (is_nothing start.skipped) any none
 
     is_empty : (events : List At) → has_some events ≡ false → events ≡ []
     is_empty [] e = refl
     is_empty (event ∷ events) e = absurd (true≢false e)
 
     silent : heard.events ≡ []
-    silent = is_empty heard.events (sym heard.any ∙ quiet.1)
+    silent = is_empty heard.events (sym heard.some ∙ quiet.1)
 
     told_none : (side : Side) → is_nothing start.skipped ≡ false → Knows start side → told line from side [] ≡ on line (unread from) ∷ []
     told_none (running before) e knows = absurd (true≢false (sym (ap is_nothing knows.0) ∙ e))
     told_none (skipping size left) e knows = refl
     told_none stopped e knows = refl
 
-pub unread_piece : {S : Type 0} {r : Reading} (hears : Hears S) (scope : Scope) (line : ℕ) (from : Direction) (side : Side) (bytes : List ℕ) (start reader : SideReader) (so_far : Heard) (hearing : Hearing) (old now new : S) → Follows r start side
-    → HearsBytes r hears scope line from side bytes reader so_far old now → hearing.tally ≡ so_far.tally → hearing.stopped ≡ is_everything reader.skipped → (is_nothing start.skipped || so_far.any) ≡ false → hears now (on line (unread from)) new
-    → HearsPiece r hears scope line from side bytes reader hearing old new
-unread_piece {S = S} hears scope line from side bytes start reader so_far hearing old now new follows heard same over none last =
-    let unheard = unread_emits hears scope line from side bytes start reader so_far old now follows heard none in
+unread_piece : {S : Type 0} {r : Reading} (hears : Hears S) (scope : Scope) (line : ℕ) (from : Direction) (side : Side) (bytes : List ℕ) (start reader : SideReader) (any : Bool) (old now new : S) → Follows r start side
+    → HearsBytes r hears scope line from side bytes reader any old now → (is_nothing start.skipped || any) ≡ false → hears now (on line (unread from)) new
+    → HearsPiece r hears scope line from side bytes reader old new
+unread_piece {S = S} hears scope line from side bytes start reader any old now new follows heard none last =
+    let unheard = unread_emits hears scope line from side bytes start reader any old now follows heard none in
     let silent : heard.events ≡ [] = unheard.2 in
     record {
       events = on line (unread from) ∷ [];
@@ -119,17 +116,20 @@ unread_piece {S = S} hears scope line from side bytes start reader so_far hearin
       emits = unheard.0;
       heard = subst (λ (s : S). HearsAll hears s (on line (unread from) ∷ []) new) unheard.1 (hears_one hears (on line (unread from)) now new last);
       follows = heard.follows;
-      counts = subst (λ (t : Tally). Tallies t (on line (unread from) ∷ [])) (sym same) (record {
-        messages = subst (λ (es : List At). so_far.tally.messages ≡ messages_in es) silent heard.counts.messages;
-        bad = subst (λ (es : List At). so_far.tally.bad ≡ bad_in es) silent heard.counts.bad;
-      });
-      ends = over ∙ ends_with reader heard.after (heard.follows).1;
+      few = omega arith;
     }
 
-pub unread_fails : {S : Type 0} {r : Reading} (hears : Hears S) (fails : Fails S) (why : ListenerError) (scope : Scope) (line : ℕ) (from : Direction) (side : Side) (bytes : List ℕ) (start reader : SideReader) (so_far : Heard) (old now new : S)
-    → Follows r start side → HearsBytes r hears scope line from side bytes reader so_far old now → (is_nothing start.skipped || so_far.any) ≡ false → fails now (on line (unread from)) why new
+unread_fails : {S : Type 0} {r : Reading} (hears : Hears S) (fails : Fails S) (why : ListenerError) (scope : Scope) (line : ℕ) (from : Direction) (side : Side) (bytes : List ℕ) (start reader : SideReader) (any : Bool) (old now new : S)
+    → Follows r start side → HearsBytes r hears scope line from side bytes reader any old now → (is_nothing start.skipped || any) ≡ false → fails now (on line (unread from)) why new
     → FailsIn hears fails why (PieceBegins r scope line from side bytes) old new
-unread_fails hears fails why scope line from side bytes start reader so_far old now new follows heard none failed =
-    let unheard = unread_emits hears scope line from side bytes start reader so_far old now follows heard none in
+unread_fails hears fails why scope line from side bytes start reader any old now new follows heard none failed =
+    let unheard = unread_emits hears scope line from side bytes start reader any old now follows heard none in
     fails_next hears fails why [] (on line (unread from)) old now new unheard.1
     (record { first = bytes; more = []; after = heard.after; cut = sym (append-nil bytes); emits = prefix_whole (on line (unread from) ∷ []) unheard.0 }) failed
+
+-- what saying that it is not read answers
+pub unread_ends : {S : Type 0} {r : Reading} (hears : Hears S) (fails : Fails S) (scope : Scope) (line : ℕ) (from : Direction) (side : Side) (bytes : List ℕ) (start reader : SideReader) (any : Bool) (old now new : S) (answer : Result Unit ListenerError)
+    → Follows r start side → HearsBytes r hears scope line from side bytes reader any old now → (is_nothing start.skipped || any) ≡ false
+    → MatchResult answer (λ _. hears now (on line (unread from)) new) (λ why. fails now (on line (unread from)) why new) → EmitsPiece r hears fails scope line from side bytes reader old new answer
+unread_ends hears fails scope line from side bytes start reader any old now new (Ok done) follows heard none last = unread_piece hears scope line from side bytes start reader any old now new follows heard none last
+unread_ends hears fails scope line from side bytes start reader any old now new (Err why) follows heard none last = unread_fails hears fails why scope line from side bytes start reader any old now new follows heard none last

@@ -1,11 +1,12 @@
 -- What the lines of a trace emit, one after another.
-use Rattle.std.proofs.Common.{◌≡◌, inl, inr, ℕ, ◌+◌, List, [], ◌∷◌, ◌++◌, Result, Ok, Err, length, refl, sym, ◌∙◌, ap, subst, arith, append_assoc, append-nil, length-append}
+use Rattle.std.proofs.Common.{◌≡◌, take, inl, inr, ℕ, ◌+◌, ◌*◌, ◌≤◌, List, [], ◌∷◌, ◌++◌, Result, Ok, Err, length, refl, sym, ◌∙◌, ap, subst, arith, append_assoc, append-nil, length-append}
+use Rattle.std.proofs.lemmas.List.{length-take-le}
 use Rattle.std.specs.Str.Lines.{lines}
 use Rattle.zvt_grammar.specs.Lengths.{reading_of}
 use Rattle.zvt_grammar.specs.Reading.{Reading}
 use Rattle.zvt_grammar.specs.declared.lengths.Lengths.{Lengths}
-use Rattle.zvt_trace.specs.Listening.{AnswersFrom, AnswersWalk, Fails, FailsIn, FaultsFrom, FollowBoth, HasWalked, Hears, HearsAll, HearsEnd, WalksLine, WalksOn, fault_of, reading_by, scope_of}
-use Rattle.zvt_trace.specs.Meanings.{Meaning, meaning_of}
+use Rattle.zvt_trace.specs.Listening.{AnswersFrom, AnswersWalk, Fails, FailsIn, FaultsFrom, FollowBoth, HasWalked, Hears, HearsAll, HearsEnd, HearsLine, WalksFirst, WalksLine, WalksOn, counted_in, fault_of, reading_by, scope_of}
+use Rattle.zvt_trace.specs.Meanings.{Begins, Meaning, bytes_of, meaning_of, piece}
 use Rattle.zvt_trace.specs.TraceEvent.{At, Tallies}
 use Rattle.zvt_trace.specs.Emitting.{BrokenTrace, PrefixOf, WholeTrace, LineEnds, LineSoFar, LineEmits, LinesEmit, MeaningBegins, EventsSoFar}
 use Rattle.zvt_trace.specs.Trace.{Sides, new_line}
@@ -18,7 +19,9 @@ use Rattle.zvt_trace.specs.declared.fault.TraceFault.TheVariants.{Memory, Read, 
 use Rattle.zvt_trace.specs.declared.listener.ListenerError.{ListenerError}
 use Rattle.zvt_trace.specs.declared.listener.ListenerError.TheVariants as failure
 use Rattle.zvt_trace.specs.declared.listener.Scope.{Scope}
-use Rattle.zvt_trace.proofs.EventLemmas.{fails_as, fails_after, prefix_after, prefix_whole, hears_append, tallies_both}
+use Rattle.zvt_trace.specs.declared.direction.Direction.{Direction}
+use Rattle.zvt_trace.proofs.SpelledLemmas.{no_bytes_of}
+use Rattle.zvt_trace.proofs.EventLemmas.{fails_as, fails_after, prefix_after, prefix_whole, hears_append, messages_append, bad_append}
 
 LinesEmit-push : (r : Reading) (scope : Scope) (count : ℕ) (start middle after : Sides) (done : List (List ℕ)) (line : List ℕ) (all own : List At) (meaning : Meaning)
     → LinesEmit r scope count start done all middle → meaning_of line ≡ Ok meaning → LineEmits r scope (count + length done + 1) meaning middle own after → LinesEmit r scope count start (done ++ line ∷ []) (all ++ own) after
@@ -49,7 +52,7 @@ LinesEmit-push r scope count start middle after (first ∷ done) line all own me
 -- ---- the lines so far
 
 -- of all lines those before the rest were read, and after the earlier events what they emit was heard
-pub record Walked {S : Type 0} (r : Reading) (hears : Hears S) (scope : Scope) (goal : List (List ℕ)) (earlier : List At) (rest : List ℕ) (number : ℕ) (state : BothSides) (tally : Tally) (old now : S) : Type 0 where
+pub record Walked {S : Type 0} (r : Reading) (hears : Hears S) (scope : Scope) (goal : List (List ℕ)) (earlier : List At) (whole : ℕ) (rest : List ℕ) (number : ℕ) (state : BothSides) (old now : S) : Type 0 where
   pub done : List (List ℕ)
   pub all : List At
   pub sides : Sides
@@ -58,7 +61,7 @@ pub record Walked {S : Type 0} (r : Reading) (hears : Hears S) (scope : Scope) (
   pub count : number ≡ length done
   pub heard : HearsAll hears old all now
   pub follow : FollowBoth r state sides
-  pub counts : Tallies tally (earlier ++ all)
+  pub few : counted_in (earlier ++ all) + length rest ≤ 2 * number + whole
 
 pub none_read : {r : Reading} (scope : Scope) (progress : Progress) → FollowBoth r progress.sides new_line → progress.tally.messages ≡ 0 → progress.tally.bad ≡ 0 → progress.number ≡ 0 → HasWalked r scope [] [] progress
 none_read scope progress follow messages bad number = record {
@@ -67,9 +70,10 @@ none_read scope progress follow messages bad number = record {
   count = number;
   follow = follow;
   counts = record { messages = messages; bad = bad };
+  few = omega arith;
 }
 
-pub none_walked : {S : Type 0} {r : Reading} (hears : Hears S) (scope : Scope) (before : List (List ℕ)) (earlier : List At) (text : List ℕ) (progress : Progress) (old : S) → HasWalked r scope before earlier progress → Walked r hears scope (before ++ lines text) earlier text progress.number progress.sides progress.tally old old
+pub none_walked : {S : Type 0} {r : Reading} (hears : Hears S) (scope : Scope) (before : List (List ℕ)) (earlier : List At) (text : List ℕ) (progress : Progress) (old : S) → HasWalked r scope before earlier progress → Walked r hears scope (before ++ lines text) earlier (progress.size + length text) text progress.number progress.sides old old
 none_walked {r = r} hears scope before earlier text progress old has = record {
   done = before;
   all = [];
@@ -79,14 +83,14 @@ none_walked {r = r} hears scope before earlier text progress old has = record {
   count = has.count;
   heard = refl;
   follow = has.follow;
-  counts = subst (λ (es : List At). Tallies progress.tally es) (sym (append-nil earlier)) has.counts;
+  few = omega (arith, has.few, ap counted_in (append-nil earlier));
 }
 
-pub one_walked : {S : Type 0} {r : Reading} (hears : Hears S) (fails : Fails S) (scope : Scope) (goal : List (List ℕ)) (earlier : List At) (rest content after : List ℕ) (number : ℕ) (state next : BothSides) (tally counted grown : Tally) (old now new : S)
-    → (so : Walked r hears scope goal earlier rest number state tally old now) → lines rest ≡ content ∷ lines after → WalksLine r hears fails scope (number + 1) content so.sides next now new (Ok counted)
-    → grown.messages ≡ tally.messages + counted.messages → grown.bad ≡ tally.bad + counted.bad → Walked r hears scope goal earlier after (number + 1) next grown old new
-one_walked {r = r} hears fails scope goal earlier rest content after number state next tally counted grown old now new so first walks messages bad =
-    let line = walks.2 in
+pub one_walked : {S : Type 0} {r : Reading} (hears : Hears S) (fails : Fails S) (scope : Scope) (goal : List (List ℕ)) (earlier : List At) (whole : ℕ) (rest content after : List ℕ) (number : ℕ) (state next : BothSides) (old now new : S)
+    → (so : Walked r hears scope goal earlier whole rest number state old now) → lines rest ≡ content ∷ lines after → length content + length after ≤ length rest
+    → WalksLine r hears fails scope (number + 1) content so.sides next now new (Ok tt) → Walked r hears scope goal earlier whole after (number + 1) next old new
+one_walked {r = r} hears fails scope goal earlier whole rest content after number state next old now new so first fits walks =
+    let line = walks.3 in
     let here : number + 1 ≡ 0 + length so.done + 1 = omega (arith, so.count) in
     let joined = append_assoc earlier so.all line.events in
     let emits = LinesEmit-push r scope 0 new_line so.sides line.after so.done content (earlier ++ so.all) line.events walks.0 so.trace_event walks.1 (subst (λ (n : ℕ). LineEmits r scope n walks.0 so.sides line.events line.after) here line.emits) in record {
@@ -98,30 +102,33 @@ one_walked {r = r} hears fails scope goal earlier rest content after number stat
       count = omega (arith, so.count, length-append so.done (content ∷ []));
       heard = hears_append hears so.all line.events old now new so.heard line.heard;
       follow = line.follow;
-      counts = subst (λ (es : List At). Tallies grown es) joined (tallies_both tally counted grown (earlier ++ so.all) line.events so.counts line.counts messages bad);
+      few = omega (arith, so.few, line.few, walks.2, fits, ap counted_in joined, messages_append (earlier ++ so.all) line.events, bad_append (earlier ++ so.all) line.events);
     }
 
 -- no line is left
-pub all_walked : {S : Type 0} {r : Reading} (hears : Hears S) (fails : Fails S) (scope : Scope) (goal : List (List ℕ)) (earlier : List At) (rest : List ℕ) (progress : Progress) (number : ℕ) (state : BothSides) (tally : Tally) (old now : S) → length rest ≡ 0
-    → (so : Walked r hears scope goal earlier rest number state tally old now) → progress.number ≡ number → progress.sides ≡ state → progress.tally ≡ tally → WalksOn r hears fails scope goal earlier progress old now (Ok tt)
-all_walked hears fails scope goal earlier (byte ∷ rest) progress number state tally old now none so is_number is_state is_tally = absurd (omega (arith, none))
-all_walked {r = r} hears fails scope goal earlier [] progress number state tally old now none so is_number is_state is_tally =
-    let all : goal ≡ so.done = so.cut ∙ append-nil so.done in (
+pub all_walked : {S T : Type 0} {r : Reading} (hears : Hears S) (scope : Scope) (goal : List (List ℕ)) (earlier : List At) (whole : ℕ) (rest : List ℕ) (progress : Progress) (number : ℕ) (state : BothSides) (old now : S) (own : Hears T) (x y : T) → length rest ≡ 0
+    → (so : Walked r hears scope goal earlier whole rest number state old now) → progress.number ≡ number → progress.sides ≡ state → progress.size ≡ whole
+    → ((all : List At) → HearsAll hears old all now → counted_in (earlier ++ all) ≤ 2 * number + whole → Tallies progress.tally (earlier ++ all) × HearsAll own x all y) → (fails : Fails T) → WalksOn r own fails scope goal earlier progress x y (Ok tt)
+all_walked hears scope goal earlier whole (byte ∷ rest) progress number state old now own x y none so is_number is_state is_whole heard fails = absurd (omega (arith, none))
+all_walked {r = r} hears scope goal earlier whole [] progress number state old now own x y none so is_number is_state is_whole heard fails =
+    let all : goal ≡ so.done = so.cut ∙ append-nil so.done in
+    let last = heard so.all so.heard (omega (arith, so.few)) in (
       so.all,
       record {
         sides = so.sides;
         emit = subst (λ (ls : List (List ℕ)). LinesEmit r scope 0 new_line ls (earlier ++ so.all) so.sides) (sym all) so.trace_event;
         count = is_number ∙ so.count ∙ ap (λ (ls : List (List ℕ)). length ls) (sym all);
         follow = subst (λ (s : BothSides). FollowBoth r s so.sides) (sym is_state) so.follow;
-        counts = subst (λ (t : Tally). Tallies t (earlier ++ so.all)) (sym is_tally) so.counts;
+        counts = last.0;
+        few = omega (arith, so.few, is_number, is_whole);
       },
-      so.heard,
+      last.1,
     )
 
 -- so much of the next line
-next_reaches : {S : Type 0} {r : Reading} (hears : Hears S) (scope : Scope) (goal others : List (List ℕ)) (earlier : List At) (rest content after : List ℕ) (number : ℕ) (state : BothSides) (tally : Tally) (old now : S) (events : List At)
-    → (so : Walked r hears scope goal earlier rest number state tally old now) → goal ++ others ≡ so.done ++ content ∷ (lines after ++ others) → LineSoFar r scope (number + 1) content so.sides events → EventsSoFar r scope (goal ++ others) ((earlier ++ so.all) ++ events)
-next_reaches hears scope goal others earlier rest content after number state tally old now events so cut (inl none) =
+next_reaches : {S : Type 0} {r : Reading} (hears : Hears S) (scope : Scope) (goal others : List (List ℕ)) (earlier : List At) (whole : ℕ) (rest content after : List ℕ) (number : ℕ) (state : BothSides) (old now : S) (events : List At)
+    → (so : Walked r hears scope goal earlier whole rest number state old now) → goal ++ others ≡ so.done ++ content ∷ (lines after ++ others) → LineSoFar r scope (number + 1) content so.sides events → EventsSoFar r scope (goal ++ others) ((earlier ++ so.all) ++ events)
+next_reaches hears scope goal others earlier whole rest content after number state old now events so cut (inl none) =
     prefix_whole ((earlier ++ so.all) ++ events) (record {
       done = so.done;
       later = content ∷ (lines after ++ others);
@@ -133,7 +140,7 @@ next_reaches hears scope goal others earlier rest content after number state tal
       emits = inl none;
       is_all = refl;
     })
-next_reaches {r = r} hears scope goal others earlier rest content after number state tally old now events so cut (inr (meaning, means, so_far)) =
+next_reaches {r = r} hears scope goal others earlier whole rest content after number state old now events so cut (inr (meaning, means, so_far)) =
     prefix_after (earlier ++ so.all) events so_far.emits (λ all emits. record {
       done = so.done;
       later = content ∷ (lines after ++ others);
@@ -146,18 +153,18 @@ next_reaches {r = r} hears scope goal others earlier rest content after number s
       is_all = refl;
     })
 
-next_so_far : {S : Type 0} {r : Reading} (hears : Hears S) (fails : Fails S) (why : ListenerError) (scope : Scope) (goal others : List (List ℕ)) (earlier : List At) (rest content after : List ℕ) (number : ℕ) (state : BothSides) (tally : Tally) (old now new : S)
-    → (so : Walked r hears scope goal earlier rest number state tally old now) → goal ++ others ≡ so.done ++ content ∷ (lines after ++ others) → FailsIn hears fails why (LineSoFar r scope (number + 1) content so.sides) now new
+next_so_far : {S : Type 0} {r : Reading} (hears : Hears S) (fails : Fails S) (why : ListenerError) (scope : Scope) (goal others : List (List ℕ)) (earlier : List At) (whole : ℕ) (rest content after : List ℕ) (number : ℕ) (state : BothSides) (old now new : S)
+    → (so : Walked r hears scope goal earlier whole rest number state old now) → goal ++ others ≡ so.done ++ content ∷ (lines after ++ others) → FailsIn hears fails why (LineSoFar r scope (number + 1) content so.sides) now new
     → FailsIn hears fails why (λ events. EventsSoFar r scope (goal ++ others) (earlier ++ events)) old new
-next_so_far {r = r} hears fails why scope goal others earlier rest content after number state tally old now new so cut failed =
+next_so_far {r = r} hears fails why scope goal others earlier whole rest content after number state old now new so cut failed =
     fails_after hears fails why so.all old now new so.heard failed (λ events next.
-    subst (λ (es : List At). EventsSoFar r scope (goal ++ others) es) (append_assoc earlier so.all events) (next_reaches hears scope goal others earlier rest content after number state tally old now events so cut next))
+    subst (λ (es : List At). EventsSoFar r scope (goal ++ others) es) (append_assoc earlier so.all events) (next_reaches hears scope goal others earlier whole rest content after number state old now events so cut next))
 
 -- the next line could not be emitted, whatever others follow
-pub failed : {S : Type 0} {r : Reading} (hears : Hears S) (fails : Fails S) (scope : Scope) (goal : List (List ℕ)) (earlier : List At) (rest content after : List ℕ) (number : ℕ) (state next : BothSides) (tally : Tally) (fault : TraceFault) (old now new : S)
-    → (so : Walked r hears scope goal earlier rest number state tally old now) → lines rest ≡ content ∷ lines after → WalksLine r hears fails scope (number + 1) content so.sides next now new (Err fault)
+pub failed : {S : Type 0} {r : Reading} (hears : Hears S) (fails : Fails S) (scope : Scope) (goal : List (List ℕ)) (earlier : List At) (whole : ℕ) (rest content after : List ℕ) (number : ℕ) (state next : BothSides) (fault : TraceFault) (old now new : S)
+    → (so : Walked r hears scope goal earlier whole rest number state old now) → lines rest ≡ content ∷ lines after → WalksLine r hears fails scope (number + 1) content so.sides next now new (Err fault)
     → (others : List (List ℕ)) → FaultsFrom r hears fails scope (goal ++ others) earlier old new fault
-failed {S = S} {r = r} hears fails scope goal earlier rest content after number state next tally fault old now new so first wrong others = by fault wrong
+failed {S = S} {r = r} hears fails scope goal earlier whole rest content after number state next fault old now new so first wrong others = by fault wrong
   where
     cut : goal ++ others ≡ so.done ++ content ∷ (lines after ++ others)
     cut = ap (λ (ls : List (List ℕ)). ls ++ others) (so.cut ∙ ap (λ (ls : List (List ℕ)). so.done ++ ls) first) ∙ append_assoc so.done (content ∷ lines after) others
@@ -177,30 +184,31 @@ failed {S = S} {r = r} hears fails scope goal earlier rest content after number 
       },
       subst (λ (s : S). HearsAll hears old so.all s) (sym wrong.2) so.heard,
     )
-    by Memory fault = next_so_far hears fails failure.Memory scope goal others earlier rest content after number state tally old now new so cut fault
-    by Write fault = next_so_far hears fails failure.Write scope goal others earlier rest content after number state tally old now new so cut fault
+    by Memory fault = next_so_far hears fails failure.Memory scope goal others earlier whole rest content after number state old now new so cut fault
+    by Write fault = next_so_far hears fails failure.Write scope goal others earlier whole rest content after number state old now new so cut fault
     by TooLong never = absurd never
     by Read never = absurd never
 
 -- ---- the end
 
 -- what is cut off was heard
-pub closed : {S : Type 0} {r : Reading} (hears : Hears S) (fails : Fails S) (scope : Scope) (before : List (List ℕ)) (earlier : List At) (progress : Progress) (grown : Tally) (bad : ℕ) (now new : S)
-    → (has : HasWalked r scope before earlier progress) → HearsEnd hears (LineEnds r progress.number has.sides) bad now new
-    → grown.messages ≡ progress.tally.messages → grown.bad ≡ progress.tally.bad + bad → AnswersFrom r hears fails scope before earlier now new (Ok grown)
-closed {r = r} hears fails scope before earlier progress grown bad now new has last messages bads = (
-  last.events,
-  record {
-    body = earlier;
-    after = has.sides;
-    last = last.events;
-    emit = has.emit;
-    ends = subst (λ (n : ℕ). LineEnds r n has.sides last.events) has.count last.ends;
-    is_all = refl;
-  },
-  last.heard,
-  tallies_both progress.tally (record { messages = 0; bad = bad }) grown earlier last.events has.counts last.counts (omega (arith, messages)) bads,
-)
+pub closed : {S T : Type 0} {r : Reading} (hears : Hears S) (scope : Scope) (before : List (List ℕ)) (earlier : List At) (progress : Progress) (tally : Tally) (now new : S) (own : Hears T) (x y : T)
+    → (has : HasWalked r scope before earlier progress) → HearsEnd hears (LineEnds r progress.number has.sides) 2 now new
+    → ((all : List At) → HearsAll hears now all new → counted_in (earlier ++ all) ≤ 2 * progress.number + progress.size + 2 → Tallies tally (earlier ++ all) × HearsAll own x all y) → (fails : Fails T) → AnswersFrom r own fails scope before earlier x y (Ok tally)
+closed {r = r} hears scope before earlier progress tally now new own x y has last heard fails =
+    let all = heard last.events last.heard (omega (arith, has.few, last.few, messages_append earlier last.events, bad_append earlier last.events)) in (
+      last.events,
+      record {
+        body = earlier;
+        after = has.sides;
+        last = last.events;
+        emit = has.emit;
+        ends = subst (λ (n : ℕ). LineEnds r n has.sides last.events) has.count last.ends;
+        is_all = refl;
+      },
+      all.1,
+      all.0,
+    )
 
 -- so much of the end
 end_so_far : {S : Type 0} {r : Reading} (hears : Hears S) (fails : Fails S) (why : ListenerError) (scope : Scope) (before : List (List ℕ)) (earlier : List At) (progress : Progress) (now new : S)
@@ -295,3 +303,23 @@ pub line_failed : {S : Type 0} {r : Reading} (hears : Hears S) (fails : Fails S)
     → FailsIn hears fails why (MeaningBegins r scope number meaning sides) old new → WalksLine r hears fails scope number line sides state old new (Err (fault_of why))
 line_failed hears fails failure.Memory scope number line meaning sides state old new means fault = fails_as hears fails failure.Memory old new fault (λ events so. inr (meaning, means, so))
 line_failed hears fails failure.Write scope number line meaning sides state old new means fault = fails_as hears fails failure.Write old new fault (λ events so. inr (meaning, means, so))
+
+-- ---- the first line of a text
+
+-- a line in the plain form could be read, and not be emitted
+pub plain_failed : {S A : Type 0} (text_of : A → List ℕ) {r : Reading} (hears : Hears S) (fails : Fails S) (why : ListenerError) (scope : Scope) (number : ℕ) (rest after buffer : List ℕ) (count : ℕ) (from : Direction) (sides : Sides) (state : BothSides) (old new : S)
+    → Begins rest (λ line. (meaning_of line ≡ Ok (piece from (take count buffer))) × (count ≤ length line)) after
+    → FailsIn hears fails why (MeaningBegins r scope number (piece from (take count buffer ++ bytes_of [])) sides) old new → WalksFirst text_of r hears fails scope number rest sides state old new (Err (fault_of why))
+plain_failed text_of {r = r} hears fails why scope number rest after buffer count from sides state old new (line, first, says, size, shorter) wrong =
+    let bytes = take count buffer in
+    let all : bytes ++ bytes_of [] ≡ bytes = ap (λ (b : List ℕ). bytes ++ b) no_bytes_of ∙ append-nil bytes in
+    (after, (line, first, line_failed hears fails why scope number line (piece from bytes) sides state old new says.0 (subst (λ (b : List ℕ). FailsIn hears fails why (MeaningBegins r scope number (piece from b) sides) old new) all wrong), size, shorter))
+
+-- and it was emitted
+pub plain_walked : {S A : Type 0} (text_of : A → List ℕ) {r : Reading} (hears : Hears S) (fails : Fails S) (scope : Scope) (number : ℕ) (rest : List ℕ) (after : A) (buffer : List ℕ) (count : ℕ) (from : Direction) (sides : Sides) (state : BothSides) (old new : S) → count ≤ length buffer
+    → Begins rest (λ line. (meaning_of line ≡ Ok (piece from (take count buffer))) × (count ≤ length line)) (text_of after)
+    → HearsLine r hears scope number (piece from (take count buffer ++ bytes_of [])) sides state old new → WalksFirst text_of r hears fails scope number rest sides state old new (Ok after)
+plain_walked text_of {r = r} hears fails scope number rest after buffer count from sides state old new few (line, first, says, size, shorter) heard =
+    let bytes = take count buffer in
+    let all : bytes ++ bytes_of [] ≡ bytes = ap (λ (b : List ℕ). bytes ++ b) no_bytes_of ∙ append-nil bytes in
+    (line, first, (piece from bytes, says.0, omega (arith, says.1, length-take-le count buffer few), subst (λ (b : List ℕ). HearsLine r hears scope number (piece from b) sides state old new) all heard), size, shorter)

@@ -1,6 +1,9 @@
+pub mod ChunkLaw
 pub mod Chunks
+pub mod Decoding
 pub mod Lines
 pub mod Listening
+pub mod Pairs
 pub mod Meanings
 pub mod Spelled
 pub mod Emitting

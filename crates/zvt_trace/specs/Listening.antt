@@ -1,9 +1,9 @@
 -- The events that a listener hears, and what becomes of it.
-use Rattle.std.specs.Prelude.{◌≡◌, ◌≤◌, ◌*◌, ◌+◌, ◌^◌, ◌⊎◌, ◌||◌, ℕ, Bool, true, false, List, [], ◌∷◌, ◌++◌, length, Result, Ok, Err}
+use Rattle.std.specs.Prelude.{◌≡◌, ◌≤◌, ◌*◌, ◌+◌, ◌^◌, ◌⊎◌, ℕ, Bool, true, false, List, [], ◌∷◌, ◌++◌, length, Result, Ok, Err}
 use Rattle.zvt_grammar.specs.Reading.{Reading}
 use Rattle.zvt_grammar.specs.Lengths.{reading_of}
-use Rattle.zvt_trace.specs.Meanings.{Meaning, meaning_of}
-use Rattle.zvt_trace.specs.TraceEvent.{At, Tallies}
+use Rattle.zvt_trace.specs.Meanings.{Begins, Meaning, meaning_of, size_of}
+use Rattle.zvt_trace.specs.TraceEvent.{At, Tallies, bad_in, messages_in}
 use Rattle.zvt_trace.specs.Emitting.{BrokenTrace, PrefixOf, LineSoFar, LineEmits, LinesEmit, MeaningBegins, Passes, PieceEmits, EmitsBeside, EventsSoFar, WholeTrace}
 use Rattle.zvt_trace.specs.Resuming.{side_skipping, skipping_events}
 use Rattle.zvt_trace.specs.Trace.{Side, Sides, new_line, running, skipping, stopped}
@@ -17,14 +17,12 @@ use Rattle.zvt_trace.specs.declared.fault.TraceFault.TheVariants.{Memory, Read, 
 use Rattle.zvt_trace.specs.declared.listener.ListenerError.{ListenerError}
 use Rattle.zvt_trace.specs.declared.listener.ListenerError.TheVariants as failure
 use Rattle.zvt_trace.specs.declared.listener.Scope.{Scope}
-use Rattle.zvt_trace.specs.declared.feed.Heard.{Heard}
-use Rattle.zvt_trace.specs.declared.feed.Hearing.{Hearing}
 use Rattle.zvt_trace.specs.declared.feed.Next.{Next}
 use Rattle.zvt_trace.specs.declared.side.SideReader.{SideReader}
 
 -- ---- events, one after another
 
--- what a listener and its device become by one event, and what a failure leaves of them
+-- what a listener becomes by one event, and what a failure leaves of it
 abbrev pub Hears : Type 0 → Type 1
 Hears S = S → At → S → Type 0
 
@@ -57,30 +55,19 @@ abbrev pub has_some : List At → Bool
 has_some [] = false
 has_some (event ∷ events) = true
 
-abbrev pub one_message : Heard
-one_message = record { tally = record { messages = 1; bad = 0 }; any = true }
-
-abbrev pub one_refusal : Heard
-one_refusal = record { tally = record { messages = 0; bad = 1 }; any = true }
-
-abbrev pub uncounted : Bool → Heard
-uncounted any = record { tally = record { messages = 0; bad = 0 }; any = any }
-
--- the events of some bytes, and those of the bytes after them
-pub record IsBoth (first second both : Heard) : Type 0 where
-  pub messages : both.tally.messages ≡ first.tally.messages + second.tally.messages
-  pub bad : both.tally.bad ≡ first.tally.bad + second.tally.bad
-  pub any : both.any ≡ (first.any || second.any)
+-- how many of the events a tally counts
+abbrev pub counted_in : List At → ℕ
+counted_in events = messages_in events + bad_in events
 
 -- what these bytes emit was heard, and the side is read on after them
-pub record HearsBytes {S : Type 0} (r : Reading) (hears : Hears S) (scope : Scope) (line : ℕ) (from : Direction) (side : Side) (bytes : List ℕ) (reader : SideReader) (so_far : Heard) (old new : S) : Type 0 where
+pub record HearsBytes {S : Type 0} (r : Reading) (hears : Hears S) (scope : Scope) (line : ℕ) (from : Direction) (side : Side) (bytes : List ℕ) (reader : SideReader) (any : Bool) (old new : S) : Type 0 where
   pub events : List At
   pub after : Side
   pub passes : Passes r scope line from side bytes events after
   pub heard : HearsAll hears old events new
   pub follows : Follows r reader after
-  pub counts : Tallies so_far.tally events
-  pub any : so_far.any ≡ has_some events
+  pub few : counted_in events ≤ length bytes
+  pub some : any ≡ has_some events
 
 -- a prefix of what a prefix of the bytes emits
 pub record BytesBegin (r : Reading) (scope : Scope) (line : ℕ) (from : Direction) (side : Side) (bytes : List ℕ) (events : List At) : Type 0 where
@@ -90,18 +77,18 @@ pub record BytesBegin (r : Reading) (scope : Scope) (line : ℕ) (from : Directi
   pub cut : bytes ≡ first ++ more
   pub emits : PrefixOf (λ all. Passes r scope line from side first all after) events
 
-abbrev pub EmitsBytes : {S : Type 0} → Reading → Hears S → Fails S → Scope → ℕ → Direction → Side → List ℕ → SideReader → (old new : S) → Result Heard ListenerError → Type 0
-EmitsBytes r hears fails scope line from side bytes reader old new (Ok heard) = HearsBytes r hears scope line from side bytes reader heard old new
+abbrev pub EmitsBytes : {S : Type 0} → Reading → Hears S → Fails S → Scope → ℕ → Direction → Side → List ℕ → SideReader → (old new : S) → Result Bool ListenerError → Type 0
+EmitsBytes r hears fails scope line from side bytes reader old new (Ok any) = HearsBytes r hears scope line from side bytes reader any old new
 EmitsBytes r hears fails scope line from side bytes reader old new (Err why) = FailsIn hears fails why (BytesBegin r scope line from side bytes) old new
 
 -- what the first of these bytes emit was heard, and the side is read on with the rest
-pub record HearsFirst {S : Type 0} (r : Reading) (hears : Hears S) (scope : Scope) (line : ℕ) (from : Direction) (side : Side) (bytes rest : List ℕ) (reader : SideReader) (so_far : Heard) (old new : S) : Type 0 where
+pub record HearsFirst {S : Type 0} (r : Reading) (hears : Hears S) (scope : Scope) (line : ℕ) (from : Direction) (side : Side) (bytes rest : List ℕ) (reader : SideReader) (any : Bool) (old new : S) : Type 0 where
   pub first : List ℕ
   pub cut : bytes ≡ first ++ rest
-  pub heard : HearsBytes r hears scope line from side first reader so_far old new
+  pub heard : HearsBytes r hears scope line from side first reader any old new
 
 abbrev pub EmitsFirst : {S : Type 0} → Reading → Hears S → Fails S → Scope → ℕ → Direction → Side → List ℕ → SideReader → (old new : S) → Result Next ListenerError → Type 0
-EmitsFirst r hears fails scope line from side bytes reader old new (Ok next) = HearsFirst r hears scope line from side bytes next.rest.now reader next.heard old new
+EmitsFirst r hears fails scope line from side bytes reader old new (Ok next) = HearsFirst r hears scope line from side bytes next.rest.now reader next.any old new
 EmitsFirst r hears fails scope line from side bytes reader old new (Err why) = FailsIn hears fails why (BytesBegin r scope line from side bytes) old new
 
 -- So many bytes of a refused message are left. What comes of it was heard, and whether anything did.
@@ -115,14 +102,13 @@ abbrev pub StaysSilent : {S : Type 0} → Hears S → (reader next : SideReader)
 StaysSilent hears reader next old new result = (result ≡ Ok false) × (next ≡ reader) × (new ≡ old)
 
 -- what a piece emits was heard, and its side is read on after it
-pub record HearsPiece {S : Type 0} (r : Reading) (hears : Hears S) (scope : Scope) (line : ℕ) (from : Direction) (side : Side) (bytes : List ℕ) (reader : SideReader) (hearing : Hearing) (old new : S) : Type 0 where
+pub record HearsPiece {S : Type 0} (r : Reading) (hears : Hears S) (scope : Scope) (line : ℕ) (from : Direction) (side : Side) (bytes : List ℕ) (reader : SideReader) (old new : S) : Type 0 where
   pub events : List At
   pub after : Side
   pub emits : PieceEmits r scope line from side bytes events after
   pub heard : HearsAll hears old events new
   pub follows : Follows r reader after
-  pub counts : Tallies hearing.tally events
-  pub ends : hearing.stopped ≡ is_stopped after
+  pub few : counted_in events ≤ length bytes
 
 -- a prefix of what a prefix of the piece emits
 pub record PieceBegins (r : Reading) (scope : Scope) (line : ℕ) (from : Direction) (side : Side) (bytes : List ℕ) (events : List At) : Type 0 where
@@ -132,20 +118,20 @@ pub record PieceBegins (r : Reading) (scope : Scope) (line : ℕ) (from : Direct
   pub cut : bytes ≡ first ++ more
   pub emits : PrefixOf (λ all. PieceEmits r scope line from side first all after) events
 
-abbrev pub EmitsPiece : {S : Type 0} → Reading → Hears S → Fails S → Scope → ℕ → Direction → Side → List ℕ → SideReader → (old new : S) → Result Hearing ListenerError → Type 0
-EmitsPiece r hears fails scope line from side bytes reader old new (Ok hearing) = HearsPiece r hears scope line from side bytes reader hearing old new
+abbrev pub EmitsPiece : {S : Type 0} → Reading → Hears S → Fails S → Scope → ℕ → Direction → Side → List ℕ → SideReader → (old new : S) → Result Unit ListenerError → Type 0
+EmitsPiece r hears fails scope line from side bytes reader old new (Ok done) = HearsPiece r hears scope line from side bytes reader old new
 EmitsPiece r hears fails scope line from side bytes reader old new (Err why) = FailsIn hears fails why (PieceBegins r scope line from side bytes) old new
 
--- what is cut off was heard
-pub record HearsEnd {S : Type 0} (hears : Hears S) (Ends : List At → Type 0) (bad : ℕ) (old new : S) : Type 0 where
+-- what is cut off was heard, at most so many
+pub record HearsEnd {S : Type 0} (hears : Hears S) (Ends : List At → Type 0) (most : ℕ) (old new : S) : Type 0 where
   pub events : List At
   pub ends : Ends events
   pub heard : HearsAll hears old events new
-  pub counts : Tallies (record { messages = 0; bad = bad }) events
+  pub few : counted_in events ≤ most
 
-abbrev pub EmitsEnd : {S : Type 0} → Hears S → Fails S → (Ends : List At → Type 0) → (old new : S) → Result ℕ ListenerError → Type 0
-EmitsEnd hears fails Ends old new (Ok bad) = HearsEnd hears Ends bad old new
-EmitsEnd hears fails Ends old new (Err why) = FailsIn hears fails why (PrefixOf Ends) old new
+abbrev pub EmitsEnd : {S : Type 0} → Hears S → Fails S → (Ends : List At → Type 0) → (most : ℕ) → (old new : S) → Result Unit ListenerError → Type 0
+EmitsEnd hears fails Ends most old new (Ok done) = HearsEnd hears Ends most old new
+EmitsEnd hears fails Ends most old new (Err why) = FailsIn hears fails why (PrefixOf Ends) old new
 
 -- ---- both sides
 
@@ -163,15 +149,15 @@ pub record FollowBoth (r : Reading) (state : BothSides) (sides : Sides) : Type 0
   pub terminal : FollowsUntil r state.rejected state.terminal sides.terminal
 
 -- what a piece emits was heard, and what it leaves of the other side
-pub record HearsBeside {S : Type 0} (r : Reading) (hears : Hears S) (scope : Scope) (line : ℕ) (from : Direction) (side beside : Side) (bytes : List ℕ) (reader other : SideReader) (hearing : Hearing) (old new : S) : Type 0 where
+pub record HearsBeside {S : Type 0} (r : Reading) (hears : Hears S) (scope : Scope) (line : ℕ) (from : Direction) (side beside : Side) (bytes : List ℕ) (reader other : SideReader) (stops : Bool) (old new : S) : Type 0 where
   pub events : List At
   pub after : Side
   pub beside_after : Side
   pub emits : EmitsBeside r scope line from side beside bytes events after beside_after
   pub heard : HearsAll hears old events new
-  pub follows : FollowsUntil r hearing.stopped reader after
-  pub follows_beside : FollowsUntil r hearing.stopped other beside_after
-  pub counts : Tallies hearing.tally events
+  pub follows : FollowsUntil r stops reader after
+  pub follows_beside : FollowsUntil r stops other beside_after
+  pub few : counted_in events ≤ length bytes + 1
 
 -- a prefix of what a prefix of the piece emits, and of what it leaves of the other side
 pub record BesideBegins (r : Reading) (scope : Scope) (line : ℕ) (from : Direction) (side beside : Side) (bytes : List ℕ) (events : List At) : Type 0 where
@@ -182,23 +168,23 @@ pub record BesideBegins (r : Reading) (scope : Scope) (line : ℕ) (from : Direc
   pub cut : bytes ≡ first ++ more
   pub emits : PrefixOf (λ all. EmitsBeside r scope line from side beside first all after beside_after) events
 
-abbrev pub EmitsThere : {S : Type 0} → Reading → Hears S → Fails S → Scope → ℕ → Direction → (side beside : Side) → List ℕ → (reader other : SideReader) → (old new : S) → Result Hearing ListenerError → Type 0
-EmitsThere r hears fails scope line from side beside bytes reader other old new (Ok hearing) = HearsBeside r hears scope line from side beside bytes reader other hearing old new
+abbrev pub EmitsThere : {S : Type 0} → Reading → Hears S → Fails S → Scope → ℕ → Direction → (side beside : Side) → List ℕ → (reader other : SideReader) → (old new : S) → Result Bool ListenerError → Type 0
+EmitsThere r hears fails scope line from side beside bytes reader other old new (Ok stops) = HearsBeside r hears scope line from side beside bytes reader other stops old new
 EmitsThere r hears fails scope line from side beside bytes reader other old new (Err why) = FailsIn hears fails why (BesideBegins r scope line from side beside bytes) old new
 
 -- ---- one line of the trace
 
 -- what the line emits was heard, and the streams go on after it
-pub record HearsLine {S : Type 0} (r : Reading) (hears : Hears S) (scope : Scope) (number : ℕ) (meaning : Meaning) (sides : Sides) (state : BothSides) (tally : Tally) (old new : S) : Type 0 where
+pub record HearsLine {S : Type 0} (r : Reading) (hears : Hears S) (scope : Scope) (number : ℕ) (meaning : Meaning) (sides : Sides) (state : BothSides) (old new : S) : Type 0 where
   pub events : List At
   pub after : Sides
   pub emits : LineEmits r scope number meaning sides events after
   pub heard : HearsAll hears old events new
   pub follow : FollowBoth r state after
-  pub counts : Tallies tally events
+  pub few : counted_in events ≤ size_of meaning + 2
 
-abbrev pub EmitsLine : {S : Type 0} → Reading → Hears S → Fails S → Scope → ℕ → Meaning → Sides → BothSides → (old new : S) → Result Tally ListenerError → Type 0
-EmitsLine r hears fails scope number meaning sides state old new (Ok tally) = HearsLine r hears scope number meaning sides state tally old new
+abbrev pub EmitsLine : {S : Type 0} → Reading → Hears S → Fails S → Scope → ℕ → Meaning → Sides → BothSides → (old new : S) → Result Unit ListenerError → Type 0
+EmitsLine r hears fails scope number meaning sides state old new (Ok done) = HearsLine r hears scope number meaning sides state old new
 EmitsLine r hears fails scope number meaning sides state old new (Err why) = FailsIn hears fails why (MeaningBegins r scope number meaning sides) old new
 
 -- the fault of a walk that failed
@@ -207,14 +193,19 @@ fault_of failure.Memory = Memory
 fault_of failure.Write = Write
 
 -- What emitting the events of the line of that number answers.
-abbrev pub WalksLine : {S : Type 0} → Reading → Hears S → Fails S → Scope → ℕ → List ℕ → Sides → BothSides → (old new : S) → Result Tally TraceFault → Type 0
-WalksLine r hears fails scope number line sides state old new (Ok tally) =
-    (meaning : Meaning) × (meaning_of line ≡ Ok meaning) × HearsLine r hears scope number meaning sides state tally old new
+abbrev pub WalksLine : {S : Type 0} → Reading → Hears S → Fails S → Scope → ℕ → List ℕ → Sides → BothSides → (old new : S) → Result Unit TraceFault → Type 0
+WalksLine r hears fails scope number line sides state old new (Ok done) =
+    (meaning : Meaning) × (meaning_of line ≡ Ok meaning) × (size_of meaning ≤ length line) × HearsLine r hears scope number meaning sides state old new
 WalksLine r hears fails scope number line sides state old new (Err (Trace at_line what)) = (at_line ≡ number) × (meaning_of line ≡ Err what) × (new ≡ old)
 WalksLine r hears fails scope number line sides state old new (Err Memory) = FailsIn hears fails failure.Memory (LineSoFar r scope number line sides) old new
 WalksLine r hears fails scope number line sides state old new (Err Write) = FailsIn hears fails failure.Write (LineSoFar r scope number line sides) old new
 WalksLine r hears fails scope number line sides state old new (Err TooLong) = ⊥
 WalksLine r hears fails scope number line sides state old new (Err Read) = ⊥
+
+-- What emitting the events of the first line of a text answers, at the text after it.
+abbrev pub WalksFirst : {S A : Type 0} → (A → List ℕ) → Reading → Hears S → Fails S → Scope → ℕ → List ℕ → Sides → BothSides → (old new : S) → Result A TraceFault → Type 0
+WalksFirst text_of r hears fails scope number text sides state old new (Ok after) = Begins text (λ line. WalksLine r hears fails scope number line sides state old new (Ok tt)) (text_of after)
+WalksFirst text_of r hears fails scope number text sides state old new (Err fault) = (after : List ℕ) × Begins text (λ line. WalksLine r hears fails scope number line sides state old new (Err fault)) after
 
 -- ---- lines, one after another
 
@@ -228,12 +219,10 @@ reading_by progress = reading_of progress.options.lengths
 abbrev pub scope_of : Progress → Scope
 scope_of progress = progress.options.scope
 
--- the streams take lengths as the options say, and the counts are small
+-- the streams take lengths as the options say, and no line has less than a byte
 pub record IsSound (progress : Progress) : Type 0 where
   pub reading : TakeBy (reading_by progress) progress.sides
   pub lines : progress.number ≤ progress.size
-  pub messages : progress.tally.messages ≤ progress.size
-  pub bad : progress.tally.bad ≤ 2 * progress.number + progress.size
   pub size : progress.size ≤ most
 
 -- these lines were read, and they emit these events
@@ -243,6 +232,7 @@ pub record HasWalked (r : Reading) (scope : Scope) (lines : List (List ℕ)) (ev
   pub count : progress.number ≡ length lines
   pub follow : FollowBoth r progress.sides sides
   pub counts : Tallies progress.tally events
+  pub few : counted_in events ≤ 2 * progress.number + progress.size
 
 -- ---- the trace
 

@@ -44,15 +44,10 @@ impl Walker {
     ///
     /// A line is too long if it has more bytes than a trace in memory may have. After a fault, do not use the walker
     /// again.
-    pub fn feed<D, L: Listener<D>>(
-        &mut self,
-        listener: &mut L,
-        device: &mut D,
-        chunk: &[u8],
-    ) -> Result<(), TraceFault>
+    pub fn feed<L: Listener>(&mut self, listener: &mut L, chunk: &[u8]) -> Result<(), TraceFault>
         requires ready { IsReady self.old }
         requires few { length chunk.now ≤ limit }
-        ensures reads { (bytes : List ℕ) (earlier : List At) → HasRead (walker_reading self.old) (walker_scope self.old) bytes earlier self.old → AnswersFeed (walker_reading self.old) L.hears L.fails (walker_scope self.old) (bytes ++ chunk.now) earlier self.new (listener.old, device.old) (listener.new, device.new) result }
+        ensures reads { (bytes : List ℕ) (earlier : List At) → HasRead (walker_reading self.old) (walker_scope self.old) bytes earlier self.old → AnswersFeed (walker_reading self.old) L.hears L.fails (walker_scope self.old) (bytes ++ chunk.now) earlier self.new listener.old listener.new result }
         ensures ready { OnOk result (IsReady self.new) }
         ensures reading { walker_reading self.new ≡ walker_reading self.old }
         ensures scope { walker_scope self.new ≡ walker_scope self.old }
@@ -62,70 +57,55 @@ impl Walker {
             return Err(TraceFault::TooLong);
         }
         if self.begun.is_empty() {
-            return self.begin(listener, device, chunk);
+            return self.begin(listener, chunk);
         }
         match newline(chunk) {
             None => self.hold(chunk),
             Some(end) => {
                 let (line, rest) = chunk.split_at(end + 1);
-                self.complete(listener, device, line)?;
-                self.begin(listener, device, rest)
+                self.complete(listener, line)?;
+                self.begin(listener, rest)
             }
         }
     }
 
     /// Ends the trace: emits the events of a last line without a line feed, and of incomplete messages. Returns the
     /// tally.
-    pub fn finish<D, L: Listener<D>>(
-        self,
-        listener: &mut L,
-        device: &mut D,
-    ) -> Result<Tally, TraceFault>
+    pub fn finish<L: Listener>(self, listener: &mut L) -> Result<Tally, TraceFault>
         requires ready { IsReady self }
-        ensures { (bytes : List ℕ) (earlier : List At) → HasRead (walker_reading self) (walker_scope self) bytes earlier self → AnswersFrom (walker_reading self) L.hears L.fails (walker_scope self) (lines bytes) earlier (listener.old, device.old) (listener.new, device.new) result }
+        ensures { (bytes : List ℕ) (earlier : List At) → HasRead (walker_reading self) (walker_scope self) bytes earlier self → AnswersFrom (walker_reading self) L.hears L.fails (walker_scope self) (lines bytes) earlier listener.old listener.new result }
     {
         let Walker {
             mut progress,
             begun,
         } = self;
-        progress.read_lines(listener, device, begun.as_slice())?;
-        progress.finish(listener, device)
+        progress.read_lines(listener, begun.as_slice())?;
+        progress.finish(listener)
     }
 
     /// Emits what the line says that was begun, once its end has come.
-    fn complete<D, L: Listener<D>>(
-        &mut self,
-        listener: &mut L,
-        device: &mut D,
-        end: &[u8],
-    ) -> Result<(), TraceFault>
+    fn complete<L: Listener>(&mut self, listener: &mut L, end: &[u8]) -> Result<(), TraceFault>
         requires ready { IsReady self.old }
         requires fits { self.old.progress.size + (length self.old.begun.items + length end.now) ≤ most }
         requires line { IsEnd end.now }
-        ensures reads { (bytes rest : List ℕ) (earlier : List At) → ReadTo (walker_reading self.old) (walker_scope self.old) bytes (self.old.begun.items ++ (end.now ++ rest)) earlier self.old.progress → HasNoEnd self.old.begun.items → AnswersRead (walker_reading self.old) L.hears L.fails (walker_scope self.old) bytes rest earlier self.new.progress (listener.old, device.old) (listener.new, device.new) result }
+        ensures reads { (bytes rest : List ℕ) (earlier : List At) → ReadTo (walker_reading self.old) (walker_scope self.old) bytes (self.old.begun.items ++ (end.now ++ rest)) earlier self.old.progress → HasNoEnd self.old.begun.items → AnswersRead (walker_reading self.old) L.hears L.fails (walker_scope self.old) bytes rest earlier self.new.progress listener.old listener.new result }
         ensures empty { OnOk result (self.new.begun.items ≡ []) }
         ensures sound { OnOk result (IsSound self.new.progress) }
         ensures size { OnOk result (self.new.progress.size ≤ self.old.progress.size + (length self.old.begun.items + length end.now)) }
         ensures options { self.new.progress.options ≡ self.old.progress.options }
     {
         self.hold(end)?;
-        self.progress
-            .read_lines(listener, device, self.begun.as_slice())?;
+        self.progress.read_lines(listener, self.begun.as_slice())?;
         self.begun.clear();
         Ok(())
     }
 
     /// Emits what the lines say that end in this chunk, where no line has begun before it.
-    fn begin<D, L: Listener<D>>(
-        &mut self,
-        listener: &mut L,
-        device: &mut D,
-        chunk: &[u8],
-    ) -> Result<(), TraceFault>
+    fn begin<L: Listener>(&mut self, listener: &mut L, chunk: &[u8]) -> Result<(), TraceFault>
         requires sound { IsSound self.old.progress }
         requires fits { self.old.progress.size + length chunk.now ≤ most }
         requires none { self.old.begun.items ≡ [] }
-        ensures reads { (bytes : List ℕ) (earlier : List At) → ReadTo (walker_reading self.old) (walker_scope self.old) bytes chunk.now earlier self.old.progress → AnswersFeed (walker_reading self.old) L.hears L.fails (walker_scope self.old) bytes earlier self.new (listener.old, device.old) (listener.new, device.new) result }
+        ensures reads { (bytes : List ℕ) (earlier : List At) → ReadTo (walker_reading self.old) (walker_scope self.old) bytes chunk.now earlier self.old.progress → AnswersFeed (walker_reading self.old) L.hears L.fails (walker_scope self.old) bytes earlier self.new listener.old listener.new result }
         ensures ready { OnOk result (IsReady self.new) }
         ensures options { self.new.progress.options ≡ self.old.progress.options }
     {
@@ -133,7 +113,7 @@ impl Walker {
             None => self.hold(chunk),
             Some(last) => {
                 let (whole, rest) = chunk.split_at(last + 1);
-                self.progress.read_lines(listener, device, whole)?;
+                self.progress.read_lines(listener, whole)?;
                 self.hold(rest)
             }
         }

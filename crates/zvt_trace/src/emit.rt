@@ -30,9 +30,8 @@ pub(crate) struct WalkOptions {
 
 /// Emits the whole message that the stream holds.
 #[inline(always)]
-pub(crate) fn emit_message<D, L: Listener<D>>(
+pub(crate) fn emit_message<L: Listener>(
     listener: &mut L,
-    device: &mut D,
     options: &WalkOptions,
     line: u64,
     from: Direction,
@@ -41,8 +40,8 @@ pub(crate) fn emit_message<D, L: Listener<D>>(
     requires lent { (message : Message) × (stream.now.lent ≡ Some message) }
     requires reading { stream.now.reading ≡ reading_of options.now.lengths }
     ensures { (message : Message) → stream.now.lent ≡ Some message → MatchResult result
-        (λ _. L.hears (listener.old, device.old) (on line (trace_event.message from message)) (listener.new, device.new))
-        (λ failure. L.fails (listener.old, device.old) (on line (trace_event.message from message)) failure (listener.new, device.new)) }
+        (λ _. L.hears listener.old (on line (trace_event.message from message)) listener.new)
+        (λ failure. L.fails listener.old (on line (trace_event.message from message)) failure listener.new) }
 {
     let Some(bytes) = stream.lent_bytes() else {
         return Ok(());
@@ -54,15 +53,14 @@ pub(crate) fn emit_message<D, L: Listener<D>>(
         bytes,
         lengths: options.lengths,
     };
-    listener.hear(device, line, &trace_event)
+    listener.hear(line, &trace_event)
 }
 
 /// Emits that the message of a side is refused at this byte. `bytes` is the part of it that arrived last.
 #[cold]
 #[inline(never)]
-pub(crate) fn emit_refusal<D, L: Listener<D>>(
+pub(crate) fn emit_refusal<L: Listener>(
     listener: &mut L,
-    device: &mut D,
     line: u64,
     from: Direction,
     reader: &SideReader,
@@ -72,8 +70,8 @@ pub(crate) fn emit_refusal<D, L: Listener<D>>(
 ) -> Result<(), ListenerError>
     requires some { 0 < length bytes.now }
     ensures { (held : List ℕ) → IsOpening reader.now.opening held → suc place ≡ length (held ++ bytes.now) → MatchResult result
-        (λ _. L.hears (listener.old, device.old) (on line (trace_event.refused from (head_of (held ++ bytes.now)) (slice_index (held ++ bytes.now) place) place why)) (listener.new, device.new))
-        (λ failure. L.fails (listener.old, device.old) (on line (trace_event.refused from (head_of (held ++ bytes.now)) (slice_index (held ++ bytes.now) place) place why)) failure (listener.new, device.new)) }
+        (λ _. L.hears listener.old (on line (trace_event.refused from (head_of (held ++ bytes.now)) (slice_index (held ++ bytes.now) place) place why)) listener.new)
+        (λ failure. L.fails listener.old (on line (trace_event.refused from (head_of (held ++ bytes.now)) (slice_index (held ++ bytes.now) place) place why)) failure listener.new) }
 {
     let head = reader.opening.head().before(bytes);
     let refusal = Refusal {
@@ -82,31 +80,29 @@ pub(crate) fn emit_refusal<D, L: Listener<D>>(
         place,
         why,
     };
-    listener.hear(device, line, &TraceEvent::Refused { from, refusal })
+    listener.hear(line, &TraceEvent::Refused { from, refusal })
 }
 
 /// Emits that a piece is not read.
 #[cold]
 #[inline(never)]
-pub(crate) fn emit_unread<D, L: Listener<D>>(
+pub(crate) fn emit_unread<L: Listener>(
     listener: &mut L,
-    device: &mut D,
     line: u64,
     from: Direction,
 ) -> Result<(), ListenerError>
     ensures { MatchResult result
-        (λ _. L.hears (listener.old, device.old) (on line (trace_event.unread from)) (listener.new, device.new))
-        (λ failure. L.fails (listener.old, device.old) (on line (trace_event.unread from)) failure (listener.new, device.new)) }
+        (λ _. L.hears listener.old (on line (trace_event.unread from)) listener.new)
+        (λ failure. L.fails listener.old (on line (trace_event.unread from)) failure listener.new) }
 {
-    listener.hear(device, line, &TraceEvent::Unread { from })
+    listener.hear(line, &TraceEvent::Unread { from })
 }
 
 /// If no byte of a refused message is left, emits that reading resumes. Returns whether it does.
 #[cold]
 #[inline(never)]
-pub(crate) fn emit_resumed<D, L: Listener<D>>(
+pub(crate) fn emit_resumed<L: Listener>(
     listener: &mut L,
-    device: &mut D,
     options: &WalkOptions,
     line: u64,
     from: Direction,
@@ -114,15 +110,15 @@ pub(crate) fn emit_resumed<D, L: Listener<D>>(
 ) -> Result<bool, ListenerError>
     requires reading { reader.old.stream.reading ≡ reading_of options.now.lengths }
     ensures reading { OnOk result (ReadsBy (reading_of options.now.lengths) reader.new) }
-    ensures rest { (size left : ℕ) → SkipsTo reader.old size left → EmitsRest (reading_of options.now.lengths) L.hears L.fails line from size left reader.new (listener.old, device.old) (listener.new, device.new) result }
-    ensures none { is_everything reader.old.skipped ≡ true → StaysSilent L.hears reader.old reader.new (listener.old, device.old) (listener.new, device.new) result }
+    ensures rest { (size left : ℕ) → SkipsTo reader.old size left → EmitsRest (reading_of options.now.lengths) L.hears L.fails line from size left reader.new listener.old listener.new result }
+    ensures none { is_everything reader.old.skipped ≡ true → StaysSilent L.hears reader.old reader.new listener.old listener.new result }
 {
     match reader.skipped {
         Skipped::Rest { size, left } => {
             if left > 0 {
                 return Ok(false);
             }
-            listener.hear(device, line, &TraceEvent::Resumed { from, size })?;
+            listener.hear(line, &TraceEvent::Resumed { from, size })?;
             *reader = SideReader::new(options.alloc, options.lengths);
             Ok(true)
         }
@@ -130,25 +126,22 @@ pub(crate) fn emit_resumed<D, L: Listener<D>>(
     }
 }
 
-/// If this side holds an unfinished message, emits that it is cut off. Returns 1 in that case, otherwise 0.
+/// If this side holds an unfinished message, emits that it is cut off.
 #[cold]
 #[inline(never)]
-pub(crate) fn emit_truncation<D, L: Listener<D>>(
+pub(crate) fn emit_truncation<L: Listener>(
     listener: &mut L,
-    device: &mut D,
     line: u64,
     from: Direction,
     stream: &Stream,
-) -> Result<u64, ListenerError>
-    ensures emits { (r : Reading) (side : Side) → StreamFollows r stream.now side → EmitsEnd L.hears L.fails (SideEnds r line from side) (listener.old, device.old) (listener.new, device.new) result }
-    ensures one { IfOk result (λ bad. bad ≤ 1) }
+) -> Result<(), ListenerError>
+    ensures { (r : Reading) (side : Side) → StreamFollows r stream.now side → EmitsEnd L.hears L.fails (SideEnds r line from side) 1 listener.old listener.new result }
 {
     match stream.finish() {
-        Ok(()) => Ok(0),
+        Ok(()) => Ok(()),
         Err(Truncated { have }) => {
             let head = stream.head();
-            listener.hear(device, line, &TraceEvent::CutOff { from, head, have })?;
-            Ok(1)
+            listener.hear(line, &TraceEvent::CutOff { from, head, have })
         }
     }
 }

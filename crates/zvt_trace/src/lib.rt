@@ -1,28 +1,35 @@
 //! Traces of the line between a till and its terminal.
 //!
 //! [`read_trace`] reads one whole. [`walk`] emits to a [`Listener`] all that it says, line by line. A [`Walker`] is fed a
-//! trace chunk by chunk, as [`read_chunk`] brings it.
+//! trace chunk by chunk, as [`read_chunk`] brings it. A [`Line`] takes the bytes themselves, with no trace.
 #![tactic(auto)]
 
+mod both;
 mod chunks;
+mod decoder;
 mod direction;
 mod emit;
 mod event;
 mod fault;
 mod feed;
 mod input;
+mod laws;
 mod line;
 mod lines;
 mod listener;
 mod side;
 mod spelled;
+mod tally;
 mod walker;
 
+pub use both::Both;
 pub use chunks::Walker;
+pub use decoder::Line;
 pub use direction::Direction;
 pub use event::{Refusal, TraceEvent};
 pub use fault::{Tally, TraceFault, TraceLineError};
 pub use input::{read_chunk, read_trace};
+pub use laws::chunks_are_lines;
 pub use lines::next_line;
 pub use listener::{Listener, ListenerError, Scope};
 pub use spelled::spelled_bytes;

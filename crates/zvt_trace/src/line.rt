@@ -1,12 +1,11 @@
 //! One line of a trace.
-ghost use Rattle.std.specs.Prelude.{◌≡◌, ◌<◌, ◌≤◌, length, IfOk, IfSome, Ok, Err};
+ghost use Rattle.std.specs.Prelude.{◌≡◌, ◌≤◌, length, IfOk, IfSome, Ok, Err};
 ghost use Rattle.hex.specs.Hex.{decode_of};
-ghost use Rattle.zvt_trace.specs.Meanings.{Begins, GoesOn, IsPlain, IsSign, Reads, meant_by, piece_of, size_of, without_spaces};
+ghost use Rattle.zvt_trace.specs.Meanings.{GoesOn, IsPlain, IsSign, Reads, meant_by, piece_of, size_of, without_spaces};
 ghost use Rattle.zvt_trace.specs.declared.fault.TraceLineError.{TraceLineError};
 
 use crate::direction::Direction;
 use crate::fault::TraceLineError;
-use crate::lines::next_line;
 use crate::spelled;
 
 /// How many bytes of a piece are read at once.
@@ -28,16 +27,16 @@ pub(crate) enum TraceLine<'a, 't> {
 }
 
 /// A piece in the plain form: `count` bytes, and what follows its line.
-struct Plain<'t> {
-    from: Direction,
-    count: usize,
-    after: &'t [u8],
+pub(crate) struct Plain<'t> {
+    pub(crate) from: Direction,
+    pub(crate) count: usize,
+    pub(crate) after: &'t [u8],
 }
 
 /// Reads the first line if it has the plain form and its bytes fit into the buffer. The plain form is a sign, a space
 /// and pairs of digits, so reading the digits also finds the end of the line.
 #[inline(always)]
-fn plain_piece<'t>(buffer: &mut [u8], rest: &'t [u8]) -> Option<Plain<'t>>
+pub(crate) fn plain_piece<'t>(buffer: &mut [u8], rest: &'t [u8]) -> Option<Plain<'t>>
     ensures begins { IfSome result (IsPlain rest.now buffer.new) }
     ensures few { IfSome result (λ plain. plain.count ≤ length buffer.new) }
     ensures size { length buffer.new ≡ length buffer.old }
@@ -50,31 +49,6 @@ fn plain_piece<'t>(buffer: &mut [u8], rest: &'t [u8]) -> Option<Plain<'t>>
     match &text[2 * count..] {
         [b'\n', after @ ..] => Some(Plain { from, count, after }),
         _ => None,
-    }
-}
-
-/// Reads the first line and returns the text after it. Few lines lack the plain form.
-#[inline(always)]
-pub(crate) fn first_line<'a, 't>(
-    buffer: &'a mut [u8],
-    rest: &'t [u8],
-) -> (Result<TraceLine<'a, 't>, TraceLineError>, &'t [u8])
-    requires { 0 < length rest.now }
-    ensures { Begins rest.now (λ line. Reads line result.0) result.1.now }
-{
-    match plain_piece(buffer, rest) {
-        Some(Plain { from, count, after }) => {
-            let piece = TraceLine::Piece {
-                from,
-                bytes: &buffer[..count],
-                undecoded: &[],
-            };
-            (Ok(piece), after)
-        }
-        None => {
-            let (line, after) = next_line(rest);
-            (read_line(buffer, line), after)
-        }
     }
 }
 
@@ -92,7 +66,7 @@ fn direction(sign: u8) -> Option<Direction>
 
 /// Reads a line, which has lost its line feed. Of a piece, as many bytes are read as the buffer takes.
 #[inline(always)]
-fn read_line<'a, 't>(
+pub(crate) fn read_line<'a, 't>(
     buffer: &'a mut [u8],
     line: &'t [u8],
 ) -> Result<TraceLine<'a, 't>, TraceLineError>

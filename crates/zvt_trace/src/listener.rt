@@ -47,23 +47,30 @@ impl From<Failed> for ListenerError {
     }
 }
 
-/// Hears all events of a trace, one after another, and writes of them to a device.
-pub trait Listener<D> {
-    /// Hearing this, a listener with its device becomes that.
-    ghost hears: { (Self × D) → At → (Self × D) → Type 0 };
+/// Hears all events of a line, one after another. It owns what it writes to.
+pub trait Listener {
+    /// Hearing this, a listener becomes that.
+    ghost hears: { Self → At → Self → Type 0 };
 
-    /// What a failure leaves of a listener with its device that was to hear this.
-    ghost fails: { (Self × D) → At → ListenerError → (Self × D) → Type 0 };
+    /// What a failure leaves of a listener that was to hear this.
+    ghost fails: { Self → At → ListenerError → Self → Type 0 };
 
-    /// Hears the event of the line of that number.
-    fn hear(
-        &mut self,
-        device: &mut D,
-        line: u64,
-        trace_event: &TraceEvent<'_>,
-    ) -> Result<(), ListenerError>
+    /// Hears the event of that number, which in a trace is the number of its line.
+    fn hear(&mut self, number: u64, trace_event: &TraceEvent<'_>) -> Result<(), ListenerError>
         requires { HasItsBytes trace_event.now }
         ensures { MatchResult result
-            (λ _. hears (self.old, device.old) (on line (event_of trace_event.now)) (self.new, device.new))
-            (λ failure. fails (self.old, device.old) (on line (event_of trace_event.now)) failure (self.new, device.new)) };
+            (λ _. hears self.old (on number (event_of trace_event.now)) self.new)
+            (λ failure. fails self.old (on number (event_of trace_event.now)) failure self.new) };
+}
+
+/// A listener that is lent. It stays the same one.
+impl<L: Listener> Listener for &mut L {
+    ghost hears = { λ old event new. L.hears old.now event new.now × (new.ghost_name ≡ old.ghost_name) };
+
+    ghost fails = { λ old event failure new. L.fails old.now event failure new.now × (new.ghost_name ≡ old.ghost_name) };
+
+    #[inline(always)]
+    fn hear(&mut self, number: u64, trace_event: &TraceEvent<'_>) -> Result<(), ListenerError> {
+        Listener::hear(&mut **self, number, trace_event)
+    }
 }

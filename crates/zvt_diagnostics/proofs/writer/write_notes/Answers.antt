@@ -6,7 +6,7 @@ use Rattle.zvt_diagnostics.proofs.writer.write_notes.Goals as goal
 
 pub returns-clause-writes : goal.returns-clause-writes
 returns-clause-writes g c =
-    answered {S = Notes × Unit {0}} _ (λ s. s.0) c.args.scope (lines c.args.trace.now) c.walk-answer.result _ _ _ _ _ _ _ (record {
+    answered _ (λ s. s) c.args.scope (lines c.args.trace.now) c.walk-answer.result _ _ _ _ _ _ _ (record {
       scope = c.new-notes.ensures.scope;
       text = c.new-notes.ensures.text;
       trailing = c.new-notes.ensures.trailing;
@@ -18,7 +18,7 @@ returns-clause-writes g c =
 pub returns-in_err-write_all-clause-writes : goal.returns-in_err-write_all-clause-writes
 returns-in_err-write_all-clause-writes g c =
     let p = err_from_is_err_and c.from_residual-in_err-write_all.result c.from_residual-in_err-write_all.ensures.1 in
-    rw (p.1, p.2) (unwritten {S = Notes × Unit {0}} _ (λ s. s.0) c.args.scope (lines c.args.trace.now) c.walk-answer.result _ _ _ _ _ _ (record {
+    rw (p.1, p.2) (unwritten _ (λ s. s) c.args.scope (lines c.args.trace.now) c.walk-answer.result _ _ _ _ _ _ (record {
       scope = c.new-notes.ensures.scope;
       text = c.new-notes.ensures.text;
       trailing = c.new-notes.ensures.trailing;

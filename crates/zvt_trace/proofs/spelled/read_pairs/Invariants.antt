@@ -1,4 +1,4 @@
-use Rattle.std.proofs.Common.{◌≡◌, ◌≤◌, ◌-◌, ◌*◌, length}
+use Rattle.std.proofs.Common.{◌≡◌, ◌≤◌, ◌-◌, length}
 use Rattle.zvt_trace.specs.Meanings.{ReadsPairs}
 use Rattle.zvt_trace.proofs.spelled.read_pairs.Given as goal
 

@@ -10,7 +10,7 @@ pub returns-in_err-emit-clause-emits : goal.returns-in_err-emit-clause-emits
 returns-in_err-emit-clause-emits g c = λ content reads sides follow.
     let p = err_from_is_err_and c.from_residual.result c.from_residual.ensures.1 in
     let said : Reads content (Ok c.in-Ok.line) = subst (λ (read : Result TraceLine TraceLineError). Reads content read) c.in-Ok.is reads in
-    rw (p.1, p.2) (line_failed g.L.Listener.hears g.L.Listener.fails c.in_err-emit.field-0.0 c.args.options.scope c.args.number content _ sides c.emit.new.self _ _ said.0 (c.in_err-emit.ensures.emits sides follow))
+    rw (p.1, p.2) (line_failed g.L.Listener.hears g.L.Listener.fails c.in_err-emit.field-0.0 c.args.options.now.scope c.args.number content _ sides c.emit.new.self _ _ said.0 (c.in_err-emit.ensures.emits sides follow))
 
 pub emit-requires-clause-goes_on : goal.emit-requires-clause-goes_on
 emit-requires-clause-goes_on g c =

@@ -1,6 +1,6 @@
 use Rattle.std.proofs.Common.{◌∙◌, ap, ◌++◌, append-nil, refl}
 use Rattle.zvt_diagnostics.specs.Notes.{unread_of}
-use Rattle.zvt_diagnostics.proofs.notes.NotesListenerUnit.hear.Goals as goal
+use Rattle.zvt_diagnostics.proofs.notes.NotesListener.hear.Goals as goal
 
 pub returns-in_ok-put-in-Lost : goal.returns-in_ok-put-in-Lost
 returns-in_ok-put-in-Lost c = rw c.in-Lost.is (record {

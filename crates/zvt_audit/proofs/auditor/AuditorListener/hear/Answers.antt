@@ -1,7 +1,7 @@
 use Rattle.std.proofs.Common.{refl}
 use Rattle.zvt_trace.specs.TraceEvent as trace_event
 use Rattle.zvt_audit.proofs.BecomeLemmas.{becomes_same}
-use Rattle.zvt_audit.proofs.auditor.AuditorListenerUnit.hear.Goals as goal
+use Rattle.zvt_audit.proofs.auditor.AuditorListener.hear.Goals as goal
 
 pub returns-in-Unread : goal.returns-in-Unread
 returns-in-Unread c = rw c.in-Unread.is (becomes_same c.args.self.now c.args.line (trace_event.unread c.in-Unread.from) refl refl refl refl)

@@ -1,0 +1,20 @@
+-- What a printer writes, whose pages and device are lent.
+use Rattle.std.specs.Prelude.{◌≡◌, ℕ, List, Option}
+use Rattle.zvt_trace.specs.Listening.{Fails, Hears}
+use Rattle.zvt_show.specs.Written.{FailsEvent, Page, WritesEvent, page}
+use Rattle.zvt_show.specs.declared.pages.Printer.{Printer}
+
+-- what its device has, what is to be written there, and how many writes failed
+abbrev pub printed : {W : Type 0} → (W → Option (List ℕ)) → (W → ℕ) → Printer W → Page
+printed written failures printer = page printer.pages.now.style (written printer.writer.now) printer.pages.now.block (failures printer.writer.now)
+
+-- the same pages and the same device are lent to both
+abbrev pub IsSamePrinter : {W : Type 0} → (old new : Printer W) → Type 0
+IsSamePrinter old new = (new.pages.ghost_name ≡ old.pages.ghost_name) × (new.writer.ghost_name ≡ old.writer.ghost_name)
+
+-- the text of an event was written, or waits to be
+abbrev pub Prints : {W : Type 0} → (W → Option (List ℕ)) → (W → ℕ) → Hears (Printer W)
+Prints written failures old event new = WritesEvent event (printed written failures old) (printed written failures new) × IsSamePrinter old new
+
+abbrev pub FailsPrinting : {W : Type 0} → (W → Option (List ℕ)) → (W → ℕ) → Fails (Printer W)
+FailsPrinting written failures old event why new = FailsEvent why (printed written failures old) (printed written failures new) × IsSamePrinter old new
