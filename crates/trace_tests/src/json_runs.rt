@@ -61,9 +61,9 @@ fn each_step_is_a_json_line(rt: HostRuntime) -> Result<(), Fail> {
     Ok(())
 }
 
-/// The answers of a terminal to one order after another. It completes a registration. It approves a payment of 12.34 under
-/// trace number 17 without a receipt. It aborts a payment with a code without a meaning, declines one, and refuses one.
-/// It completes one without a status, and acknowledges the last.
+/// The answers of a terminal to one order after another. It completes a registration. It approves a payment of 12.34
+/// under trace number 17 without a receipt. It aborts a payment with a code without a meaning, declines one, and
+/// refuses one. It completes one without a status, and acknowledges the last.
 const ANSWERS: [&[u8]; 7] = [
     &[0x80, 0x00, 0x00, 0x06, 0x0F, 0x00],
     &[

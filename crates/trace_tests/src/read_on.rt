@@ -10,8 +10,8 @@ use zvt_io::Over;
 use zvt_show::{Style, render_trace};
 use zvt_trace::Scope;
 
-/// Three lines bring a refused message of 7 bytes, with the other side between them. Of one of 261 bytes the first 7 come
-/// before the connection is lost. Two of 6 bytes come in one line, each before a message.
+/// Three lines bring a refused message of 7 bytes, with the other side between them. Of one of 261 bytes the first 7
+/// come before the connection is lost. Two of 6 bytes come in one line, each before a message.
 const TRACE: &[u8] = b"< 06 0F 04 D0
 < 00
 > 80 00 00

@@ -1,7 +1,8 @@
-//! Three small uses of the library, to learn from: [`decode`] reads one message and prints a field of it, [`listen`] walks
-//! over a trace, and [`pay`] runs a till on a line of its own.
+//! Three small uses of the library, to learn from: [`decode`] reads one message and prints a field of it, [`listen`]
+//! walks over a trace, and [`pay`] runs a till on a line of its own.
 //!
-//! `uses` runs all three on bytes in memory. `uses HOST PORT` registers and pays 12.34 at the terminal that listens there.
+//! `uses` runs all three on bytes in memory. `uses HOST PORT` registers and pays 12.34 at the terminal that listens
+//! there.
 #![tactic(auto)]
 
 mod decode;

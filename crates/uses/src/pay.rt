@@ -10,7 +10,8 @@ use zvt_till::{Order, Outcome, RunFault, Till, run_order};
 /// What a terminal answers to a registration: an acknowledgement and the completion.
 const REGISTERED: [u8; 6] = [0x80, 0x00, 0x00, 0x06, 0x0F, 0x00];
 
-/// What a terminal answers to a payment of 12.34: an acknowledgement, an approval under the trace number 17, the completion.
+/// What a terminal answers to a payment of 12.34: an acknowledgement, an approval under the trace number 17, the
+/// completion.
 const APPROVED: [u8; 25] = [
     0x80, 0x00, 0x00, 0x04, 0x0F, 0x10, 0x27, 0x00, 0x04, 0x00, 0x00, 0x00, 0x00, 0x12, 0x34, 0x0B,
     0x00, 0x00, 0x17, 0x87, 0x00, 0x05, 0x06, 0x0F, 0x00,

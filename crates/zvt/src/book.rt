@@ -106,8 +106,8 @@ fn show_all(rt: &HostRuntime, paths: &[&str], form: Form, listing: &mut Listing)
     Ok(status.max(write_sum(rt, form, &listing.sum)?))
 }
 
-/// Writes what the book in this file has, and answers the exit status. The null device, as one of several, is a book without a
-/// record.
+/// Writes what the book in this file has, and answers the exit status. The null device, as one of several, is a book
+/// without a record.
 fn show_one(
     rt: &HostRuntime,
     input: Input<'_>,
@@ -154,8 +154,8 @@ pub fn records(rt: &HostRuntime, paths: &[&str]) -> io::Result<u8> {
     }
 }
 
-/// Writes the whole records of the book in this file as a trace, and answers the exit status. What is there of another record
-/// is reported.
+/// Writes the whole records of the book in this file as a trace, and answers the exit status. What is there of another
+/// record is reported.
 fn records_of(rt: &HostRuntime, path: &str) -> io::Result<u8> {
     let text = match read_book(rt, rt.alloc(), path).answer {
         Ok(text) => text,

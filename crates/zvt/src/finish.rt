@@ -7,8 +7,8 @@ use std::fmt::Display;
 use std::io;
 use zvt_tool::{AuditSummary, EndFault, TraceFault, statuses};
 
-/// The exit status of a command on a trace, which may check that no payment is unclear. A fault is reported, with the file
-/// if there is one. Text that was not written since its reader disconnected is no fault to report.
+/// The exit status of a command on a trace, which may check that no payment is unclear. A fault is reported, with the
+/// file if there is one. Text that was not written since its reader disconnected is no fault to report.
 pub fn finish_trace(
     rt: &HostRuntime,
     file: Option<&str>,
@@ -38,8 +38,8 @@ pub fn finish_plan(rt: &HostRuntime, words: &[&str], fault: EndFault) -> io::Res
     Ok(status)
 }
 
-/// The exit status of a run. A fault is reported. Text that was not written since its reader disconnected is no fault to
-/// report.
+/// The exit status of a run. A fault is reported. Text that was not written since its reader disconnected is no fault
+/// to report.
 pub fn finish_run(
     rt: &HostRuntime,
     broken_pipe: bool,

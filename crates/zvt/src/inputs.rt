@@ -166,7 +166,8 @@ fn work_on_one(rt: &HostRuntime, command: &TraceCommand, input: Input<'_>) -> io
     }
 }
 
-/// Runs the command on the trace of standard input. Where that is a keyboard, standard error reports that a trace is read.
+/// Runs the command on the trace of standard input. Where that is a keyboard, standard error reports that a trace is
+/// read.
 fn work_on_input(rt: &HostRuntime, command: &TraceCommand, input: Input<'_>) -> io::Result<Ended> {
     let reader = rt.reader();
     if reader.is_terminal() {
@@ -209,8 +210,8 @@ fn work_with<R: Source>(
     }
 }
 
-/// Runs the command on the trace as the reader brings it. Standard error counts what is bad in the trace, then reports the
-/// fault that ends the command.
+/// Runs the command on the trace as the reader brings it. Standard error counts what is bad in the trace, then reports
+/// the fault that ends the command.
 fn follow<R: Source>(
     rt: &HostRuntime,
     command: &TraceCommand,
@@ -231,8 +232,8 @@ fn follow<R: Source>(
 }
 
 /// Runs the command on the trace that the reader brings, and names the file in its messages, if there is one. Standard
-/// error reports what is bad in the trace, then the fault that ends the command. If there is no memory for such a report,
-/// the command ends as one that is out of memory.
+/// error reports what is bad in the trace, then the fault that ends the command. If there is no memory for such a
+/// report, the command ends as one that is out of memory.
 fn work_on_whole<R: Source>(
     rt: &HostRuntime,
     command: &TraceCommand,

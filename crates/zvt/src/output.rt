@@ -9,8 +9,8 @@ use zvt_text::Text;
 use zvt_tool::TraceFault;
 use zvt_tool::label::Label;
 
-/// A writer that remembers whether its reader disconnected, as the reader of a pipe may. With a label, each line that is
-/// written begins with it.
+/// A writer that remembers whether its reader disconnected, as the reader of a pipe may. With a label, each line that
+/// is written begins with it.
 #[derive(Drop)]
 pub struct Output<W> {
     inner: W,
@@ -46,7 +46,8 @@ impl<W: Drop> Output<W> {
     /// A writer whose lines begin with this label.
     pub fn labelled(alloc: Global, inner: W, label: Label) -> Output<W>
         ensures inner { result.inner ≡ inner }
-        ensures label { IfSome result.labelling (λ labelling. (labelling.label ≡ label) × (labelling.before ≡ 10)) × IsSome result.labelling }
+        ensures label { IfSome result.labelling (λ labelling. (labelling.label ≡ label) × (labelling.before ≡ 10))
+            × IsSome result.labelling }
         ensures connected { (result.broken_pipe ≡ false) × (result.out_of_memory ≡ false) }
     {
         let labelling = Labelling {

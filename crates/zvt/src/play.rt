@@ -253,8 +253,8 @@ fn play_line<'s>(
 
 /// Ends a connection between the steps that were played and those after, and answers what is left of these.
 ///
-/// Before a break what comes after an own line may be the answer to it, and is no difference. After the last line it is one,
-/// but for an acknowledgement.
+/// Before a break what comes after an own line may be the answer to it, and is no difference. After the last line it is
+/// one, but for an acknowledgement.
 fn end_line<'s>(
     rt: &HostRuntime,
     connection: &TcpStream,

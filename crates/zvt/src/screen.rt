@@ -20,8 +20,8 @@ const OUTPUT: Token = Token(0);
 /// An output whose reader may be slow or stop reading, as `less` and a stopped terminal do.
 ///
 /// A write passes on what the output takes without waiting, and holds the rest until the next write. If more than 4 MiB
-/// would be held, the text is dropped, and a line in the output says how much. A file never waits, so its text is written
-/// at once.
+/// would be held, the text is dropped, and a line in the output says how much. A file never waits, so its text is
+/// written at once.
 #[derive(Drop)]
 pub struct Screen<W> {
     alloc: Global,
@@ -114,7 +114,8 @@ impl<W: Write> Screen<W> {
         written
     }
 
-    /// Holds the rest of a text, or drops it if too much is held. `begun` says whether the text's first part was written.
+    /// Holds the rest of a text, or drops it if too much is held. `begun` says whether the text's first part was
+    /// written.
     fn hold(&mut self, rest: &[u8], begun: bool) {
         if rest.is_empty() {
             return;

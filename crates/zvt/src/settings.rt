@@ -87,8 +87,8 @@ fn currency(rt: &HostRuntime, default: Currency, word: Option<&str>) -> io::Resu
     Ok(currency)
 }
 
-/// The terminal's verdict on payments. It declines them with the code that the word names, and without a word it approves
-/// them. A wrong word is reported.
+/// The terminal's verdict on payments. It declines them with the code that the word names, and without a word it
+/// approves them. A wrong word is reported.
 pub fn verdict(rt: &HostRuntime, decline: Option<&str>) -> io::Result<Option<Verdict>>
     ensures { IfOk result (λ verdict. verdict ≡ verdict_named decline.entry) }
 {

@@ -104,7 +104,8 @@ pub fn tap(rt: &HostRuntime, options: &TapOptions<'_>) -> io::Result<u8> {
     }
 }
 
-/// Prints the text that is still held, now that no line waits for it. Answers the exit status: not 0 if text is missing.
+/// Prints the text that is still held, now that no line waits for it. Answers the exit status: not 0 if text is
+/// missing.
 fn shown_to_its_end<W: Write>(rt: &HostRuntime, screen: &mut Screen<W>) -> u8 {
     let finished = screen.finish();
     let lost = screen.lost();
@@ -113,7 +114,11 @@ fn shown_to_its_end<W: Write>(rt: &HostRuntime, screen: &mut Screen<W>) -> u8 {
             "zvt: {lost} bytes were not printed, because nobody read standard output"
         );
     }
-    if lost > 0 || finished.is_err() { DEVICE } else { DONE }
+    if lost > 0 || finished.is_err() {
+        DEVICE
+    } else {
+        DONE
+    }
 }
 
 /// Reports this, if it can be. A line goes on without anyone who reads the reports.
@@ -155,7 +160,14 @@ fn tap_all<W: Write + Drop>(
         let answer = match connect(rt, to.host, to.port, SILENCE_SECONDS) {
             Ok(terminal) => {
                 let had_failed = trace.failed;
-                let answer = tap_one(rt, &till, &terminal, lengths_by(options.loose), trace, screen);
+                let answer = tap_one(
+                    rt,
+                    &till,
+                    &terminal,
+                    lengths_by(options.loose),
+                    trace,
+                    screen,
+                );
                 if trace.failed && !had_failed {
                     let _ = trace_file::mend_after(rt, options.trace, trace.file, answer);
                 }

@@ -7,7 +7,8 @@ use zvt_tool::statuses::{DEVICE, TRACE};
 /// What the first line of a journal begins with.
 const JOURNAL: [u8; 15] = *b"# zvt journal 1";
 
-/// The most bytes that a line of a recorded chunk has before its line feed: the side, a space, and 1,024 bytes as digits.
+/// The most bytes that a line of a recorded chunk has before its line feed: the side, a space, and 1,024 bytes as
+/// digits.
 const MOST_OF_A_LINE: usize = 2 + 2 * 1024;
 
 /// What is reported of a file that is a book.

@@ -8,8 +8,8 @@ use zvt_apdu::{ApduView, Kind};
 use zvt_till::{Bookkeeping, Happening};
 use zvt_trace::{Direction, Listener, ListenerError, TraceEvent};
 
-/// Judges the events of a trace as happenings of a till. It notices who sends orders, which currencies the till names, and
-/// at which lines payments end.
+/// Judges the events of a trace as happenings of a till. It notices who sends orders, which currencies the till names,
+/// and at which lines payments end.
 #[derive(Drop)]
 pub(crate) struct Auditor {
     pub(crate) books: Bookkeeping,

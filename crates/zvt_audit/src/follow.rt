@@ -31,7 +31,9 @@ pub fn follow_audit<R: Source, W: Sink>(
     reader: &mut R,
     writer: &mut W,
 ) -> Result<AuditSummary, TraceFault>
-    ensures follows { (taken : List ℕ) × Consumes (R.remaining reader.old) (R.remaining reader.new) taken × AnswersFollowed (reading_of lengths) form taken (R.remaining reader.new) (W.written writer.old) (W.written writer.new) result }
+    ensures follows { (taken : List ℕ) × Consumes (R.remaining reader.old) (R.remaining reader.new) taken
+        × AnswersFollowed (reading_of lengths) form taken (R.remaining reader.new) (W.written writer.old)
+        (W.written writer.new) result }
     ensures read { result ≡ Err TraceFault.Read → R.failures reader.old < R.failures reader.new }
     ensures write { result ≡ Err TraceFault.Write → W.failures writer.old < W.failures writer.new }
 {
@@ -41,7 +43,8 @@ pub fn follow_audit<R: Source, W: Sink>(
 
 /// An audit that has heard all that the reader brings, as it comes.
 fn hear_all<R: Source>(alloc: Global, lengths: Lengths, reader: &mut R) -> Result<Audit, TraceFault>
-    ensures hears { (taken : List ℕ) × Consumes (R.remaining reader.old) (R.remaining reader.new) taken × AnswersHearing (reading_of lengths) taken (R.remaining reader.new) result }
+    ensures hears { (taken : List ℕ) × Consumes (R.remaining reader.old) (R.remaining reader.new) taken
+        × AnswersHearing (reading_of lengths) taken (R.remaining reader.new) result }
     ensures ready { IfOk result IsAuditing }
     ensures read { result ≡ Err TraceFault.Read → R.failures reader.old < R.failures reader.new }
 {
@@ -81,7 +84,8 @@ impl Audit {
     pub fn feed(&mut self, chunk: &[u8]) -> Result<(), TraceFault>
         requires ready { IsAuditing self.old }
         requires few { length chunk.now ≤ limit }
-        ensures hears { (r : Reading) (bytes : List ℕ) → HasAudited r bytes self.old → AnswersTurn r (bytes ++ chunk.now) self.new result }
+        ensures hears { (r : Reading) (bytes : List ℕ) → HasAudited r bytes self.old
+            → AnswersTurn r (bytes ++ chunk.now) self.new result }
         ensures ready { OnOk result (IsAuditing self.new) }
     {
         self.walker.feed(&mut self.auditor, chunk)
@@ -95,8 +99,10 @@ impl Audit {
         writer: &mut W,
     ) -> Result<AuditSummary, TraceFault>
         requires ready { IsAuditing self }
-        ensures writes { (r : Reading) (bytes : List ℕ) → HasAudited r bytes self → AnswersReadBy r form bytes (W.written writer.old) (W.written writer.new) result }
-        ensures write { result ≡ Err TraceFault.Write → (r : Reading) (bytes : List ℕ) → HasAudited r bytes self → W.failures writer.old < W.failures writer.new }
+        ensures writes { (r : Reading) (bytes : List ℕ) → HasAudited r bytes self → AnswersReadBy r form bytes
+            (W.written writer.old) (W.written writer.new) result }
+        ensures write { result ≡ Err TraceFault.Write → (r : Reading) (bytes : List ℕ) → HasAudited r bytes self
+            → W.failures writer.old < W.failures writer.new }
     {
         let Audit {
             mut auditor,

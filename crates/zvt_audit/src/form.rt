@@ -13,7 +13,8 @@ use zvt_text::Text;
 use zvt_till::Books;
 use zvt_trace::Tally;
 
-/// Writes the books of a trace in this form. The currency, and the lines at which payments ended, are in the JSON alone.
+/// Writes the books of a trace in this form. The currency, and the lines at which payments ended, are in the JSON
+/// alone.
 pub(crate) fn write(
     text: &mut Text,
     form: Form,
@@ -22,7 +23,8 @@ pub(crate) fn write(
     ends: &Ends,
     books: &Books,
 ) -> Result<(), AllocError>
-    ensures { OnOk result (text.new ≡ text.old ++ books_in form tally currency (lines_of ends.now) (books_value books.now)) }
+    ensures { OnOk result (text.new ≡ text.old ++ books_in form tally currency (lines_of ends.now)
+        (books_value books.now)) }
 {
     match form {
         Form::Text => booked::write(text, books),

@@ -5,7 +5,8 @@ ghost use Rattle.json.specs.Print.{escape};
 ghost use Rattle.zvt_text.specs.Writing.{Adds};
 ghost use Rattle.zvt_till.specs.Judging.{books_value, row_value};
 ghost use Rattle.zvt_audit.specs.Ends.{lines_of};
-ghost use Rattle.zvt_audit.specs.Json.{booked_text, books_json, currency_part, line_part, receipt_part, summary_text, unclear_text};
+ghost use Rattle.zvt_audit.specs.Json.{booked_text, books_json, currency_part, line_part, receipt_part, summary_text};
+ghost use Rattle.zvt_audit.specs.Json.{unclear_text};
 
 use crate::booked::total;
 use crate::ends::Ends;
@@ -23,7 +24,8 @@ pub(crate) fn write(
     ends: &Ends,
     books: &Books,
 ) -> Result<(), AllocError>
-    ensures { OnOk result (text.new ≡ text.old ++ books_json tally currency (lines_of ends.now) (books_value books.now)) }
+    ensures { OnOk result (text.new ≡ text.old ++ books_json tally currency (lines_of ends.now)
+        (books_value books.now)) }
 {
     for (at, row) in books.booked.iter().enumerate() {
         booked_row(text, row, ends.booked.get(at).copied())?;

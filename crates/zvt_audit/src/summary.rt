@@ -50,7 +50,8 @@ pub fn audit_trace<W: Sink>(
     writer: &mut W,
 ) -> Result<AuditSummary, TraceFault>
     requires { length trace.now ≤ limit }
-    ensures writes { AnswersReadBy (reading_of lengths) form trace.now (W.written writer.old) (W.written writer.new) result }
+    ensures writes { AnswersReadBy (reading_of lengths) form trace.now (W.written writer.old)
+        (W.written writer.new) result }
     ensures write { result ≡ Err TraceFault.Write → W.failures writer.old < W.failures writer.new }
 {
     let mut auditor = connected(alloc)?;
@@ -80,7 +81,9 @@ pub(crate) fn write_books<W: Sink>(
     tally: Tally,
     writer: &mut W,
 ) -> Result<AuditSummary, TraceFault>
-    ensures writes { (log : List Happening) → HasJudged log auditor.books → AnswersBooks form log tally (has_swapped auditor.orders) (agreed auditor.named) (lines_of auditor.ends) (W.written writer.old) (W.written writer.new) result }
+    ensures writes { (log : List Happening) → HasJudged log auditor.books → AnswersBooks form log tally
+        (has_swapped auditor.orders) (agreed auditor.named) (lines_of auditor.ends) (W.written writer.old)
+        (W.written writer.new) result }
     ensures write { result ≡ Err TraceFault.Write → W.failures writer.old < W.failures writer.new }
     ensures read { result ≡ Err TraceFault.Read → ⊥ }
 {

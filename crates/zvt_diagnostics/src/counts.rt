@@ -43,7 +43,8 @@ impl Counts {
 
     /// Says how many there are of each, where some stream was bad.
     pub(crate) fn put(&self, text: &mut Text) -> Result<(), AllocError>
-        ensures { OnOk result (text.new ≡ text.old ++ summary_text self.now.messages self.now.refused self.now.cut_off) }
+        ensures { OnOk result (text.new ≡ text.old ++ summary_text self.now.messages self.now.refused
+            self.now.cut_off) }
     {
         let Counts {
             messages,

@@ -1,7 +1,8 @@
 //! Why a line of a trace can't be read.
 ghost use Rattle.std.specs.Prelude.{◌≡◌, ◌<◌, ◌-◌, count_by, length, position, IfSome};
 ghost use Rattle.std.specs.Str.Lines.{lines};
-ghost use Rattle.zvt_diagnostics.specs.Hints.{hint_at, hint_of, hint_on, is_capture, is_marked, is_no_space, is_strange, is_unfinished, line_hint, piece_hint, reason_of};
+ghost use Rattle.zvt_diagnostics.specs.Hints.{hint_at, hint_of, hint_on, is_capture, is_marked, is_no_space};
+ghost use Rattle.zvt_diagnostics.specs.Hints.{is_strange, is_unfinished, line_hint, piece_hint, reason_of};
 
 use std::fmt;
 use zvt_trace::next_line;

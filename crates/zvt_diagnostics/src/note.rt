@@ -1,7 +1,8 @@
 //! The note of one thing that is bad.
 ghost use Rattle.std.specs.Prelude.{◌≡◌, ◌++◌, OnOk};
 ghost use Rattle.zvt_trace.specs.TraceEvent.{event_of};
-ghost use Rattle.zvt_diagnostics.specs.Notes.{begun_text, control_part, cut_off_note, head_name, line_text, place_text, reason_text, refused_note, event_note};
+ghost use Rattle.zvt_diagnostics.specs.Notes.{begun_text, control_part, cut_off_note, head_name, line_text, place_text};
+ghost use Rattle.zvt_diagnostics.specs.Notes.{reason_text, refused_note, event_note};
 
 use std::alloc::AllocError;
 use zvt_apdu::{Kind, kind_at};
@@ -34,7 +35,8 @@ fn put_refused(
     from: Direction,
     refusal: &Refusal,
 ) -> Result<(), AllocError>
-    ensures { OnOk result (text.new ≡ text.old ++ refused_note line from refusal.now.head refusal.now.byte refusal.now.place refusal.now.why) }
+    ensures { OnOk result (text.new ≡ text.old ++ refused_note line from refusal.now.head refusal.now.byte
+        refusal.now.place refusal.now.why) }
 {
     put_begun(text, line, from, refusal.head)?;
     put_place(text, refusal.place, refusal.byte)?;

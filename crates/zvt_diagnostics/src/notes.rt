@@ -38,7 +38,9 @@ impl Notes {
 
     /// Says what was not read up to the end of the trace, and how much there was.
     pub(crate) fn close(&mut self) -> Result<(), AllocError>
-        ensures { (events : List At) → CountsAfter self.old.scope self.old.trailing events → OnOk result (self.new.text ≡ self.old.text ++ unread_of self.old.scope events ++ summary_text self.old.counts.messages self.old.counts.refused self.old.counts.cut_off) }
+        ensures { (events : List At) → CountsAfter self.old.scope self.old.trailing events
+            → OnOk result (self.new.text ≡ self.old.text ++ unread_of self.old.scope events ++ summary_text
+            self.old.counts.messages self.old.counts.refused self.old.counts.cut_off) }
     {
         self.trailing.put(&mut self.text, self.scope)?;
         self.counts.put(&mut self.text)

@@ -96,7 +96,8 @@ impl SkippedLines {
 
     /// A piece in that line was not read.
     pub(crate) fn add(&mut self, scope: Scope, line: u64, from: Direction)
-        ensures { (events : List At) → CountsAfter scope self.old events → CountsAfter scope self.new (events ++ on line (trace_event.unread from) ∷ []) }
+        ensures { (events : List At) → CountsAfter scope self.old events → CountsAfter scope self.new
+            (events ++ on line (trace_event.unread from) ∷ []) }
     {
         match counted_side(scope, from) {
             Direction::FromTill => self.till.add(line),
@@ -106,7 +107,8 @@ impl SkippedLines {
 
     /// Says what was not read, of the till before the terminal.
     pub(crate) fn put(&self, text: &mut Text, scope: Scope) -> Result<(), AllocError>
-        ensures { (events : List At) → CountsAfter scope self.now events → OnOk result (text.new ≡ text.old ++ unread_of scope events) }
+        ensures { (events : List At) → CountsAfter scope self.now events
+            → OnOk result (text.new ≡ text.old ++ unread_of scope events) }
     {
         self.till.put(text, scope, Direction::FromTill)?;
         self.terminal.put(text, scope, Direction::FromTerminal)

@@ -13,8 +13,8 @@ use zvt_text::Text;
 use zvt_trace::{ListenerError, Scope, Tally, TraceFault, walk};
 
 /// Writes a line for each stream that was refused or cut off. It has the line of the trace, the sender, the name of the
-/// incomplete message, and the place in it. Of a refusal it has the fatal byte and the reason. It has no other byte of the
-/// message, since a card number may be there.
+/// incomplete message, and the place in it. Of a refusal it has the fatal byte and the reason. It has no other byte of
+/// the message, since a card number may be there.
 ///
 /// Another line says how many lines were not read after them, up to the next lost connection or to the end. The last
 /// line has the numbers of messages and bad streams. Writes nothing if no stream is bad.
@@ -29,7 +29,8 @@ pub fn write_notes<W: Sink>(
     device: &mut W,
 ) -> Result<(), ListenerError>
     requires { length trace.now ≤ limit }
-    ensures writes { AnswersNotes (reading_of lengths) scope (lines trace.now) (W.written device.old) (W.written device.new) result }
+    ensures writes { AnswersNotes (reading_of lengths) scope (lines trace.now) (W.written device.old)
+        (W.written device.new) result }
     ensures write { result ≡ Err ListenerError.Write → W.failures device.old < W.failures device.new }
 {
     let mut notes = Notes::new(alloc, scope);

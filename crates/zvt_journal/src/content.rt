@@ -1,7 +1,8 @@
 //! The possible contents of a journal's file, and the records that it stands for.
 ghost use Rattle.std.specs.Prelude.{◌≡◌, ◌≤◌, ◌↔◌, length, drop, IfOk, IfErr, IsTrue, true};
 ghost use Rattle.zvt_journal.specs.Text.{whole};
-ghost use Rattle.zvt_journal.specs.Files.{IsNamed, IsBegun, begins_record, is_begun, is_opening_part, is_part, may_stand, after_gate, lines_ended, records_from};
+ghost use Rattle.zvt_journal.specs.Files.{IsNamed, IsBegun, begins_record, is_begun, is_opening_part, is_part};
+ghost use Rattle.zvt_journal.specs.Files.{may_stand, after_gate, lines_ended, records_from};
 ghost use Rattle.zvt_journal.specs.Opening.{IsAccepted, IsRefusedFor};
 
 use crate::JournalFileError;

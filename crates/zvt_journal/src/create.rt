@@ -42,7 +42,8 @@ pub struct Opened {
 pub fn open_file(alloc: Global, path: &[u8]) -> Noted<Result<Opened, JournalFileError>>
     ensures text { IfOk result.answer (λ opened. opened.text.items ≡ recovered (file_seen opened.device)) }
     ensures whole { IfOk result.answer (λ opened. recovered opened.text.items ≡ opened.text.items) }
-    ensures settled { IfOk result.answer (λ opened. IsSettled (file_seen opened.device) (file_may_leave opened.device) (length opened.text.items)) }
+    ensures settled { IfOk result.answer (λ opened. IsSettled (file_seen opened.device) (file_may_leave opened.device)
+        (length opened.text.items)) }
     // The file was locked, then made durable and read, and then looked at again; what was cut was kept before that, and
     // the name was made durable. An error comes only with its cause.
     ensures calls { MatchResult result.answer
@@ -58,7 +59,8 @@ pub fn open_file(alloc: Global, path: &[u8]) -> Noted<Result<Opened, JournalFile
 fn opened_by(calls: &mut GhostCalls, alloc: Global, path: &[u8]) -> Result<Opened, JournalFileError>
     requires { calls.old.made ≡ [] }
     ensures text { IfOk result (λ opened. opened.text.items ≡ recovered (file_seen opened.device)) }
-    ensures settled { IfOk result (λ opened. IsSettled (file_seen opened.device) (file_may_leave opened.device) (length opened.text.items)) }
+    ensures settled { IfOk result (λ opened. IsSettled (file_seen opened.device) (file_may_leave opened.device)
+        (length opened.text.items)) }
     ensures calls { MatchResult result
         (λ opened. WasOpened path.now calls.new.made opened.text.items opened.cut opened.created)
         (λ error. WhyRefused error calls.new.made) }

@@ -13,7 +13,8 @@ pub enum DeviceError {
     /// A call on the file failed. The result of a further read is unknown, so another process has to open the file
     /// anew.
     Failed,
-    /// The file has 2^60 bytes or more, or the record more than [`MAX_RECORD_LEN`](crate::MAX_RECORD_LEN). Nothing was written.
+    /// The file has 2^60 bytes or more, or the record more than [`MAX_RECORD_LEN`](crate::MAX_RECORD_LEN). Nothing was
+    /// written.
     Full,
 }
 
@@ -85,7 +86,8 @@ pub trait Device {
         requires { at ≤ length (seen self.old) }
         ensures written { OnOk result (Over at bytes.now (seen self.old) (seen self.new)) }
         ensures crash { Follows (Torn at bytes.now) (may_leave self.old) (may_leave self.new) }
-        ensures time { Elapses (moment self.old) (moment self.new) (left_since self.old) (left_since self.new) (may_leave self.new) }
+        ensures time { Elapses (moment self.old) (moment self.new) (left_since self.old) (left_since self.new)
+            (may_leave self.new) }
         ensures cause { HasCause (faults self.old) (faults self.new) result };
 
     /// Writes one byte over another. Until the next `sync` a crash may leave the one or the other.
@@ -93,7 +95,8 @@ pub trait Device {
         requires { at < length (seen self.old) }
         ensures written { OnOk result (Over at (byte ∷ []) (seen self.old) (seen self.new)) }
         ensures crash { Follows (Swapped at byte) (may_leave self.old) (may_leave self.new) }
-        ensures time { Elapses (moment self.old) (moment self.new) (left_since self.old) (left_since self.new) (may_leave self.new) }
+        ensures time { Elapses (moment self.old) (moment self.new) (left_since self.old) (left_since self.new)
+            (may_leave self.new) }
         ensures cause { HasCause (faults self.old) (faults self.new) result };
 
     /// Cuts the file to its first `len` bytes.
@@ -101,7 +104,8 @@ pub trait Device {
         requires { len ≤ length (seen self.old) }
         ensures cut { OnOk result (seen self.new ≡ take len (seen self.old)) }
         ensures crash { Follows (Cut len) (may_leave self.old) (may_leave self.new) }
-        ensures time { Elapses (moment self.old) (moment self.new) (left_since self.old) (left_since self.new) (may_leave self.new) }
+        ensures time { Elapses (moment self.old) (moment self.new) (left_since self.old) (left_since self.new)
+            (may_leave self.new) }
         ensures cause { HasCause (faults self.old) (faults self.new) result };
 
     /// Makes all that was written durable: a crash then leaves what a read returns.
@@ -109,12 +113,15 @@ pub trait Device {
         ensures durable { OnOk result (Only (seen self.old) (may_leave self.new)) }
         ensures seen { seen self.new ≡ seen self.old }
         ensures crash { (file : List ℕ) → may_leave self.new file → may_leave self.old file }
-        ensures time { Elapses (moment self.old) (moment self.new) (left_since self.old) (left_since self.new) (may_leave self.new) }
+        ensures time { Elapses (moment self.old) (moment self.new) (left_since self.old) (left_since self.new)
+            (may_leave self.new) }
         ensures cause { HasCause (faults self.old) (faults self.new) result };
 
     /// This moment is one of those since an earlier one.
-    ghost counts_now: { (device : Self) (t : ℕ) (file : List ℕ) → t ≤ moment device → may_leave device file → left_since device t file };
+    ghost counts_now: { (device : Self) (t : ℕ) (file : List ℕ) → t ≤ moment device → may_leave device file
+        → left_since device t file };
 
     /// Since this moment there is no other.
-    ghost only_now: { (device : Self) (file : List ℕ) → left_since device (moment device) file → may_leave device file };
+    ghost only_now: { (device : Self) (file : List ℕ) → left_since device (moment device) file
+        → may_leave device file };
 }

@@ -15,7 +15,8 @@ pub(crate) fn write_synced<D: Device>(
 
     ensures written { OnOk result (Over at bytes.now (D.seen device.old) (D.seen device.new)) }
     ensures durable { OnOk result (Only (D.seen device.new) (D.may_leave device.new)) }
-    ensures any_moment { LeavesOnly D.moment D.left_since device.old device.new (Torn at bytes.now (D.seen device.old)) }
+    ensures any_moment { LeavesOnly D.moment D.left_since device.old device.new
+        (Torn at bytes.now (D.seen device.old)) }
     ensures failed { IsErrOf result DeviceError.Failed → D.faults device.old < D.faults device.new }
     ensures faults { D.faults device.old ≤ D.faults device.new }
     ensures full { IsErrOf result DeviceError.Full → ⊥ }

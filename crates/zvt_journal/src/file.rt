@@ -5,7 +5,8 @@
 //! is made that is noted, that a file is as the crash model of `Device` says, and that nobody else writes it.
 ghost use Rattle.std.specs.Prelude.{◌≡◌, ◌↔◌, [], ◌∷◌, length, is_err, is_ok, is_some};
 ghost use Rattle.std.specs.Prelude.{IfErr, IfOk, IsOk, IsNone, IsSome, MatchResult, OnErr, OnOk, Some};
-ghost use Rattle.zvt_journal.specs.Calls.{seen_after, may_leave_after, left_since_after, failed_among, counts_now, only_now, SeenMayBeLeft};
+ghost use Rattle.zvt_journal.specs.Calls.{seen_after, may_leave_after, left_since_after, failed_among, counts_now};
+ghost use Rattle.zvt_journal.specs.Calls.{only_now, SeenMayBeLeft};
 
 use crate::call::{Call, Step};
 use crate::calls::GhostCalls;
@@ -103,7 +104,8 @@ impl FileDevice {
         ensures spare { self.new.spare ≡ self.old.spare }
         ensures answer { is_ok result ≡ is_ok answer }
         ensures error { IfErr result (λ error. error ≡ DeviceError.Failed) }
-        ensures failure { MatchResult answer (λ _. self.new.failure ≡ self.old.failure) (λ failure. self.new.failure ≡ Some failure) }
+        ensures failure { MatchResult answer (λ _. self.new.failure ≡ self.old.failure)
+            (λ failure. self.new.failure ≡ Some failure) }
     {
         match answer {
             Ok(()) => Ok(()),

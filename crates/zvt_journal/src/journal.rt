@@ -1,9 +1,11 @@
 //! Records of text lines, and the gate that makes each of them count at once.
-ghost use Rattle.std.specs.Prelude.{◌≡◌, true, All, ◌↔◌, ◌⊎◌, ◌+◌, ◌<◌, ◌≤◌, ◌^◌, ◌++◌, [], ◌∷◌, List, ℕ, get_or, length, drop, IfOk, OnErr, OnOk, IsErrOf, IsTrue};
+ghost use Rattle.std.specs.Prelude.{◌≡◌, true, All, ◌↔◌, ◌⊎◌, ◌+◌, ◌<◌, ◌≤◌, ◌^◌, ◌++◌, [], ◌∷◌, List, ℕ, get_or};
+ghost use Rattle.std.specs.Prelude.{length, drop, IfOk, OnErr, OnOk, IsErrOf, IsTrue};
 ghost use Rattle.zvt_journal.specs.Device.{Only, LeavesOnly};
 ghost use Rattle.zvt_journal.specs.Files.{GoOn, GoesOn, IsKnown, IsKnownAsBefore, IsRepairable, IsRepairableAsBefore};
 ghost use Rattle.zvt_journal.specs.Opening.{NoneIsRefused};
-ghost use Rattle.zvt_journal.specs.Text.{whole, begins_marked, recovered, IsRecord, IsSettled, IsWithOrWithout, IsAsBefore, joined, HasFirst, LinesAreRecovered, RecoveredIsLines};
+ghost use Rattle.zvt_journal.specs.Text.{whole, begins_marked, recovered, IsRecord, IsSettled, IsWithOrWithout};
+ghost use Rattle.zvt_journal.specs.Text.{IsAsBefore, joined, HasFirst, LinesAreRecovered, RecoveredIsLines};
 
 use crate::durable::{cut_synced, set_synced, write_synced};
 use crate::{Device, DeviceError, NoSpace};
@@ -58,7 +60,8 @@ impl<D: Device> Journal<D> {
         requires room { get_or entry.now 0 0 ≡ 35 → D.has_capacity self.old.device ≡ true }
 
         ensures settled { OnOk result (IsSettled (D.seen self.new.device) (D.may_leave self.new.device) self.new.gate) }
-        ensures acknowledged { OnOk result (recovered (D.seen self.new.device) ≡ recovered (D.seen self.old.device) ++ entry.now) }
+        ensures acknowledged { OnOk result (recovered (D.seen self.new.device) ≡ recovered (D.seen self.old.device) ++
+            entry.now) }
         ensures longest { OnOk result (length entry.now ≤ 2 ^ 18) }
 
         // A crash at any moment of the call leaves the text from before it, with the record or without.
@@ -69,7 +72,8 @@ impl<D: Device> Journal<D> {
         ensures repairable { LeavesOnly D.moment D.left_since self.old.device self.new.device IsRepairable }
 
         // And opening takes it for a journal's file, if the record goes behind others or is the opening of a new one.
-        ensures known { GoesOn (recovered (D.seen self.old.device)) entry.now → LeavesOnly D.moment D.left_since self.old.device self.new.device IsKnown }
+        ensures known { GoesOn (recovered (D.seen self.old.device)) entry.now → LeavesOnly D.moment D.left_since
+            self.old.device self.new.device IsKnown }
 
         // It doesn't give up by itself.
         ensures failed { IsErrOf result DeviceError.Failed → D.faults self.old.device < D.faults self.new.device }
@@ -93,16 +97,19 @@ impl<D: Device> Journal<D> {
         requires entries { All (λ entry. IsRecord entry.items) entries.now }
 
         ensures settled { OnOk result (IsSettled (D.seen self.new.device) (D.may_leave self.new.device) self.new.gate) }
-        ensures acknowledged { OnOk result (recovered (D.seen self.new.device) ≡ recovered (D.seen self.old.device) ++ joined entries.now) }
+        ensures acknowledged { OnOk result (recovered (D.seen self.new.device) ≡ recovered (D.seen self.old.device) ++
+            joined entries.now) }
 
         // A crash at any moment leaves the text from before the call and some first ones of the records, whole.
         ensures any_moment { LeavesOnly D.moment D.left_since self.old.device self.new.device
             (HasFirst (recovered (D.seen self.old.device)) entries.now) }
         ensures repairable { LeavesOnly D.moment D.left_since self.old.device self.new.device IsRepairable }
-        ensures known { GoOn (recovered (D.seen self.old.device)) entries.now → LeavesOnly D.moment D.left_since self.old.device self.new.device IsKnown }
+        ensures known { GoOn (recovered (D.seen self.old.device)) entries.now → LeavesOnly D.moment D.left_since
+            self.old.device self.new.device IsKnown }
 
         ensures failed { IsErrOf result DeviceError.Failed → D.faults self.old.device < D.faults self.new.device }
-        ensures full { IsErrOf result DeviceError.Full → (2 ^ 60 ≤ self.new.gate) ⊎ (All (λ entry. length entry.items ≤ 2 ^ 18) entries.now → ⊥) }
+        ensures full { IsErrOf result DeviceError.Full → (2 ^ 60 ≤ self.new.gate)
+            ⊎ (All (λ entry. length entry.items ≤ 2 ^ 18) entries.now → ⊥) }
         ensures faults { D.faults self.old.device ≤ D.faults self.new.device }
     {
         for entry in entries {
@@ -125,8 +132,9 @@ fn after_gate(alloc: Global, entry: &[u8]) -> Result<Vec<u8>, AllocError>
 
 /// Returns the complete records of a journal file, and repairs whatever a crash left behind them.
 ///
-/// Pass the whole content of the file as `bytes`. The file is synced first, because data that can be read after a process
-/// was killed is not necessarily durable yet. An empty file is a valid, empty journal. A file at rest is not written.
+/// Pass the whole content of the file as `bytes`. The file is synced first, because data that can be read after a
+/// process was killed is not necessarily durable yet. An empty file is a valid, empty journal. A file at rest is not
+/// written.
 pub fn open<D: Device>(device: &mut D, mut bytes: Vec<u8>) -> Result<Vec<u8>, DeviceError>
     requires bytes { bytes.items ≡ D.seen device.old }
 

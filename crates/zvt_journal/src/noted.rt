@@ -211,7 +211,8 @@ pub(crate) fn keep_beside(
     path: &[u8],
     bytes: &[u8],
 ) -> io::Result<()>
-    ensures { calls.new.made ≡ (Call.Aside Step.KeptBeside, bytes.now, is_ok result) ∷ (Call.Aside Step.Beside, path.now, is_ok result) ∷ calls.old.made }
+    ensures { calls.new.made ≡ (Call.Aside Step.KeptBeside, bytes.now, is_ok result) ∷
+        (Call.Aside Step.Beside, path.now, is_ok result) ∷ calls.old.made }
 {
     let answer = append_beside(alloc, path, bytes);
     note(calls, Call::Aside(Step::Beside), path, answer.is_ok());

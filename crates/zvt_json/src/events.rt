@@ -1,7 +1,8 @@
 //! The JSON of events that are no messages.
 ghost use Rattle.std.specs.Prelude.{◌≤◌, length};
 ghost use Rattle.zvt_text.specs.Writing.{Puts};
-ghost use Rattle.zvt_json.specs.Texts.{lost_text, reason_text, refused_text, resumed_text, side_text, stopped_text, truncated_text};
+ghost use Rattle.zvt_json.specs.Texts.{lost_text, reason_text, refused_text, resumed_text, side_text, stopped_text};
+ghost use Rattle.zvt_json.specs.Texts.{truncated_text};
 
 use crate::messages::sender;
 use crate::strings::byte;

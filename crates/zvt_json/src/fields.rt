@@ -8,7 +8,8 @@ ghost use Rattle.zvt_tlv.specs.Checks.{is_shallow};
 ghost use Rattle.zvt_text.specs.Lines.{is_hidden};
 ghost use Rattle.zvt_text.specs.Writing.{Puts};
 ghost use Rattle.zvt_json.specs.Fields.{field_value, field_values, plain_value};
-ghost use Rattle.zvt_json.specs.Texts.{amount_text, code_text, content_text, hidden_text, quoted_text, result_text, tree_text};
+ghost use Rattle.zvt_json.specs.Texts.{amount_text, code_text, content_text, hidden_text, quoted_text, result_text};
+ghost use Rattle.zvt_json.specs.Texts.{tree_text};
 
 use crate::objects::objects;
 use crate::parts::{comma, name, opened, words};

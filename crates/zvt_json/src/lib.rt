@@ -1,7 +1,7 @@
 //! The events of a trace as JSON: a line for each, which holds one value.
 //!
-//! [`event`] adds the line of an event to a text. [`Form`] says whether an answer is text or JSON. The file docs/JSON.md has
-//! the format.
+//! [`event`] adds the line of an event to a text. [`Form`] says whether an answer is text or JSON. The file
+//! docs/JSON.md has the format.
 #![tactic(auto)]
 
 mod events;

@@ -7,8 +7,10 @@ ghost use Rattle.zvt_text.specs.Writing.{Adds};
 ghost use Rattle.zvt_trace.specs.TraceEvent.{HasItsBytes, event_of, on};
 ghost use Rattle.zvt_json.specs.Strings.{line_text};
 ghost use Rattle.zvt_json.specs.Messages.{message_value};
-ghost use Rattle.zvt_json.specs.Events.{AddsLine, lost_value, refused_value, resumed_value, stopped_value, truncated_value};
-ghost use Rattle.zvt_json.specs.Texts.{lost_text, message_text, refused_text, resumed_text, stopped_text, truncated_text};
+ghost use Rattle.zvt_json.specs.Events.{AddsLine, lost_value, refused_value, resumed_value, stopped_value};
+ghost use Rattle.zvt_json.specs.Events.{truncated_value};
+ghost use Rattle.zvt_json.specs.Texts.{lost_text, message_text, refused_text, resumed_text, stopped_text};
+ghost use Rattle.zvt_json.specs.Texts.{truncated_text};
 
 use crate::events;
 use crate::messages::{self, Origin};
@@ -88,7 +90,8 @@ fn normal_size(alloc: Global, apdu: &ApduView<'_>) -> Result<usize, AllocError>
 /// Adds the line of a message.
 #[inline(always)]
 fn message(text: &mut Text, origin: Origin, message: &ApduView<'_>) -> Result<(), AllocError>
-    ensures { Adds result text.old text.new (line_text (message_value origin.from origin.line origin.size message.now)) }
+    ensures { Adds result text.old text.new (line_text
+        (message_value origin.from origin.line origin.size message.now)) }
 {
     text.add(&MessageLine { origin, message })
 }
@@ -112,7 +115,8 @@ impl Says for MessageLine<'_> {
 
 /// Adds the line of a refusal.
 fn refused(text: &mut Text, from: Direction, line: u64, refusal: Refusal) -> Result<(), AllocError>
-    ensures { Adds result text.old text.new (line_text (refused_value from line refusal.byte refusal.place refusal.why)) }
+    ensures { Adds result text.old text.new (line_text
+        (refused_value from line refusal.byte refusal.place refusal.why)) }
 {
     text.add(&RefusedLine {
         from,

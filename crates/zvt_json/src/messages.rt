@@ -4,7 +4,9 @@ ghost use Rattle.std.specs.Option.{option_copied};
 ghost use Rattle.zvt_apdu.specs.Kinds.{kind_of};
 ghost use Rattle.zvt_text.specs.MessageTexts.{part_text};
 ghost use Rattle.zvt_text.specs.Writing.{Puts};
-ghost use Rattle.zvt_json.specs.Texts.{about_text, attribute_led, code_led, coded_text, config_led, control_led, currency_led, data_led, ended, fields_led, first_text, from_text, kind_led, last_text, message_text, printed_text, status_text};
+ghost use Rattle.zvt_json.specs.Texts.{about_text, attribute_led, code_led, coded_text, config_led, control_led};
+ghost use Rattle.zvt_json.specs.Texts.{currency_led, data_led, ended, fields_led, first_text, from_text, kind_led};
+ghost use Rattle.zvt_json.specs.Texts.{last_text, message_text, printed_text, status_text};
 
 use crate::fields::fields;
 use crate::parts::words;

@@ -1,7 +1,8 @@
 //! Steps of a run, and the words that name them.
 ghost use Rattle.std.specs.Prelude.{◌≡◌, if◌then◌else◌, Some, None, option_map};
 ghost use Rattle.std.specs.Char.{digit_value, is_ascii_hexdigit};
-ghost use Rattle.zvt_session.specs.Words.{amount_of, code_in, code_of, declined, declining, digits_of, ends_number, entry_of, numbered, step_of};
+ghost use Rattle.zvt_session.specs.Words.{amount_of, code_in, code_of, declined, declining, digits_of, ends_number};
+ghost use Rattle.zvt_session.specs.Words.{entry_of, numbered, step_of};
 
 use zvt_bcd::Amount;
 use zvt_kept::{is_reference, size_before};

@@ -4,7 +4,10 @@ ghost use Rattle.hex.specs.Hex.{encode_upper};
 ghost use Rattle.json.specs.Print.{escape};
 ghost use Rattle.zvt_json.specs.Strings.{line_text};
 ghost use Rattle.zvt_text.specs.Writing.{Adds};
-ghost use Rattle.zvt_session.specs.BookObjects.{book_json, cause_part, currency_part, entries_json, entry_json, entry_value, heard_part, number_part, receipt_part, reversals_part, reversed_part, sum_json, sum_value, taken_back_part, trace_part, unclear_json, unclear_reversal_part, unclear_value, unclears_json};
+ghost use Rattle.zvt_session.specs.BookObjects.{book_json, cause_part, currency_part, entries_json, entry_json};
+ghost use Rattle.zvt_session.specs.BookObjects.{entry_value, heard_part, number_part, receipt_part, reversals_part};
+ghost use Rattle.zvt_session.specs.BookObjects.{reversed_part, sum_json, sum_value, taken_back_part, trace_part};
+ghost use Rattle.zvt_session.specs.BookObjects.{unclear_json, unclear_reversal_part, unclear_value, unclears_json};
 
 use crate::books::heard_at;
 use std::alloc::AllocError;
@@ -12,8 +15,8 @@ use zvt_bcd::{Amount, Currency, Trace};
 use zvt_text::Text;
 use zvt_till::{Cause, Doubt, Entry, Numbers, Till};
 
-/// An object for each entry with its number and what became of its reversals, then for each unclear payment with what was
-/// heard of it, and at last for the sum of the entries that were not reversed.
+/// An object for each entry with its number and what became of its reversals, then for each unclear payment with what
+/// was heard of it, and at last for the sum of the entries that were not reversed.
 pub(crate) fn say_objects(text: &mut Text, till: &Till) -> Result<(), AllocError>
     ensures { OnOk result (text.new ≡ text.old ++ book_json till.now) }
 {

@@ -2,7 +2,8 @@
 ghost use Rattle.std.specs.Prelude.{◌≡◌, ◌<◌, ◌++◌, Err, IfErr, OnOk, slice_get};
 ghost use Rattle.zvt_io.specs.Devices.{Writes};
 ghost use Rattle.zvt_session.specs.BookObjects.{book_lines};
-ghost use Rattle.zvt_session.specs.Books.{book_text, booked_text, doubt_text, entries_text, entry_text, heard_words, reversed_text, unclear_reversal_text, unclear_text, unclears_text};
+ghost use Rattle.zvt_session.specs.Books.{book_text, booked_text, doubt_text, entries_text, entry_text, heard_words};
+ghost use Rattle.zvt_session.specs.Books.{reversed_text, unclear_reversal_text, unclear_text, unclears_text};
 ghost use Rattle.zvt_session.specs.Runs.{AnswersText};
 
 use crate::book_objects::say_objects;

@@ -35,23 +35,23 @@ pub enum NetFault {
 /// Why the run of an end of a line, or of both, ended early.
 #[derive(Debug, Drop, Error)]
 pub enum EndFault {
-    /// The connection between till and terminal failed. The outcome of the order that ran was written, and no further step
-    /// was made.
+    /// The connection between till and terminal failed. The outcome of the order that ran was written, and no further
+    /// step was made.
     #[error("connection failed: {0}")]
     Line(LineFault),
     /// The terminal sent nothing for as long as the till waits. The rest is as at `Line`.
     #[error("connection failed: the terminal sent nothing for {seconds} s. Check the terminal, or increase --timeout")]
     Silent { seconds: u16 },
-    /// The trace could not be written to its end. The connection was given up there: after the last step, or in the order
-    /// that ran, which ended as after a failed connection. All of the text was written.
+    /// The trace could not be written to its end. The connection was given up there: after the last step, or in the
+    /// order that ran, which ended as after a failed connection. All of the text was written.
     #[error("cannot write the trace file, so the run stopped: check its permissions and the free space")]
     Trace,
-    /// The journal of the till's book could not be written. Nothing was sent from then on. The order that ran ended as after
-    /// a failed connection. The book's file has what happened before.
+    /// The journal of the till's book could not be written. Nothing was sent from then on. The order that ran ended as
+    /// after a failed connection. The book's file has what happened before.
     #[error("cannot write the book; the run was stopped and nothing more was sent. Check the disk and its free space, then inspect the file with 'zvt book'")]
     Book,
-    /// All steps were made and the total was written, but a step did not succeed, and the run checks that. The line of the
-    /// step says what became of it.
+    /// All steps were made and the total was written, but a step did not succeed, and the run checks that. The line of
+    /// the step says what became of it.
     #[error("a step did not succeed: its line says what became of it")]
     Unsuccessful,
     /// The word at this place, counted from 0, names no step. Nothing was sent or written.

@@ -15,7 +15,8 @@ pub trait LineEnd {
     /// Its stream, what is to come, what was written, the reads made, and how many reads and writes failed.
     ghost state: { Self → EndState };
 
-    /// Gives the till an order, and writes its message. If the write fails, the till has lost its line and the fault is `Write`.
+    /// Gives the till an order, and writes its message. If the write fails, the till has lost its line and the fault is
+    /// `Write`.
     fn order<K: Keeper>(
         &mut self,
         alloc: Global,
@@ -30,13 +31,15 @@ pub trait LineEnd {
     fn turn<M: Machine>(&mut self, alloc: Global, machine: &mut M) -> Result<(), LineFault>
         ensures { MatchResult result
             (λ _. Turn M.hears M.is_resting (state self.old) machine.old (state self.new) machine.new)
-            (λ fault. TurnBreaks M.hears M.is_resting M.loses M.malforms fault (state self.old) machine.old (state self.new) machine.new) };
+            (λ fault. TurnBreaks M.hears M.is_resting M.loses M.malforms fault (state self.old) machine.old
+            (state self.new) machine.new) };
 }
 
 impl<R: Source, W: Sink> LineEnd for Endpoint<R, W> {
     ghost use Rattle.zvt_session.specs.LineEnd.{end_state};
 
-    ghost state = { λ end. end_state end.stream (R.remaining end.reader) (W.written end.writer) (R.reads end.reader) (R.failures end.reader) (W.failures end.writer) };
+    ghost state = { λ end. end_state end.stream (R.remaining end.reader) (W.written end.writer) (R.reads end.reader)
+        (R.failures end.reader) (W.failures end.writer) };
 
     fn order<K: Keeper>(
         &mut self,

@@ -3,7 +3,10 @@ ghost use Rattle.std.specs.Prelude.{◌≡◌, ◌++◌, IfErr, IfOk, List, OnOk
 ghost use Rattle.std.specs.String.{string_bytes};
 ghost use Rattle.hex.specs.Hex.{encode_upper};
 ghost use Rattle.zvt_session.specs.Reporting.{ReportedSoFar};
-ghost use Rattle.zvt_session.specs.Notes.{closing_note, entry_numbers, heard_text, last_note, named_text, no_space_note, of_payment, outcome_note, payment_note, registration_note, reversal_note, reversing, row_note, step_note, unsent_note, why_unclear, why_unsent};
+ghost use Rattle.zvt_session.specs.Notes.{closing_note, entry_numbers, heard_text, last_note, named_text};
+ghost use Rattle.zvt_session.specs.Notes.{no_space_note, of_payment, outcome_note, payment_note, registration_note};
+ghost use Rattle.zvt_session.specs.Notes.{reversal_note, reversing, row_note, step_note, unsent_note, why_unclear};
+ghost use Rattle.zvt_session.specs.Notes.{why_unsent};
 
 use crate::arguments::Step;
 use crate::fault::EndFault;
@@ -14,16 +17,17 @@ use zvt_io::Sink;
 use zvt_text::Text;
 use zvt_till::{BookFault, Cause, Entry, Numbers, OrderRefusal, Outcome, RunFault, Till};
 
-/// Returns what a person has to know of a step that came to this, and what to do: of an order that is unclear, which numbers
-/// the terminal named; of one that was not sent, why not. Of other steps there is nothing to say. The only fault is
-/// `Memory`.
+/// Returns what a person has to know of a step that came to this, and what to do: of an order that is unclear, which
+/// numbers the terminal named; of one that was not sent, why not. Of other steps there is nothing to say. The only
+/// fault is `Memory`.
 pub(crate) fn note_of(
     alloc: Global,
     planned: &Planned,
     made: &Result<Outcome, RunFault>,
     till: &Till,
 ) -> Result<Text, EndFault>
-    ensures text { IfOk result (λ text. text ≡ step_note (string_bytes planned.now.word) planned.now.step made.now till.now) }
+    ensures text { IfOk result (λ text. text ≡ step_note (string_bytes planned.now.word) planned.now.step made.now
+        till.now) }
     ensures memory { IfErr result (λ fault. fault ≡ EndFault.Memory) }
 {
     let mut text = Text::new(alloc);
@@ -33,7 +37,8 @@ pub(crate) fn note_of(
 
 /// Writes a note to a device that works, and returns whether it still does. A device that failed gets nothing more.
 pub(crate) fn report_note<E: Sink>(works: bool, note: &Text, report: &mut E) -> bool
-    ensures { (first : Option (List ℕ)) (count : ℕ) (text : List ℕ) → ReportedSoFar works first (E.written report.old) count (E.failures report.old) text
+    ensures { (first : Option (List ℕ)) (count : ℕ) (text : List ℕ) → ReportedSoFar works first (E.written report.old)
+        count (E.failures report.old) text
         → ReportedSoFar result first (E.written report.new) count (E.failures report.new) (text ++ note.now) }
 {
     if !works {
@@ -49,7 +54,8 @@ fn say_note(
     made: &Result<Outcome, RunFault>,
     till: &Till,
 ) -> Result<(), AllocError>
-    ensures { OnOk result (text.new ≡ text.old ++ step_note (string_bytes planned.now.word) planned.now.step made.now till.now) }
+    ensures { OnOk result (text.new ≡ text.old ++ step_note (string_bytes planned.now.word) planned.now.step made.now
+        till.now) }
 {
     match made {
         Ok(outcome) => say_outcome(text, &planned.step, outcome, till),
@@ -143,7 +149,8 @@ fn say_payment(
 
 /// Adds that the reversal of the entry at this place of the book is unclear.
 fn say_row(text: &mut Text, place: usize, cause: Cause, till: &Till) -> Result<(), AllocError>
-    ensures { OnOk result (text.new ≡ text.old ++ row_note place (slice_get till.now.state.book place) cause till.now.numbers) }
+    ensures { OnOk result (text.new ≡ text.old ++ row_note place (slice_get till.now.state.book place) cause
+        till.now.numbers) }
 {
     match till.book().get(place) {
         Some(entry) => say_reversal(text, place, entry, cause, till.numbers()),
@@ -238,7 +245,8 @@ fn say_heard(text: &mut Text, numbers: Numbers) -> Result<(), AllocError>
 
 /// Adds that the terminal named these numbers.
 fn say_numbers_named(text: &mut Text, numbers: Numbers) -> Result<(), AllocError>
-    ensures { OnOk result (text.new ≡ text.old ++ (codes ". The terminal named" ++ named_text numbers.trace numbers.receipt)) }
+    ensures { OnOk result (text.new ≡ text.old ++
+        (codes ". The terminal named" ++ named_text numbers.trace numbers.receipt)) }
 {
     text.word(b". The terminal named")?;
     say_named(text, numbers)

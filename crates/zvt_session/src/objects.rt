@@ -2,7 +2,8 @@
 ghost use Rattle.std.specs.Prelude.{◌≡◌, ◌++◌, IfOk, OnOk};
 ghost use Rattle.serde_json.specs.View.{view};
 ghost use Rattle.zvt_json.specs.Strings.{line_text};
-ghost use Rattle.zvt_session.specs.Objects.{broken_value, coded_value, ended_value, outcome_value, paid_value, step_value, total_value};
+ghost use Rattle.zvt_session.specs.Objects.{broken_value, coded_value, ended_value, outcome_value, paid_value};
+ghost use Rattle.zvt_session.specs.Objects.{step_value, total_value};
 
 use serde_json::{Value, json};
 use std::alloc::{AllocError, Global};

@@ -7,8 +7,8 @@ use zvt_bcd::Trace;
 use zvt_text::Text;
 use zvt_till::Outcome;
 
-/// Adds to the text how an order ended, as `paid trace 000001 receipt 0001` or `declined 6F wrong currency`. It fails where
-/// memory is refused, and the text then ends anywhere.
+/// Adds to the text how an order ended, as `paid trace 000001 receipt 0001` or `declined 6F wrong currency`. It fails
+/// where memory is refused, and the text then ends anywhere.
 pub(crate) fn outcome_text(text: &mut Text, outcome: &Outcome) -> Result<(), AllocError>
     ensures { OnOk result (text.new ≡ text.old ++ outcome_text outcome.now) }
 {

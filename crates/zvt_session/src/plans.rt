@@ -45,8 +45,8 @@ const BOTH_ENDS: [&str; 5] = [
 /// The default steps of a run of a till.
 const TILL_ALONE: [&str; 2] = ["register", "close"];
 
-/// The steps that the words name. Without words they are the default steps of these ends. The first word that names no step
-/// is the fault `BadStep`. The other fault is `Memory`.
+/// The steps that the words name. Without words they are the default steps of these ends. The first word that names no
+/// step is the fault `BadStep`. The other fault is `Memory`.
 pub fn plan(alloc: Global, ends: Ends, words: &[&str]) -> Result<Vec<Planned>, EndFault>
     ensures { PlansOrStops ends (words_of ends (map (λ word. word.now) words.now)) result }
 {

@@ -9,7 +9,8 @@ use zvt_till::{Cause, Doubt, Entry};
 /// Reports each entry of the book whose last reversal is unclear: a line each, without asking for memory. A device that
 /// fails is no fault, and the lines after that are not reported.
 pub(crate) fn report_reversals<E: Sink>(book: &[Entry], report: &mut E)
-    ensures { ReportsReversals (E.written report.old) (E.written report.new) (E.failures report.old) (E.failures report.new) book.now }
+    ensures { ReportsReversals (E.written report.old) (E.written report.new) (E.failures report.old)
+        (E.failures report.new) book.now }
 {
     let mut number: usize = 0;
     'entries: for entry in book {

@@ -18,8 +18,10 @@ pub fn serve<R: Source, W: Sink>(
     served: &mut Served,
 ) -> Result<(), LineFault>
     ensures { Serves
-        (end_state end.old.stream (R.remaining end.old.reader) (W.written end.old.writer) (R.reads end.old.reader) (R.failures end.old.reader) (W.failures end.old.writer)) served.old
-        (end_state end.new.stream (R.remaining end.new.reader) (W.written end.new.writer) (R.reads end.new.reader) (R.failures end.new.reader) (W.failures end.new.writer)) served.new
+        (end_state end.old.stream (R.remaining end.old.reader) (W.written end.old.writer) (R.reads end.old.reader)
+        (R.failures end.old.reader) (W.failures end.old.writer)) served.old
+        (end_state end.new.stream (R.remaining end.new.reader) (W.written end.new.writer) (R.reads end.new.reader)
+        (R.failures end.new.reader) (W.failures end.new.writer)) served.new
         result }
 {
     let ended = pump(

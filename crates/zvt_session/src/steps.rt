@@ -29,21 +29,22 @@ pub(crate) trait StepLine<K: Keeper> {
     /// The step, made on the line by the till, came to this, and leads to this line and this till.
     ghost makes: { Self → K → Step → Result Outcome RunFault → Self → K → Type 0 };
 
-    /// Gives the till the order of the step, and goes on with the line until no order runs. It answers the order's outcome.
-    /// On `RunFault::Line`, the till knows of the fault, and its last outcome is the result of the order. Give up the line then.
+    /// Gives the till the order of the step, and goes on with the line until no order runs. It answers the order's
+    /// outcome. On `RunFault::Line`, the till knows of the fault, and its last outcome is the result of the order. Give
+    /// up the line then.
     fn make(&mut self, alloc: Global, till: &mut K, step: &Step) -> Result<Outcome, RunFault>
         ensures { makes self.old till.old step.now result self.new till.new };
 }
 
-/// Makes the steps one after another, each order with the note that `notes` gives it. Each writes a line when it ends: its word and its outcome. The last line is the
-/// till's total. `steps` has the form of these lines. A step whose order is unclear or was not sent is reported besides, with
-/// what to do.
+/// Makes the steps one after another, each order with the note that `notes` gives it. Each writes a line when it ends:
+/// its word and its outcome. The last line is the till's total. `steps` has the form of these lines. A step whose order
+/// is unclear or was not sent is reported besides, with what to do.
 ///
-/// After a connection that failed no further step is made, and the fault is `Line`. After a book that could not be kept none is
-/// made either, and the fault is `Book`. A run that checks its steps ends with
-/// `Unsuccessful` if one did not succeed. An order that is not sent is another fault only if memory runs out. The other
-/// faults are `Write` and `Memory`: then no further step is made, and the lines of all steps before the last were written.
-/// After `Write` a prefix of its own line may be written. A failure of `report` is no fault, and nothing more is reported.
+/// After a connection that failed no further step is made, and the fault is `Line`. After a book that could not be kept
+/// none is made either, and the fault is `Book`. A run that checks its steps ends with `Unsuccessful` if one did not
+/// succeed. An order that is not sent is another fault only if memory runs out. The other faults are `Write` and
+/// `Memory`: then no further step is made, and the lines of all steps before the last were written. After `Write` a
+/// prefix of its own line may be written. A failure of `report` is no fault, and nothing more is reported.
 pub(crate) fn run_steps<L: StepLine<K>, K: Keeper, W: Sink, E: Sink, N: NoteSource<K>>(
     alloc: Global,
     line: &mut L,
@@ -53,7 +54,10 @@ pub(crate) fn run_steps<L: StepLine<K>, K: Keeper, W: Sink, E: Sink, N: NoteSour
     writer: &mut W,
     report: &mut E,
 ) -> Result<(), EndFault>
-    ensures run { Answers K.till (noting N.noted L.makes) steps.now.options (λ notes. Reports notes (E.written report.old) (E.written report.new) (E.failures report.old) (E.failures report.new)) steps.now.plan.now (standing line.old till.old) (standing line.new till.new) (W.written writer.old) (W.written writer.new) result }
+    ensures run { Answers K.till (noting N.noted L.makes) steps.now.options
+        (λ notes. Reports notes (E.written report.old) (E.written report.new) (E.failures report.old)
+        (E.failures report.new)) steps.now.plan.now (standing line.old till.old) (standing line.new till.new)
+        (W.written writer.old) (W.written writer.new) result }
     ensures write { result ≡ Err EndFault.Write → W.failures writer.old < W.failures writer.new }
 {
     let mut short = false;
@@ -78,7 +82,8 @@ pub(crate) fn run_steps<L: StepLine<K>, K: Keeper, W: Sink, E: Sink, N: NoteSour
     Ok(())
 }
 
-/// Returns the line of a step in this form. The only fault is `Memory`, also if its order was not sent because memory ran out.
+/// Returns the line of a step in this form. The only fault is `Memory`, also if its order was not sent because memory
+/// ran out.
 fn line_of(
     alloc: Global,
     form: Form,
@@ -86,7 +91,8 @@ fn line_of(
     made: &Result<Outcome, RunFault>,
     till: &Till,
 ) -> Result<Text, EndFault>
-    ensures text { IfOk result (λ text. text ≡ step_line form (string_bytes planned.now.word) made.now till.now.state.last_outcome) }
+    ensures text { IfOk result (λ text. text ≡ step_line form (string_bytes planned.now.word) made.now
+        till.now.state.last_outcome) }
     ensures sent { OnOk result (wants_memory made.now ≡ false) }
     ensures memory { IfErr result (λ fault. fault ≡ EndFault.Memory) }
 {
@@ -99,8 +105,8 @@ fn line_of(
     Ok(text)
 }
 
-/// Whether a step did not succeed: its order was not sent, ended otherwise than it was meant to, or was cut off by its line. A
-/// payment that the terminal is to decline succeeds where it ends with that code.
+/// Whether a step did not succeed: its order was not sent, ended otherwise than it was meant to, or was cut off by its
+/// line. A payment that the terminal is to decline succeeds where it ends with that code.
 fn fell_short(step: &Step, made: &Result<Outcome, RunFault>) -> bool
     ensures { result ≡ fell_short step.now made.now }
 {
@@ -125,8 +131,8 @@ fn succeeded(step: &Step, outcome: &Outcome) -> bool
     }
 }
 
-/// Adds the line of a step in this form: its word, and what became of it, where the till says this of the order that ended
-/// last.
+/// Adds the line of a step in this form: its word, and what became of it, where the till says this of the order that
+/// ended last.
 fn say_step(
     alloc: Global,
     text: &mut Text,
@@ -214,7 +220,8 @@ fn write_total<K: Keeper, W: Sink>(
     form: Form,
     writer: &mut W,
 ) -> Result<(), EndFault>
-    ensures text { AnswersText (total_line form (total (K.till till.now).state.book)) (W.written writer.old) (W.written writer.new) result }
+    ensures text { AnswersText (total_line form (total (K.till till.now).state.book)) (W.written writer.old)
+        (W.written writer.new) result }
     ensures write { result ≡ Err EndFault.Write → W.failures writer.old < W.failures writer.new }
 {
     let total = till.look().total();

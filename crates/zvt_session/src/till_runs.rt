@@ -15,9 +15,9 @@ use zvt_till::Keeper;
 
 /// Makes the steps one after another on a new line that is up.
 ///
-/// A book has before the first step that an earlier line was lost. If the book cannot be kept, here or in a step, no further
-/// step is made, and the fault is `Book`. [`run_steps`] says what else is answered. However a run ends that began, `report`
-/// gets a line for each of the till's entries whose last reversal is unclear.
+/// A book has before the first step that an earlier line was lost. If the book cannot be kept, here or in a step, no
+/// further step is made, and the fault is `Book`. [`run_steps`] says what else is answered. However a run ends that
+/// began, `report` gets a line for each of the till's entries whose last reversal is unclear.
 pub(crate) fn run_connected<L: StepLine<K>, K: Keeper, T: Sink, E: Sink, N: NoteSource<K>>(
     alloc: Global,
     line: &mut L,
@@ -27,8 +27,11 @@ pub(crate) fn run_connected<L: StepLine<K>, K: Keeper, T: Sink, E: Sink, N: Note
     writer: &mut T,
     report: &mut E,
 ) -> Result<(), EndFault>
-    ensures run { AnswersPlan K.connects K.failed K.till (noting N.noted L.makes) (λ begun. begun ≡ line.old) steps.now.options steps.now.plan.now till.old till.new (T.written writer.old) (T.written writer.new)
-        (ReportsRun (E.written report.old) (E.written report.new) (E.failures report.old) (E.failures report.new)) (ReportsNothing (E.written report.old) (E.written report.new) (E.failures report.old) (E.failures report.new)) result }
+    ensures run { AnswersPlan K.connects K.failed K.till (noting N.noted L.makes) (λ begun. begun ≡ line.old)
+        steps.now.options steps.now.plan.now till.old till.new (T.written writer.old) (T.written writer.new)
+        (ReportsRun (E.written report.old) (E.written report.new) (E.failures report.old) (E.failures report.new))
+        (ReportsNothing (E.written report.old) (E.written report.new) (E.failures report.old)
+        (E.failures report.new)) result }
     ensures write { result ≡ Err EndFault.Write → T.failures writer.old < T.failures writer.new }
 {
     if let Err(_) = till.connect(alloc) {

@@ -22,8 +22,8 @@ const CHUNK: usize = 65_536;
 
 /// Writes the text of a trace in this style, as [`render_trace`] does, while the trace comes.
 ///
-/// After each read the text of all lines that have ended is written, before the next read. The trace may have any length;
-/// a line has at most as many bytes as a trace in memory.
+/// After each read the text of all lines that have ended is written, before the next read. The trace may have any
+/// length; a line has at most as many bytes as a trace in memory.
 ///
 /// [`render_trace`]: crate::render_trace
 pub fn follow_trace<R: Source, W: Sink>(
@@ -34,7 +34,9 @@ pub fn follow_trace<R: Source, W: Sink>(
     reader: &mut R,
     writer: &mut W,
 ) -> Result<Tally, TraceFault>
-    ensures follows { (taken : List ℕ) × Consumes (R.remaining reader.old) (R.remaining reader.new) taken × AnswersFollow (reading_of lengths) scope style taken (R.remaining reader.new) (W.written writer.old) (W.written writer.new) result }
+    ensures follows { (taken : List ℕ) × Consumes (R.remaining reader.old) (R.remaining reader.new) taken
+        × AnswersFollow (reading_of lengths) scope style taken (R.remaining reader.new) (W.written writer.old)
+        (W.written writer.new) result }
     ensures read { result ≡ Err TraceFault.Read → R.failures reader.old < R.failures reader.new }
     ensures write { result ≡ Err TraceFault.Write → W.failures writer.old < W.failures writer.new }
 {
@@ -73,9 +75,13 @@ impl Follower {
     pub fn feed<W: Sink>(&mut self, writer: &mut W, chunk: &[u8]) -> Result<(), TraceFault>
         requires following { IsFollowing self.old }
         requires few { length chunk.now ≤ limit }
-        ensures writes { (r : Reading) (scope : Scope) (style : Style) (bytes : List ℕ) (first : Option (List ℕ)) → HasWritten r scope style bytes first (W.written writer.old) self.old → AnswersTurn r scope style (bytes ++ chunk.now) first (W.written writer.new) self.new result }
+        ensures writes { (r : Reading) (scope : Scope) (style : Style) (bytes : List ℕ) (first : Option (List ℕ))
+            → HasWritten r scope style bytes first (W.written writer.old) self.old → AnswersTurn r scope style
+            (bytes ++ chunk.now) first (W.written writer.new) self.new result }
         ensures following { OnOk result (IsFollowing self.new) }
-        ensures counts { (r : Reading) (scope : Scope) (style : Style) (bytes : List ℕ) (first : Option (List ℕ)) → HasWritten r scope style bytes first (W.written writer.old) self.old → CountsWrites (W.failures writer.old) (W.failures writer.new) result }
+        ensures counts { (r : Reading) (scope : Scope) (style : Style) (bytes : List ℕ) (first : Option (List ℕ))
+            → HasWritten r scope style bytes first (W.written writer.old) self.old
+            → CountsWrites (W.failures writer.old) (W.failures writer.new) result }
     {
         let mut pages = self.pages.take();
         let mut printer = Printer {
@@ -91,8 +97,12 @@ impl Follower {
     /// Writes the text of a last line without a line feed, and of messages that are cut off.
     pub fn finish<W: Sink>(self, writer: &mut W) -> Result<Tally, TraceFault>
         requires following { IsFollowing self }
-        ensures writes { (r : Reading) (scope : Scope) (style : Style) (bytes : List ℕ) (first : Option (List ℕ)) → HasWritten r scope style bytes first (W.written writer.old) self → AnswersLinesBy r scope style (lines bytes) first (W.written writer.new) result }
-        ensures counts { (r : Reading) (scope : Scope) (style : Style) (bytes : List ℕ) (first : Option (List ℕ)) → HasWritten r scope style bytes first (W.written writer.old) self → CountsWrites (W.failures writer.old) (W.failures writer.new) result }
+        ensures writes { (r : Reading) (scope : Scope) (style : Style) (bytes : List ℕ) (first : Option (List ℕ))
+            → HasWritten r scope style bytes first (W.written writer.old) self → AnswersLinesBy r scope style
+            (lines bytes) first (W.written writer.new) result }
+        ensures counts { (r : Reading) (scope : Scope) (style : Style) (bytes : List ℕ) (first : Option (List ℕ))
+            → HasWritten r scope style bytes first (W.written writer.old) self → CountsWrites (W.failures writer.old)
+            (W.failures writer.new) result }
     {
         let Follower { mut pages, walker } = self;
         let mut printer = Printer {

@@ -21,8 +21,8 @@ const BLOCK: usize = 65_536;
 /// Writes the text of a trace: each message, and each refusal, cut and loss. Output goes out in blocks; the last block
 /// is written even if the walk fails. In the styles `Json` and `JsonReceipts` each line of the text is one JSON value.
 ///
-/// A refusal leaves as much unread as the scope says. The trace may have such lengths. In the style `Join` each whole message is written in its one strict spelling. A stream
-/// that is refused or cut off counts as bad.
+/// A refusal leaves as much unread as the scope says. The trace may have such lengths. In the style `Join` each whole
+/// message is written in its one strict spelling. A stream that is refused or cut off counts as bad.
 pub fn render_trace<W: Sink>(
     alloc: Global,
     style: Style,
@@ -32,7 +32,8 @@ pub fn render_trace<W: Sink>(
     writer: &mut W,
 ) -> Result<Tally, TraceFault>
     requires { length trace.now ≤ limit }
-    ensures writes { AnswersLinesBy (reading_of lengths) scope style (lines trace.now) (W.written writer.old) (W.written writer.new) result }
+    ensures writes { AnswersLinesBy (reading_of lengths) scope style (lines trace.now) (W.written writer.old)
+        (W.written writer.new) result }
     ensures write { result ≡ Err TraceFault.Write → W.failures writer.old < W.failures writer.new }
 {
     let mut pages = Pages::new(alloc, style);
@@ -107,10 +108,12 @@ impl<W: Sink> Listener for Printer<'_, W> {
 /// Writes a full block, before the text of the next event joins it.
 #[inline(always)]
 fn flush_full<W: Sink>(block: &mut Text, writer: &mut W) -> Result<(), ListenerError>
-    ensures same { OnOk result (Keeps (after (W.written writer.old) block.old) (after (W.written writer.new) block.new)) }
+    ensures same { OnOk result (Keeps (after (W.written writer.old) block.old)
+        (after (W.written writer.new) block.new)) }
     ensures fault { IfErr result (λ failure. failure ≡ ListenerError.Write) }
     ensures failures { CountsFailure (W.failures writer.old) (W.failures writer.new) result }
-    ensures short { OnErr result (IsShortOf (after (W.written writer.old) block.old) (after (W.written writer.new) block.new)) }
+    ensures short { OnErr result (IsShortOf (after (W.written writer.old) block.old)
+        (after (W.written writer.new) block.new)) }
     ensures extends { Extends (W.written writer.old) (W.written writer.new) }
 {
     if block.size() < BLOCK {

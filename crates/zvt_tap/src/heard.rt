@@ -33,7 +33,8 @@ impl Heard {
     pub(crate) fn hear(&mut self, text: &[u8])
         requires few { length text.now ≤ limit }
         requires may { MayAudit self.old.fault self.old.audit }
-        ensures heard { (r : Reading) (trace : List ℕ) → HasHeard r trace self.old → HasHeard r (trace ++ text.now) self.new }
+        ensures heard { (r : Reading) (trace : List ℕ) → HasHeard r trace self.old
+            → HasHeard r (trace ++ text.now) self.new }
         ensures may { MayAudit self.new.fault self.new.audit }
     {
         if self.fault.is_some() {
@@ -49,7 +50,8 @@ impl Heard {
         output: &mut O,
     ) -> Result<AuditSummary, TraceFault>
         requires { MayAudit self.fault self.audit }
-        ensures { (r : Reading) (trace : List ℕ) → HasHeard r trace self → AnswersHeard r trace (O.written output.old) (O.written output.new) result }
+        ensures { (r : Reading) (trace : List ℕ) → HasHeard r trace self → AnswersHeard r trace (O.written output.old)
+            (O.written output.new) result }
     {
         let Heard { audit, fault } = self;
         match fault {

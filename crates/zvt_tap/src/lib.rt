@@ -1,8 +1,8 @@
 //! A tap on the line between a till and its terminal. It forwards bytes from each side to the other, and a log
 //! observes them.
 //!
-//! [`tap_line`] passes a line's chunks on, in the order that a [`Readiness`] gives, over any devices. Its [`TapLog`] has the
-//! trace of the line, the text that is shown, and the audit. [`tap_sockets`] does that with two sockets.
+//! [`tap_line`] passes a line's chunks on, in the order that a [`Readiness`] gives, over any devices. Its [`TapLog`]
+//! has the trace of the line, the text that is shown, and the audit. [`tap_sockets`] does that with two sockets.
 #![tactic(auto)]
 
 mod fault;

@@ -29,13 +29,22 @@ pub fn tap_line<L: Readiness, R: Source, W: Sink, T: Sink + Drop, O: Sink + Drop
     log: TapLog<T, O>,
 ) -> Tapped<T, O>
     requires { MayObserve log.parts.shown log.parts.heard }
-    ensures tapped { (r : Reading) (first held : Option (List ℕ)) → HasObserved r [] first held (log_state (T.written log.parts.tracing.device) (T.failures log.parts.tracing.device) log.parts.tracing.failed log.parts.tracing.required (O.written log.parts.output) log.parts.shown log.parts.heard)
-        → AnswersRelay (λ text. HasFound r (text ++ (codes "!" ++ 10 ∷ [])) first held result.found.tracing.failed (T.written result.found.tracing.device) (O.written result.found.output) result.found.shown result.found.audited) (Unit {0}) (result.found.tracing.failed ≡ true)
-        (sides (R.remaining ends.old.till) (R.remaining ends.old.terminal) (W.written ends.old.to_terminal) (W.written ends.old.to_till))
-        (sides (R.remaining ends.new.till) (R.remaining ends.new.terminal) (W.written ends.new.to_terminal) (W.written ends.new.to_till)) result.ended }
-    ensures faults { CountsFaults (R.failures ends.old.till + R.failures ends.old.terminal) (R.failures ends.new.till + R.failures ends.new.terminal)
-        (W.failures ends.old.to_terminal + W.failures ends.old.to_till) (W.failures ends.new.to_terminal + W.failures ends.new.to_till) result.ended }
-    ensures failed { FailsOnlyIf log.parts.tracing.failed result.found.tracing.failed (T.failures log.parts.tracing.device) (T.failures result.found.tracing.device) }
+    ensures tapped { (r : Reading) (first held : Option (List ℕ)) → HasObserved r [] first held
+        (log_state (T.written log.parts.tracing.device) (T.failures log.parts.tracing.device) log.parts.tracing.failed
+        log.parts.tracing.required (O.written log.parts.output) log.parts.shown log.parts.heard)
+        → AnswersRelay (λ text. HasFound r (text ++ (codes "!" ++ 10 ∷ [])) first held result.found.tracing.failed
+        (T.written result.found.tracing.device) (O.written result.found.output) result.found.shown
+        result.found.audited) (Unit {0}) (result.found.tracing.failed ≡ true)
+        (sides (R.remaining ends.old.till) (R.remaining ends.old.terminal) (W.written ends.old.to_terminal)
+        (W.written ends.old.to_till))
+        (sides (R.remaining ends.new.till) (R.remaining ends.new.terminal) (W.written ends.new.to_terminal)
+        (W.written ends.new.to_till)) result.ended }
+    ensures faults { CountsFaults (R.failures ends.old.till + R.failures ends.old.terminal)
+        (R.failures ends.new.till + R.failures ends.new.terminal)
+        (W.failures ends.old.to_terminal + W.failures ends.old.to_till)
+        (W.failures ends.new.to_terminal + W.failures ends.new.to_till) result.ended }
+    ensures failed { FailsOnlyIf log.parts.tracing.failed result.found.tracing.failed
+        (T.failures log.parts.tracing.device) (T.failures result.found.tracing.device) }
     ensures waits { Waits (L.waits line.new) (L.failures line.old) (L.failures line.new) result.ended }
 {
     let mut log = log;

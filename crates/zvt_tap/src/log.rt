@@ -54,8 +54,11 @@ impl<T: Sink, O: Sink> Parts<T, O> {
     fn observe(&mut self, text: &[u8])
         requires few { length text.now ≤ limit }
         requires may { MayObserve self.old.shown self.old.heard }
-        ensures observed { Observes (log_state (T.written self.old.tracing.device) (T.failures self.old.tracing.device) self.old.tracing.failed self.old.tracing.required (O.written self.old.output) self.old.shown self.old.heard) text.now
-            (log_state (T.written self.new.tracing.device) (T.failures self.new.tracing.device) self.new.tracing.failed self.new.tracing.required (O.written self.new.output) self.new.shown self.new.heard) }
+        ensures observed { Observes (log_state (T.written self.old.tracing.device) (T.failures self.old.tracing.device)
+            self.old.tracing.failed self.old.tracing.required (O.written self.old.output) self.old.shown
+            self.old.heard) text.now
+            (log_state (T.written self.new.tracing.device) (T.failures self.new.tracing.device) self.new.tracing.failed
+            self.new.tracing.required (O.written self.new.output) self.new.shown self.new.heard) }
         ensures may { MayObserve self.new.shown self.new.heard }
     {
         self.tracing.write(text);
@@ -74,7 +77,10 @@ impl<T: Sink + Drop, O: Sink + Drop> TapLog<T, O> {
         output: O,
     ) -> Result<TapLog<T, O>, AllocError>
         ensures observed { (first : Option (List ℕ)) → HasTraced tracing.failed [] first (T.written tracing.device)
-            → IfOk result (λ log. HasObserved (reading_of lengths) [] first (O.written output) (log_state (T.written log.parts.tracing.device) (T.failures log.parts.tracing.device) log.parts.tracing.failed log.parts.tracing.required (O.written log.parts.output) log.parts.shown log.parts.heard)) }
+            → IfOk result (λ log. HasObserved (reading_of lengths) [] first (O.written output)
+            (log_state (T.written log.parts.tracing.device) (T.failures log.parts.tracing.device)
+            log.parts.tracing.failed log.parts.tracing.required (O.written log.parts.output) log.parts.shown
+            log.parts.heard)) }
         ensures may { IfOk result (λ log. MayObserve log.parts.shown log.parts.heard) }
         ensures tracing { IfOk result (λ log. log.parts.tracing ≡ tracing) }
     {
@@ -92,9 +98,14 @@ impl<T: Sink + Drop, O: Sink + Drop> TapLog<T, O> {
     /// Observes that the line has ended, shows what is cut off there, and writes the books.
     pub(crate) fn finish(self, alloc: Global) -> Found<T, O>
         requires { MayObserve self.parts.shown self.parts.heard }
-        ensures found { (r : Reading) (trace : List ℕ) (first held : Option (List ℕ)) → HasObserved r trace first held (log_state (T.written self.parts.tracing.device) (T.failures self.parts.tracing.device) self.parts.tracing.failed self.parts.tracing.required (O.written self.parts.output) self.parts.shown self.parts.heard)
-            → HasFound r (trace ++ (codes "!" ++ 10 ∷ [])) first held result.tracing.failed (T.written result.tracing.device) (O.written result.output) result.shown result.audited }
-        ensures failed { FailsOnlyIf self.parts.tracing.failed result.tracing.failed (T.failures self.parts.tracing.device) (T.failures result.tracing.device) }
+        ensures found { (r : Reading) (trace : List ℕ) (first held : Option (List ℕ)) → HasObserved r trace first held
+            (log_state (T.written self.parts.tracing.device) (T.failures self.parts.tracing.device)
+            self.parts.tracing.failed self.parts.tracing.required (O.written self.parts.output) self.parts.shown
+            self.parts.heard)
+            → HasFound r (trace ++ (codes "!" ++ 10 ∷ [])) first held result.tracing.failed
+            (T.written result.tracing.device) (O.written result.output) result.shown result.audited }
+        ensures failed { FailsOnlyIf self.parts.tracing.failed result.tracing.failed
+            (T.failures self.parts.tracing.device) (T.failures result.tracing.device) }
     {
         let TapLog {
             mut parts,
@@ -123,8 +134,10 @@ impl<T: Sink, O: Sink> Observer for TapLog<T, O> {
     ghost use Rattle.zvt_tap.specs.Observing.{observes_more, observes_nothing};
 
     ghost observes = { λ old text new. Observes
-        (log_state (T.written old.parts.tracing.device) (T.failures old.parts.tracing.device) old.parts.tracing.failed old.parts.tracing.required (O.written old.parts.output) old.parts.shown old.parts.heard) text
-        (log_state (T.written new.parts.tracing.device) (T.failures new.parts.tracing.device) new.parts.tracing.failed new.parts.tracing.required (O.written new.parts.output) new.parts.shown new.parts.heard) };
+        (log_state (T.written old.parts.tracing.device) (T.failures old.parts.tracing.device) old.parts.tracing.failed
+        old.parts.tracing.required (O.written old.parts.output) old.parts.shown old.parts.heard) text
+        (log_state (T.written new.parts.tracing.device) (T.failures new.parts.tracing.device) new.parts.tracing.failed
+        new.parts.tracing.required (O.written new.parts.output) new.parts.shown new.parts.heard) };
 
     ghost is_stopped = { λ log. log.parts.tracing.failed && log.parts.tracing.required };
 

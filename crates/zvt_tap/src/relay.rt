@@ -1,5 +1,6 @@
 //! Forwards bytes from each side of a line to the other.
-ghost use Rattle.std.specs.Prelude.{◌≡◌, ◌≤◌, ◌+◌, ◌++◌, [], ℕ, Bool, false, true, List, MatchOption, MatchResult, length};
+ghost use Rattle.std.specs.Prelude.{◌≡◌, ◌≤◌, ◌+◌, ◌++◌, [], ℕ, Bool, false, true, List, MatchOption, MatchResult};
+ghost use Rattle.std.specs.Prelude.{length};
 ghost use Rattle.zvt_recorder.specs.Recorder.{piece_text};
 ghost use Rattle.zvt_tap.specs.Chunks.{sides};
 ghost use Rattle.zvt_tap.specs.Relay.{AnswersPass, AnswersRelay, AnswersTurn, CountsFaults, Waits, ended_after};
@@ -21,11 +22,12 @@ pub trait Readiness {
     /// How often nobody could wait.
     ghost failures: { Self → ℕ };
 
-    /// Waits until bytes from a side can be read, or it has come to its end, and answers which side. `None` where nobody can
-    /// wait.
+    /// Waits until bytes from a side can be read, or it has come to its end, and answers which side. `None` where
+    /// nobody can wait.
     fn next(&mut self) -> Option<Direction>
         ensures counted { waits self.new ≡ waits self.old + 1 }
-        ensures failures { MatchOption result (failures self.new ≡ failures self.old + 1) (λ _. failures self.new ≡ failures self.old) };
+        ensures failures { MatchOption result (failures self.new ≡ failures self.old + 1)
+            (λ _. failures self.new ≡ failures self.old) };
 
     /// Hands on to the other side that no more bytes come from this one, which has come to its end.
     fn end(&mut self, from: Direction)
@@ -48,7 +50,8 @@ pub trait Observer {
     fn take(&mut self, from: Direction, bytes: &[u8]) -> Result<(), AllocError>
         requires few { length bytes.now ≤ 4096 }
         requires may { may_observe self.old }
-        ensures observed { MatchResult result (λ _. observes self.old (piece_text from bytes.now) self.new) (λ _. observes self.old [] self.new) }
+        ensures observed { MatchResult result (λ _. observes self.old (piece_text from bytes.now) self.new)
+            (λ _. observes self.old [] self.new) }
         ensures may { may_observe self.new };
 
     /// Whether the line has to end, since what it needs can't be observed any more.
@@ -59,7 +62,8 @@ pub trait Observer {
     ghost observes_nothing: { (observer : Self) → observes observer [] observer };
 
     /// One text was observed after another.
-    ghost observes_more: { (first middle last : Self) (text more : List ℕ) → observes first text middle → observes middle more last → observes first (text ++ more) last };
+    ghost observes_more: { (first middle last : Self) (text more : List ℕ) → observes first text middle
+        → observes middle more last → observes first (text ++ more) last };
 }
 
 /// The devices of both sides of a line.
@@ -71,23 +75,28 @@ pub struct Ends<R, W> {
     pub to_till: W,
 }
 
-/// Forwards everything that one side sends to the other, in chunks of at most [`MAX_CHUNK`] bytes, until both sides have
-/// closed. Each chunk is shown to the observer before it is written.
+/// Forwards everything that one side sends to the other, in chunks of at most [`MAX_CHUNK`] bytes, until both sides
+/// have closed. Each chunk is shown to the observer before it is written.
 ///
-/// Fails with `Read` or `Write` if a device fails. Fails with `Trace` if the observer demands to stop, in which case it has
-/// seen a chunk that was not forwarded. Fails with `Memory` if a chunk was neither observed nor forwarded, and with `Wait`
-/// if waiting for the devices fails, or after 2⁶⁴ − 1 waits.
+/// Fails with `Read` or `Write` if a device fails. Fails with `Trace` if the observer demands to stop, in which case it
+/// has seen a chunk that was not forwarded. Fails with `Memory` if a chunk was neither observed nor forwarded, and with
+/// `Wait` if waiting for the devices fails, or after 2⁶⁴ − 1 waits.
 pub fn run_relay<L: Readiness, R: Source, W: Sink, K: Observer>(
     line: &mut L,
     ends: &mut Ends<R, W>,
     observer: &mut K,
 ) -> Result<(), TapFault>
     requires { K.may_observe observer.old }
-    ensures relayed { AnswersRelay (λ text. K.observes observer.old text observer.new) (K.is_stopped observer.new ≡ false) (K.is_stopped observer.new ≡ true)
-        (sides (R.remaining ends.old.till) (R.remaining ends.old.terminal) (W.written ends.old.to_terminal) (W.written ends.old.to_till))
-        (sides (R.remaining ends.new.till) (R.remaining ends.new.terminal) (W.written ends.new.to_terminal) (W.written ends.new.to_till)) result }
-    ensures faults { CountsFaults (R.failures ends.old.till + R.failures ends.old.terminal) (R.failures ends.new.till + R.failures ends.new.terminal)
-        (W.failures ends.old.to_terminal + W.failures ends.old.to_till) (W.failures ends.new.to_terminal + W.failures ends.new.to_till) result }
+    ensures relayed { AnswersRelay (λ text. K.observes observer.old text observer.new)
+        (K.is_stopped observer.new ≡ false) (K.is_stopped observer.new ≡ true)
+        (sides (R.remaining ends.old.till) (R.remaining ends.old.terminal) (W.written ends.old.to_terminal)
+        (W.written ends.old.to_till))
+        (sides (R.remaining ends.new.till) (R.remaining ends.new.terminal) (W.written ends.new.to_terminal)
+        (W.written ends.new.to_till)) result }
+    ensures faults { CountsFaults (R.failures ends.old.till + R.failures ends.old.terminal)
+        (R.failures ends.new.till + R.failures ends.new.terminal)
+        (W.failures ends.old.to_terminal + W.failures ends.old.to_till)
+        (W.failures ends.new.to_terminal + W.failures ends.new.to_till) result }
     ensures waits { Waits (L.waits line.new) (L.failures line.old) (L.failures line.new) result }
     ensures may { K.may_observe observer.new }
 {
@@ -143,11 +152,16 @@ fn turn<R: Source, W: Sink, K: Observer>(
     observer: &mut K,
 ) -> Result<bool, TapFault>
     requires { K.may_observe observer.old }
-    ensures passed { AnswersTurn from (λ text. K.observes observer.old text observer.new) (observer.new ≡ observer.old) (K.is_stopped observer.new ≡ false) (K.is_stopped observer.new ≡ true)
-        (sides (R.remaining ends.old.till) (R.remaining ends.old.terminal) (W.written ends.old.to_terminal) (W.written ends.old.to_till))
-        (sides (R.remaining ends.new.till) (R.remaining ends.new.terminal) (W.written ends.new.to_terminal) (W.written ends.new.to_till)) result }
-    ensures faults { CountsFaults (R.failures ends.old.till + R.failures ends.old.terminal) (R.failures ends.new.till + R.failures ends.new.terminal)
-        (W.failures ends.old.to_terminal + W.failures ends.old.to_till) (W.failures ends.new.to_terminal + W.failures ends.new.to_till) result }
+    ensures passed { AnswersTurn from (λ text. K.observes observer.old text observer.new) (observer.new ≡ observer.old)
+        (K.is_stopped observer.new ≡ false) (K.is_stopped observer.new ≡ true)
+        (sides (R.remaining ends.old.till) (R.remaining ends.old.terminal) (W.written ends.old.to_terminal)
+        (W.written ends.old.to_till))
+        (sides (R.remaining ends.new.till) (R.remaining ends.new.terminal) (W.written ends.new.to_terminal)
+        (W.written ends.new.to_till)) result }
+    ensures faults { CountsFaults (R.failures ends.old.till + R.failures ends.old.terminal)
+        (R.failures ends.new.till + R.failures ends.new.terminal)
+        (W.failures ends.old.to_terminal + W.failures ends.old.to_till)
+        (W.failures ends.new.to_terminal + W.failures ends.new.to_till) result }
     ensures may { K.may_observe observer.new }
 {
     match from {
@@ -164,8 +178,11 @@ fn pass<R: Source, W: Sink, K: Observer>(
     observer: &mut K,
 ) -> Result<bool, TapFault>
     requires { K.may_observe observer.old }
-    ensures passed { AnswersPass from (λ text. K.observes observer.old text observer.new) (observer.new ≡ observer.old) (K.is_stopped observer.new ≡ false) (K.is_stopped observer.new ≡ true) (R.remaining reader.old) (R.remaining reader.new) (W.written writer.old) (W.written writer.new) result }
-    ensures faults { CountsFaults (R.failures reader.old) (R.failures reader.new) (W.failures writer.old) (W.failures writer.new) result }
+    ensures passed { AnswersPass from (λ text. K.observes observer.old text observer.new) (observer.new ≡ observer.old)
+        (K.is_stopped observer.new ≡ false) (K.is_stopped observer.new ≡ true) (R.remaining reader.old)
+        (R.remaining reader.new) (W.written writer.old) (W.written writer.new) result }
+    ensures faults { CountsFaults (R.failures reader.old) (R.failures reader.new) (W.failures writer.old)
+        (W.failures writer.new) result }
     ensures may { K.may_observe observer.new }
 {
     let mut buffer = [0; MAX_CHUNK];

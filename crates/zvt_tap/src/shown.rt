@@ -34,7 +34,8 @@ impl Shown {
     pub(crate) fn show<O: Sink>(&mut self, output: &mut O, text: &[u8])
         requires few { length text.now ≤ limit }
         requires may { MayFollow self.old.fault self.old.follower }
-        ensures shown { (r : Reading) (trace : List ℕ) (first : Option (List ℕ)) → HasShown r trace first (O.written output.old) self.old → HasShown r (trace ++ text.now) first (O.written output.new) self.new }
+        ensures shown { (r : Reading) (trace : List ℕ) (first : Option (List ℕ)) → HasShown r trace first
+            (O.written output.old) self.old → HasShown r (trace ++ text.now) first (O.written output.new) self.new }
         ensures may { MayFollow self.new.fault self.new.follower }
     {
         if self.fault.is_some() {
@@ -46,7 +47,8 @@ impl Shown {
     /// Shows what is cut off at the end of the trace.
     pub(crate) fn finish<O: Sink>(self, output: &mut O) -> Result<Tally, TraceFault>
         requires { MayFollow self.fault self.follower }
-        ensures { (r : Reading) (trace : List ℕ) (first : Option (List ℕ)) → HasShown r trace first (O.written output.old) self → AnswersShown r trace first (O.written output.new) result }
+        ensures { (r : Reading) (trace : List ℕ) (first : Option (List ℕ)) → HasShown r trace first
+            (O.written output.old) self → AnswersShown r trace first (O.written output.new) result }
     {
         let Shown { follower, fault } = self;
         match fault {

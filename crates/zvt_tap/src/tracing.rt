@@ -17,8 +17,11 @@ pub struct Tracing<T> {
 impl<T: Sink> Tracing<T> {
     /// Writes this text behind the trace, unless a write failed before.
     pub(crate) fn write(&mut self, text: &[u8])
-        ensures traced { (trace : List ℕ) (first : Option (List ℕ)) → HasTraced self.old.failed trace first (T.written self.old.device) → HasTraced self.new.failed (trace ++ text.now) first (T.written self.new.device) }
-        ensures failed { FailsOnlyIf self.old.failed self.new.failed (T.failures self.old.device) (T.failures self.new.device) }
+        ensures traced { (trace : List ℕ) (first : Option (List ℕ)) → HasTraced self.old.failed trace first
+            (T.written self.old.device) → HasTraced self.new.failed (trace ++ text.now) first
+            (T.written self.new.device) }
+        ensures failed { FailsOnlyIf self.old.failed self.new.failed (T.failures self.old.device)
+            (T.failures self.new.device) }
         ensures required { self.new.required ≡ self.old.required }
     {
         if self.failed {

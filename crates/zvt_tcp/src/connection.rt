@@ -112,7 +112,8 @@ impl Door {
 
     /// The terminal's end of the next connection, for which it waits as long as it takes.
     pub fn next(&mut self) -> Result<TcpStream, NetFault>
-        ensures { MatchResult result (λ _. given_by self.new ≡ given_by self.old + 1) (λ _. given_by self.new ≡ given_by self.old) }
+        ensures { MatchResult result (λ _. given_by self.new ≡ given_by self.old + 1)
+            (λ _. given_by self.new ≡ given_by self.old) }
     {
         match accept_next(&self.listener) {
             Ok(end) => {

@@ -70,7 +70,8 @@ pub(crate) fn till_end_of<'a>(
     trace: Option<&'a File>,
 ) -> Result<TcpEnd<'a>, AllocError>
     ensures start { IfOk result (λ end. end.stream ≡ start_in (reading_of lengths)) }
-    ensures sides { IfOk result (λ end. (end.reader.from ≡ Direction.FromTerminal) × (end.writer.from ≡ Direction.FromTill)) }
+    ensures sides { IfOk result (λ end. (end.reader.from ≡ Direction.FromTerminal)
+        × (end.writer.from ≡ Direction.FromTill)) }
 {
     Ok(Endpoint {
         reader: tcp_device(alloc, Direction::FromTerminal, connection, trace)?,
@@ -79,7 +80,8 @@ pub(crate) fn till_end_of<'a>(
     })
 }
 
-/// The till's end at its start. What is read comes from the terminal and may be shown, and what is written from the till.
+/// The till's end at its start. What is read comes from the terminal and may be shown, and what is written from the
+/// till.
 pub(crate) fn till_line_of<'a>(
     alloc: Global,
     connection: &'a TcpStream,
@@ -88,7 +90,8 @@ pub(crate) fn till_line_of<'a>(
     shown: Option<Shown<Stderr>>,
 ) -> Result<TillLine<'a>, AllocError>
     ensures start { IfOk result (λ end. end.stream ≡ start_in (reading_of lengths)) }
-    ensures sides { IfOk result (λ end. (end.reader.from ≡ Direction.FromTerminal) × (end.writer.from ≡ Direction.FromTill)) }
+    ensures sides { IfOk result (λ end. (end.reader.from ≡ Direction.FromTerminal)
+        × (end.writer.from ≡ Direction.FromTill)) }
 {
     let shown_trace = ShownTrace {
         trace: Over::new(TraceFile { file: trace }),
@@ -110,7 +113,8 @@ pub(crate) fn terminal_end_of<'a>(
     trace: Option<&'a File>,
 ) -> Result<TcpEnd<'a>, AllocError>
     ensures start { IfOk result (λ end. end.stream ≡ start_in (reading_of lengths)) }
-    ensures sides { IfOk result (λ end. (end.reader.from ≡ Direction.FromTill) × (end.writer.from ≡ Direction.FromTerminal)) }
+    ensures sides { IfOk result (λ end. (end.reader.from ≡ Direction.FromTill)
+        × (end.writer.from ≡ Direction.FromTerminal)) }
 {
     Ok(Endpoint {
         reader: tcp_device(alloc, Direction::FromTill, connection, trace)?,
@@ -134,8 +138,8 @@ fn tcp_device<'a>(
     Recorded::new(alloc, from, socket, trace)
 }
 
-/// Ends the trace of the line, and answers whether it lacks something: a piece that was read, one that was to be written,
-/// or its end.
+/// Ends the trace of the line, and answers whether it lacks something: a piece that was read, one that was to be
+/// written, or its end.
 pub(crate) fn is_broken<'a, T>(
     end: &Endpoint<TracedSocket<'a, T>, TcpDevice<'a>>,
     trace: Option<&File>,

@@ -6,8 +6,8 @@ use zvt_json::Form;
 use zvt_session::{Planned, StepOptions};
 use zvt_term::Verdict;
 
-/// The run of a till: the terminal that it connects to, its steps, how its line is read, traced and shown, and how its steps
-/// are reported.
+/// The run of a till: the terminal that it connects to, its steps, how its line is read, traced and shown, and how its
+/// steps are reported.
 #[derive(Clone, Copy)]
 pub struct TillRun<'a, 'f> {
     /// The name or address of the terminal's host.

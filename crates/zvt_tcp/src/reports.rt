@@ -3,7 +3,8 @@ ghost use Rattle.std.specs.Prelude.{◌≡◌, [], ◌∷◌, ◌++◌, Some, If
 ghost use Rattle.serde_json.specs.View.{view};
 ghost use Rattle.zvt_json.specs.Strings.{line_text};
 ghost use Rattle.zvt_session.specs.Reporting.{Reports};
-ghost use Rattle.zvt_tcp.specs.Reporting.{IsReport, SaysGone, ReportsGone, approvals, failed_value, gone_value, ledger_text};
+ghost use Rattle.zvt_tcp.specs.Reporting.{IsReport, SaysGone, ReportsGone, approvals, failed_value, gone_value};
+ghost use Rattle.zvt_tcp.specs.Reporting.{ledger_text};
 
 use crate::rows::say_rows;
 use serde_json::{Value, json};
@@ -45,8 +46,8 @@ pub(crate) struct GoneTill {
 }
 
 /// Reports in this form the rows that the ledger got from a till. Then it reports that the till disconnected, how its
-/// connection failed, if it did, and how many approvals the terminal's ledger has. A device that fails is no fault of the
-/// service.
+/// connection failed, if it did, and how many approvals the terminal's ledger has. A device that fails is no fault of
+/// the service.
 pub(crate) fn report_till<W: Sink>(
     alloc: Global,
     form: Form,
@@ -54,7 +55,8 @@ pub(crate) fn report_till<W: Sink>(
     terminal: &Terminal,
     report: &mut W,
 ) -> Result<(), AllocError>
-    ensures { OnOk result (ReportsGone form till.now.number till.now.broke till.now.rows_before terminal.now.ledger (W.written report.old) (W.written report.new) (W.failures report.old) (W.failures report.new)) }
+    ensures { OnOk result (ReportsGone form till.now.number till.now.broke till.now.rows_before terminal.now.ledger
+        (W.written report.old) (W.written report.new) (W.failures report.old) (W.failures report.new)) }
 {
     let ledger = terminal.ledger();
     let mut text = Text::new(alloc);
@@ -162,7 +164,8 @@ pub(crate) fn line(alloc: Global, word: &str) -> Result<Text, AllocError>
 
 /// Reports a text. A device that fails is no fault.
 fn report_text<W: Sink>(text: &Text, report: &mut W)
-    ensures { Reports text.now (W.written report.old) (W.written report.new) (W.failures report.old) (W.failures report.new) }
+    ensures { Reports text.now (W.written report.old) (W.written report.new) (W.failures report.old)
+        (W.failures report.new) }
 {
     let _ = report.write_all(text.bytes());
 }

@@ -2,7 +2,8 @@
 ghost use Rattle.std.specs.Prelude.{◌≡◌, ◌++◌, IfOk, OnOk};
 ghost use Rattle.serde_json.specs.View.{view};
 ghost use Rattle.zvt_json.specs.Strings.{line_text};
-ghost use Rattle.zvt_tcp.specs.LedgerRows.{approved_text, approved_value, reversed_text, reversed_value, row_line, rows_text};
+ghost use Rattle.zvt_tcp.specs.LedgerRows.{approved_text, approved_value, reversed_text, reversed_value, row_line};
+ghost use Rattle.zvt_tcp.specs.LedgerRows.{rows_text};
 
 use crate::reports::line;
 use serde_json::{Value, json};

@@ -20,8 +20,8 @@ use zvt_io::Sink;
 use zvt_session::{EndFault, NoteSource, StepRun, run_both_ends, run_till_end};
 use zvt_till::Keeper;
 
-/// Runs the steps between a till, alone or with a book, and a terminal that are both in this process. It listens at a free
-/// port of 127.0.0.1 and connects to itself. The trace has what the till heard and sent.
+/// Runs the steps between a till, alone or with a book, and a terminal that are both in this process. It listens at a
+/// free port of 127.0.0.1 and connects to itself. The trace has what the till heard and sent.
 ///
 /// `Net` comes before anything is written, reported or recorded. [`run_both_ends`] says what else is answered.
 pub fn run_loop<R, K, N, W, E>(
@@ -39,8 +39,12 @@ where
     N: NoteSource<K>,
     W: Sink,
     E: Sink,
-    ensures run { AnswersOverTcp K.connects K.failed K.till (noting N.noted (MakesHere K.orders K.hears K.is_resting K.failed K.till K.loses K.malforms)) BeginsHere run.now.options run.now.plan.now till.old till.new (W.written writer.old) (W.written writer.new)
-        (ReportsRun (E.written report.old) (E.written report.new) (E.failures report.old) (E.failures report.new)) (ReportsNothing (E.written report.old) (E.written report.new) (E.failures report.old) (E.failures report.new)) result }
+    ensures run { AnswersOverTcp K.connects K.failed K.till
+        (noting N.noted (MakesHere K.orders K.hears K.is_resting K.failed K.till K.loses K.malforms)) BeginsHere
+        run.now.options run.now.plan.now till.old till.new (W.written writer.old) (W.written writer.new)
+        (ReportsRun (E.written report.old) (E.written report.new) (E.failures report.old) (E.failures report.new))
+        (ReportsNothing (E.written report.old) (E.written report.new) (E.failures report.old)
+        (E.failures report.new)) result }
     ensures write { result ≡ Err EndFault.Write → W.failures writer.old < W.failures writer.new }
 {
     let steps = StepRun {
@@ -54,13 +58,13 @@ where
     by_trace(is_broken(&line.till, run.trace), answer)
 }
 
-/// Connects a till, alone or with a book, to its terminal, and runs the steps. Each order has 100,000 reads. The trace has
-/// what the till heard and sent: a line for each read and each write, and `!` at the end. A trace that can't be written ends
-/// the run with `Trace`. The messages of the terminal may be shown as they come; text that can't be shown is no fault of the
-/// run.
+/// Connects a till, alone or with a book, to its terminal, and runs the steps. Each order has 100,000 reads. The trace
+/// has what the till heard and sent: a line for each read and each write, and `!` at the end. A trace that can't be
+/// written ends the run with `Trace`. The messages of the terminal may be shown as they come; text that can't be shown
+/// is no fault of the run.
 ///
-/// `Net` comes before anything is written, reported or recorded. `Silent` comes where a read waited for the seconds of the
-/// run. [`run_till_end`] says what else is answered.
+/// `Net` comes before anything is written, reported or recorded. `Silent` comes where a read waited for the seconds of
+/// the run. [`run_till_end`] says what else is answered.
 pub fn run_till<R, K, N, W, E>(
     rt: &R,
     alloc: Global,
@@ -76,8 +80,13 @@ where
     N: NoteSource<K>,
     W: Sink,
     E: Sink,
-    ensures run { AnswersOverTcp K.connects K.failed K.till (noting N.noted (MakesThere K.orders K.hears K.is_resting K.failed K.till K.loses K.malforms)) (BeginsThere (reading_of run.now.lengths)) run.now.options run.now.plan.now till.old till.new (W.written writer.old) (W.written writer.new)
-        (ReportsRun (E.written report.old) (E.written report.new) (E.failures report.old) (E.failures report.new)) (ReportsNothing (E.written report.old) (E.written report.new) (E.failures report.old) (E.failures report.new)) result }
+    ensures run { AnswersOverTcp K.connects K.failed K.till
+        (noting N.noted (MakesThere K.orders K.hears K.is_resting K.failed K.till K.loses K.malforms))
+        (BeginsThere (reading_of run.now.lengths)) run.now.options run.now.plan.now till.old till.new
+        (W.written writer.old) (W.written writer.new)
+        (ReportsRun (E.written report.old) (E.written report.new) (E.failures report.old) (E.failures report.new))
+        (ReportsNothing (E.written report.old) (E.written report.new) (E.failures report.old)
+        (E.failures report.new)) result }
     ensures write { result ≡ Err EndFault.Write → W.failures writer.old < W.failures writer.new }
 {
     let steps = StepRun {

@@ -26,9 +26,9 @@ use zvt_term::{Served, Terminal};
 /// `Net` ends the service where the port can't be had, or where no connection can be taken. `Trace` ends it where the
 /// trace can't be written, and `Memory` where a till can't be begun with or reported.
 ///
-/// The trace has what the terminal heard and answered, as the till sees it. `report` gets the address at which the terminal
-/// listens. For each till that disconnects it gets the rows that the ledger got from it, and the number of approvals in the
-/// ledger. All come in the form of the run.
+/// The trace has what the terminal heard and answered, as the till sees it. `report` gets the address at which the
+/// terminal listens. For each till that disconnects it gets the rows that the ledger got from it, and the number of
+/// approvals in the ledger. All come in the form of the run.
 pub fn run_terminal<R, W>(
     rt: &R,
     alloc: Global,

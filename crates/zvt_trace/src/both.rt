@@ -14,7 +14,8 @@ impl<A: Listener, B: Listener> Listener for Both<A, B> {
 
     ghost hears = { λ old event new. BothHear A.hears B.hears event old.first old.second new.first new.second };
 
-    ghost fails = { λ old event failure new. OneFails A.hears A.fails B.fails event failure old.first old.second new.first new.second };
+    ghost fails = { λ old event failure new. OneFails A.hears A.fails B.fails event failure old.first old.second
+        new.first new.second };
 
     #[inline(always)]
     fn hear(&mut self, number: u64, trace_event: &TraceEvent<'_>) -> Result<(), ListenerError> {

@@ -2,7 +2,8 @@
 ghost use Rattle.std.specs.Prelude.{◌≡◌, ◌≤◌, ◌+◌, ◌++◌, [], ℕ, List, length, IfErr, OnOk};
 ghost use Rattle.std.specs.Str.Lines.{lines};
 ghost use Rattle.zvt_grammar.specs.Lengths.{reading_of};
-ghost use Rattle.zvt_trace.specs.Chunks.{AnswersFeed, AnswersRead, HasNoEnd, HasRead, IsEnd, IsHeldFault, IsReady, ReadTo, walker_reading, walker_scope};
+ghost use Rattle.zvt_trace.specs.Chunks.{AnswersFeed, AnswersRead, HasNoEnd, HasRead, IsEnd, IsHeldFault, IsReady};
+ghost use Rattle.zvt_trace.specs.Chunks.{ReadTo, walker_reading, walker_scope};
 ghost use Rattle.zvt_trace.specs.Listening.{AnswersFrom, IsSound, most};
 ghost use Rattle.zvt_trace.specs.TraceEvent.{At};
 ghost use Rattle.zvt_trace.specs.Written.{limit};
@@ -47,7 +48,9 @@ impl Walker {
     pub fn feed<L: Listener>(&mut self, listener: &mut L, chunk: &[u8]) -> Result<(), TraceFault>
         requires ready { IsReady self.old }
         requires few { length chunk.now ≤ limit }
-        ensures reads { (bytes : List ℕ) (earlier : List At) → HasRead (walker_reading self.old) (walker_scope self.old) bytes earlier self.old → AnswersFeed (walker_reading self.old) L.hears L.fails (walker_scope self.old) (bytes ++ chunk.now) earlier self.new listener.old listener.new result }
+        ensures reads { (bytes : List ℕ) (earlier : List At) → HasRead (walker_reading self.old) (walker_scope self.old)
+            bytes earlier self.old → AnswersFeed (walker_reading self.old) L.hears L.fails (walker_scope self.old)
+            (bytes ++ chunk.now) earlier self.new listener.old listener.new result }
         ensures ready { OnOk result (IsReady self.new) }
         ensures reading { walker_reading self.new ≡ walker_reading self.old }
         ensures scope { walker_scope self.new ≡ walker_scope self.old }
@@ -73,7 +76,9 @@ impl Walker {
     /// tally.
     pub fn finish<L: Listener>(self, listener: &mut L) -> Result<Tally, TraceFault>
         requires ready { IsReady self }
-        ensures { (bytes : List ℕ) (earlier : List At) → HasRead (walker_reading self) (walker_scope self) bytes earlier self → AnswersFrom (walker_reading self) L.hears L.fails (walker_scope self) (lines bytes) earlier listener.old listener.new result }
+        ensures { (bytes : List ℕ) (earlier : List At) → HasRead (walker_reading self) (walker_scope self) bytes earlier
+            self → AnswersFrom (walker_reading self) L.hears L.fails (walker_scope self) (lines bytes) earlier
+            listener.old listener.new result }
     {
         let Walker {
             mut progress,
@@ -88,10 +93,14 @@ impl Walker {
         requires ready { IsReady self.old }
         requires fits { self.old.progress.size + (length self.old.begun.items + length end.now) ≤ most }
         requires line { IsEnd end.now }
-        ensures reads { (bytes rest : List ℕ) (earlier : List At) → ReadTo (walker_reading self.old) (walker_scope self.old) bytes (self.old.begun.items ++ (end.now ++ rest)) earlier self.old.progress → HasNoEnd self.old.begun.items → AnswersRead (walker_reading self.old) L.hears L.fails (walker_scope self.old) bytes rest earlier self.new.progress listener.old listener.new result }
+        ensures reads { (bytes rest : List ℕ) (earlier : List At) → ReadTo (walker_reading self.old)
+            (walker_scope self.old) bytes (self.old.begun.items ++ (end.now ++ rest)) earlier self.old.progress
+            → HasNoEnd self.old.begun.items → AnswersRead (walker_reading self.old) L.hears L.fails
+            (walker_scope self.old) bytes rest earlier self.new.progress listener.old listener.new result }
         ensures empty { OnOk result (self.new.begun.items ≡ []) }
         ensures sound { OnOk result (IsSound self.new.progress) }
-        ensures size { OnOk result (self.new.progress.size ≤ self.old.progress.size + (length self.old.begun.items + length end.now)) }
+        ensures size { OnOk result (self.new.progress.size ≤ self.old.progress.size +
+            (length self.old.begun.items + length end.now)) }
         ensures options { self.new.progress.options ≡ self.old.progress.options }
     {
         self.hold(end)?;
@@ -105,7 +114,9 @@ impl Walker {
         requires sound { IsSound self.old.progress }
         requires fits { self.old.progress.size + length chunk.now ≤ most }
         requires none { self.old.begun.items ≡ [] }
-        ensures reads { (bytes : List ℕ) (earlier : List At) → ReadTo (walker_reading self.old) (walker_scope self.old) bytes chunk.now earlier self.old.progress → AnswersFeed (walker_reading self.old) L.hears L.fails (walker_scope self.old) bytes earlier self.new listener.old listener.new result }
+        ensures reads { (bytes : List ℕ) (earlier : List At) → ReadTo (walker_reading self.old) (walker_scope self.old)
+            bytes chunk.now earlier self.old.progress → AnswersFeed (walker_reading self.old) L.hears L.fails
+            (walker_scope self.old) bytes earlier self.new listener.old listener.new result }
         ensures ready { OnOk result (IsReady self.new) }
         ensures options { self.new.progress.options ≡ self.old.progress.options }
     {

@@ -23,8 +23,8 @@ pub struct Line {
 }
 
 impl Line {
-    /// Creates a line on which nothing was sent. A refusal leaves as much unread as the scope says. The messages have such
-    /// lengths.
+    /// Creates a line on which nothing was sent. A refusal leaves as much unread as the scope says. The messages have
+    /// such lengths.
     pub fn new(alloc: Global, scope: Scope, lengths: Lengths) -> Line
         ensures stands { Stands result new_line }
         ensures reading { line_reading result ≡ reading_of lengths }
@@ -41,7 +41,8 @@ impl Line {
         }
     }
 
-    /// Emits the events of bytes that this side sent at once, with this number. After a fault, do not use the line again.
+    /// Emits the events of bytes that this side sent at once, with this number. After a fault, do not use the line
+    /// again.
     pub fn take<L: Listener>(
         &mut self,
         listener: &mut L,
@@ -50,7 +51,9 @@ impl Line {
         bytes: &[u8],
     ) -> Result<(), ListenerError>
         requires { IsLine self.old }
-        ensures emits { (sides : Sides) → Stands self.old sides → EmitsLine (line_reading self.old) L.hears L.fails (line_scope self.old) number (meaning.piece from bytes.now) sides self.new.sides listener.old listener.new result }
+        ensures emits { (sides : Sides) → Stands self.old sides → EmitsLine (line_reading self.old) L.hears L.fails
+            (line_scope self.old) number (meaning.piece from bytes.now) sides self.new.sides listener.old
+            listener.new result }
         ensures sound { OnOk result (IsLine self.new) }
         ensures options { self.new.options ≡ self.old.options }
     {
@@ -62,10 +65,11 @@ impl Line {
             .feed_piece(listener, &self.options, number, from, piece)
     }
 
-    /// Emits which messages are cut off because the connection was lost, and that it was, with this number. Both sides begin
-    /// anew.
+    /// Emits which messages are cut off because the connection was lost, and that it was, with this number. Both sides
+    /// begin anew.
     pub fn lose<L: Listener>(&mut self, listener: &mut L, number: u64) -> Result<(), ListenerError>
-        ensures emits { (sides : Sides) → Stands self.old sides → EmitsLine (line_reading self.old) L.hears L.fails (line_scope self.old) number meaning.lost sides self.new.sides listener.old listener.new result }
+        ensures emits { (sides : Sides) → Stands self.old sides → EmitsLine (line_reading self.old) L.hears L.fails
+            (line_scope self.old) number meaning.lost sides self.new.sides listener.old listener.new result }
         ensures sound { OnOk result (IsLine self.new) }
         ensures options { self.new.options ≡ self.old.options }
     {
@@ -74,7 +78,8 @@ impl Line {
 
     /// Emits which messages are cut off because no more is to come, with this number.
     pub fn finish<L: Listener>(&self, listener: &mut L, number: u64) -> Result<(), ListenerError>
-        ensures emits { (sides : Sides) → Stands self.now sides → EmitsEnd L.hears L.fails (LineEnds (line_reading self.now) number sides) 2 listener.old listener.new result }
+        ensures emits { (sides : Sides) → Stands self.now sides → EmitsEnd L.hears L.fails
+            (LineEnds (line_reading self.now) number sides) 2 listener.old listener.new result }
     {
         self.sides.emit_end(listener, number)
     }

@@ -1,5 +1,6 @@
 //! Emits to a listener what one side of the line sends.
-ghost use Rattle.std.specs.Prelude.{◌≡◌, ◌<◌, ◌≤◌, ◌+◌, ◌++◌, List, ℕ, suc, length, slice_index, false, true, Some, IfOk, OnOk, MatchResult};
+ghost use Rattle.std.specs.Prelude.{◌≡◌, ◌<◌, ◌≤◌, ◌+◌, ◌++◌, List, ℕ, suc, length, slice_index, false, true, Some};
+ghost use Rattle.std.specs.Prelude.{IfOk, OnOk, MatchResult};
 ghost use Rattle.zvt_grammar.specs.Reading.{Reading};
 ghost use Rattle.zvt_grammar.specs.Lengths.{reading_of};
 ghost use Rattle.zvt_apdu.specs.Message.{Message};
@@ -69,9 +70,12 @@ pub(crate) fn emit_refusal<L: Listener>(
     why: Why,
 ) -> Result<(), ListenerError>
     requires some { 0 < length bytes.now }
-    ensures { (held : List ℕ) → IsOpening reader.now.opening held → suc place ≡ length (held ++ bytes.now) → MatchResult result
-        (λ _. L.hears listener.old (on line (trace_event.refused from (head_of (held ++ bytes.now)) (slice_index (held ++ bytes.now) place) place why)) listener.new)
-        (λ failure. L.fails listener.old (on line (trace_event.refused from (head_of (held ++ bytes.now)) (slice_index (held ++ bytes.now) place) place why)) failure listener.new) }
+    ensures { (held : List ℕ) → IsOpening reader.now.opening held → suc place ≡ length (held ++ bytes.now)
+        → MatchResult result
+        (λ _. L.hears listener.old (on line (trace_event.refused from (head_of (held ++ bytes.now))
+        (slice_index (held ++ bytes.now) place) place why)) listener.new)
+        (λ failure. L.fails listener.old (on line (trace_event.refused from (head_of (held ++ bytes.now))
+        (slice_index (held ++ bytes.now) place) place why)) failure listener.new) }
 {
     let head = reader.opening.head().before(bytes);
     let refusal = Refusal {
@@ -110,8 +114,10 @@ pub(crate) fn emit_resumed<L: Listener>(
 ) -> Result<bool, ListenerError>
     requires reading { reader.old.stream.reading ≡ reading_of options.now.lengths }
     ensures reading { OnOk result (ReadsBy (reading_of options.now.lengths) reader.new) }
-    ensures rest { (size left : ℕ) → SkipsTo reader.old size left → EmitsRest (reading_of options.now.lengths) L.hears L.fails line from size left reader.new listener.old listener.new result }
-    ensures none { is_everything reader.old.skipped ≡ true → StaysSilent L.hears reader.old reader.new listener.old listener.new result }
+    ensures rest { (size left : ℕ) → SkipsTo reader.old size left → EmitsRest (reading_of options.now.lengths) L.hears
+        L.fails line from size left reader.new listener.old listener.new result }
+    ensures none { is_everything reader.old.skipped ≡ true → StaysSilent L.hears reader.old reader.new listener.old
+        listener.new result }
 {
     match reader.skipped {
         Skipped::Rest { size, left } => {
@@ -135,7 +141,8 @@ pub(crate) fn emit_truncation<L: Listener>(
     from: Direction,
     stream: &Stream,
 ) -> Result<(), ListenerError>
-    ensures { (r : Reading) (side : Side) → StreamFollows r stream.now side → EmitsEnd L.hears L.fails (SideEnds r line from side) 1 listener.old listener.new result }
+    ensures { (r : Reading) (side : Side) → StreamFollows r stream.now side → EmitsEnd L.hears L.fails
+        (SideEnds r line from side) 1 listener.old listener.new result }
 {
     match stream.finish() {
         Ok(()) => Ok(()),

@@ -43,7 +43,9 @@ fn feed_next<'b, L: Listener>(
 ) -> Result<Next<'b>, ListenerError>
     requires reading { ReadsBy (reading_of options.now.lengths) reader.old }
     ensures reading { OnOk result (ReadsBy (reading_of options.now.lengths) reader.new) }
-    ensures emits { (side : Side) → Follows (reading_of options.now.lengths) reader.old side → EmitsFirst (reading_of options.now.lengths) L.hears L.fails options.now.scope line from side bytes.now reader.new listener.old listener.new result }
+    ensures emits { (side : Side) → Follows (reading_of options.now.lengths) reader.old side
+        → EmitsFirst (reading_of options.now.lengths) L.hears L.fails options.now.scope line from side bytes.now
+        reader.new listener.old listener.new result }
     ensures less { IfOk result (λ next. 0 < length next.rest.now → length next.rest.now < length bytes.now) }
 {
     let held = reader.stream.held();
@@ -89,7 +91,9 @@ fn feed_bytes<L: Listener>(
 ) -> Result<bool, ListenerError>
     requires reading { ReadsBy (reading_of options.now.lengths) reader.old }
     ensures reading { OnOk result (ReadsBy (reading_of options.now.lengths) reader.new) }
-    ensures emits { (side : Side) → Follows (reading_of options.now.lengths) reader.old side → EmitsBytes (reading_of options.now.lengths) L.hears L.fails options.now.scope line from side bytes.now reader.new listener.old listener.new result }
+    ensures emits { (side : Side) → Follows (reading_of options.now.lengths) reader.old side
+        → EmitsBytes (reading_of options.now.lengths) L.hears L.fails options.now.scope line from side bytes.now
+        reader.new listener.old listener.new result }
 {
     let mut any = false;
     let mut rest = bytes;
@@ -114,7 +118,9 @@ fn feed_parts<L: Listener>(
     requires reading { ReadsBy (reading_of options.now.lengths) reader.old }
     requires spelled { SpellsBytes piece.undecoded.now }
     ensures reading { OnOk result (ReadsBy (reading_of options.now.lengths) reader.new) }
-    ensures emits { (side : Side) → Follows (reading_of options.now.lengths) reader.old side → EmitsBytes (reading_of options.now.lengths) L.hears L.fails options.now.scope line from side (bytes_in piece.entry) reader.new listener.old listener.new result }
+    ensures emits { (side : Side) → Follows (reading_of options.now.lengths) reader.old side
+        → EmitsBytes (reading_of options.now.lengths) L.hears L.fails options.now.scope line from side
+        (bytes_in piece.entry) reader.new listener.old listener.new result }
 {
     let mut any = feed_bytes(listener, options, line, from, reader, piece.bytes)?;
     let mut buffer = [0; CHUNK];
@@ -143,7 +149,9 @@ fn feed_any_piece<L: Listener>(
     requires reading { ReadsBy (reading_of options.now.lengths) reader.old }
     requires spelled { SpellsBytes piece.undecoded.now }
     ensures reading { OnOk result (ReadsBy (reading_of options.now.lengths) reader.new) }
-    ensures emits { (side : Side) → Follows (reading_of options.now.lengths) reader.old side → EmitsPiece (reading_of options.now.lengths) L.hears L.fails options.now.scope line from side (bytes_in piece.entry) reader.new listener.old listener.new result }
+    ensures emits { (side : Side) → Follows (reading_of options.now.lengths) reader.old side
+        → EmitsPiece (reading_of options.now.lengths) L.hears L.fails options.now.scope line from side
+        (bytes_in piece.entry) reader.new listener.old listener.new result }
 {
     let reads = reader.reads();
     let any = feed_parts(listener, options, line, from, reader, piece)?;
@@ -166,7 +174,9 @@ fn feed_piece<L: Listener>(
     requires reading { ReadsBy (reading_of options.now.lengths) reader.old }
     requires spelled { SpellsBytes piece.undecoded.now }
     ensures reading { OnOk result (ReadsBy (reading_of options.now.lengths) reader.new) }
-    ensures emits { (side : Side) → Follows (reading_of options.now.lengths) reader.old side → EmitsPiece (reading_of options.now.lengths) L.hears L.fails options.now.scope line from side (bytes_in piece.entry) reader.new listener.old listener.new result }
+    ensures emits { (side : Side) → Follows (reading_of options.now.lengths) reader.old side
+        → EmitsPiece (reading_of options.now.lengths) L.hears L.fails options.now.scope line from side
+        (bytes_in piece.entry) reader.new listener.old listener.new result }
 {
     if !piece.undecoded.is_empty() {
         return feed_any_piece(listener, options, line, from, reader, piece);
@@ -178,8 +188,8 @@ fn feed_piece<L: Listener>(
     Ok(())
 }
 
-/// Emits the events of a piece of a side, and what its refusal cuts off of the other side. Returns whether neither side is
-/// read any more.
+/// Emits the events of a piece of a side, and what its refusal cuts off of the other side. Returns whether neither side
+/// is read any more.
 #[inline(always)]
 pub(crate) fn feed_side<L: Listener>(
     listener: &mut L,
@@ -193,7 +203,10 @@ pub(crate) fn feed_side<L: Listener>(
     requires reading { ReadsBy (reading_of options.now.lengths) reader.old }
     requires spelled { SpellsBytes piece.undecoded.now }
     ensures reading { OnOk result (ReadsBy (reading_of options.now.lengths) reader.new) }
-    ensures emits { (side beside : Side) → Follows (reading_of options.now.lengths) reader.old side → Follows (reading_of options.now.lengths) other.now beside → EmitsThere (reading_of options.now.lengths) L.hears L.fails options.now.scope line from side beside (bytes_in piece.entry) reader.new other.now listener.old listener.new result }
+    ensures emits { (side beside : Side) → Follows (reading_of options.now.lengths) reader.old side
+        → Follows (reading_of options.now.lengths) other.now beside → EmitsThere (reading_of options.now.lengths)
+        L.hears L.fails options.now.scope line from side beside (bytes_in piece.entry) reader.new other.now listener.old
+        listener.new result }
 {
     feed_piece(listener, options, line, from, reader, piece)?;
     if reader.has_stopped() && options.scope == Scope::WholeLine {

@@ -14,7 +14,8 @@ pub(crate) const LIMIT: usize = 16_777_216;
 /// All that the reader gives, which is read to its end or to the first byte past the limit.
 pub fn read_trace<R: Source>(alloc: Global, reader: &mut R) -> Result<Vec<u8>, TraceFault>
     ensures trace { ReadsTrace (R.remaining reader.old) result }
-    ensures taken { (taken : List ℕ) × (length taken ≤ limit + 1) × Consumes (R.remaining reader.old) (R.remaining reader.new) taken }
+    ensures taken { (taken : List ℕ) × (length taken ≤ limit + 1) × Consumes (R.remaining reader.old)
+        (R.remaining reader.new) taken }
     ensures failed { result ≡ Err TraceFault.Read → R.failures reader.old < R.failures reader.new }
     ensures bound { IfOk result (λ trace. vec_len trace ≤ limit) }
 {
@@ -40,7 +41,8 @@ fn read_piece<R: Source>(
     trace: &mut Vec<u8>,
 ) -> Result<usize, TraceFault>
     requires { 0 < length buffer.old }
-    ensures piece { ReadsPiece (length buffer.old) (R.remaining reader.old) (R.remaining reader.new) trace.old.items trace.new.items result }
+    ensures piece { ReadsPiece (length buffer.old) (R.remaining reader.old) (R.remaining reader.new) trace.old.items
+        trace.new.items result }
     ensures failed { result ≡ Err TraceFault.Read → R.failures reader.old < R.failures reader.new }
     ensures counted { IfOk result (λ _. R.failures reader.new ≡ R.failures reader.old) }
 {

@@ -1,7 +1,7 @@
 //! Traces of the line between a till and its terminal.
 //!
-//! [`read_trace`] reads one whole. [`walk`] emits to a [`Listener`] all that it says, line by line. A [`Walker`] is fed a
-//! trace chunk by chunk, as [`read_chunk`] brings it. A [`Line`] takes the bytes themselves, with no trace.
+//! [`read_trace`] reads one whole. [`walk`] emits to a [`Listener`] all that it says, line by line. A [`Walker`] is fed
+//! a trace chunk by chunk, as [`read_chunk`] brings it. A [`Line`] takes the bytes themselves, with no trace.
 #![tactic(auto)]
 
 mod both;

@@ -89,7 +89,8 @@ fn read_piece<'a, 't>(
     text: &'t [u8],
 ) -> Result<TraceLine<'a, 't>, TraceLineError>
     ensures ok { IfOk result (λ read. piece_of from (decode_of (without_spaces text.now)) ≡ Ok (meant_by read)) }
-    ensures wrong { (what : TraceLineError) → result ≡ Err what → piece_of from (decode_of (without_spaces text.now)) ≡ Err what }
+    ensures wrong { (what : TraceLineError) → result ≡ Err what
+        → piece_of from (decode_of (without_spaces text.now)) ≡ Err what }
     ensures few { IfOk result (λ read. size_of (meant_by read) ≤ length text.now) }
     ensures on { IfOk result GoesOn }
 {

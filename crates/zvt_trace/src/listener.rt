@@ -14,7 +14,8 @@ pub enum Scope {
     OneMessage,
     /// The side whose bytes were refused, until the connection is lost.
     OneSide,
-    /// Both sides, until the connection is lost. What the other side had begun is cut off there, and its event comes after the refusal.
+    /// Both sides, until the connection is lost. What the other side had begun is cut off there, and its event comes
+    /// after the refusal.
     WholeLine,
 }
 
@@ -67,7 +68,8 @@ pub trait Listener {
 impl<L: Listener> Listener for &mut L {
     ghost hears = { λ old event new. L.hears old.now event new.now × (new.ghost_name ≡ old.ghost_name) };
 
-    ghost fails = { λ old event failure new. L.fails old.now event failure new.now × (new.ghost_name ≡ old.ghost_name) };
+    ghost fails = { λ old event failure new. L.fails old.now event failure new.now
+        × (new.ghost_name ≡ old.ghost_name) };
 
     #[inline(always)]
     fn hear(&mut self, number: u64, trace_event: &TraceEvent<'_>) -> Result<(), ListenerError> {

@@ -137,7 +137,9 @@ impl SideReader {
     #[cold]
     #[inline(never)]
     pub(crate) fn refuse(&mut self, scope: Scope, bytes: &[u8], place: usize)
-        ensures skipped { (held : List ℕ) → IsOpening self.old.opening held → suc place ≡ length (held ++ bytes.now) → self.new.skipped ≡ skipped_by (refused_size scope (held ++ bytes.now) place) (length (held ++ bytes.now)) }
+        ensures skipped { (held : List ℕ) → IsOpening self.old.opening held → suc place ≡ length (held ++ bytes.now)
+            → self.new.skipped ≡ skipped_by (refused_size scope (held ++ bytes.now) place)
+            (length (held ++ bytes.now)) }
         ensures stream { self.new.stream ≡ self.old.stream }
     {
         self.opening.add(bytes);

@@ -1,5 +1,6 @@
 //! Bytes that are spelled in hexadecimal text with spaces.
-ghost use Rattle.std.specs.Prelude.{◌≡◌, ◌≢◌, ◌*◌, ◌+◌, ◌++◌, ◌<◌, ◌≤◌, ℕ, List, length, slice_index, take, false, true, IfOk, IfSome, IsErr, MatchOption, None, Ok};
+ghost use Rattle.std.specs.Prelude.{◌≡◌, ◌≢◌, ◌*◌, ◌+◌, ◌++◌, ◌<◌, ◌≤◌, ℕ, List, length, slice_index, take, false};
+ghost use Rattle.std.specs.Prelude.{true, IfOk, IfSome, IsErr, MatchOption, None, Ok};
 ghost use Rattle.hex.specs.Hex.{decode_of};
 ghost use Rattle.zvt_trace.specs.Meanings.{EndsPairs, ReadsPairs, SpellsBytes, without_spaces};
 ghost use Rattle.zvt_trace.specs.Spelled.{AreHex, IsDigit, after_bytes, spells, worth};
@@ -11,8 +12,11 @@ use std::alloc::{AllocError, Global};
 /// or `None` if the text up to there is not hexadecimal.
 #[inline(always)]
 pub(crate) fn read<'t>(text: &'t [u8], buffer: &mut [u8]) -> Option<(usize, &'t [u8])>
-    ensures read { MatchOption result (spells (without_spaces text.now) ≡ None) (λ read. after_bytes (take read.0 buffer.new) (spells (without_spaces read.1.now)) ≡ spells (without_spaces text.now)) }
-    ensures few { IfSome result (λ read. (read.0 ≤ length buffer.new) × (2 * read.0 + length read.1.now ≤ length text.now)) }
+    ensures read { MatchOption result (spells (without_spaces text.now) ≡ None)
+        (λ read. after_bytes (take read.0 buffer.new) (spells (without_spaces read.1.now)) ≡ spells
+        (without_spaces text.now)) }
+    ensures few { IfSome result (λ read. (read.0 ≤ length buffer.new)
+        × (2 * read.0 + length read.1.now ≤ length text.now)) }
     ensures full { IfSome result (λ read. 0 < length read.1.now → read.0 ≡ length buffer.old) }
     ensures size { length buffer.new ≡ length buffer.old }
 {
@@ -40,7 +44,8 @@ pub(crate) fn read<'t>(text: &'t [u8], buffer: &mut [u8]) -> Option<(usize, &'t 
 
 /// The bytes that the text spells, or `None` where it spells none.
 pub fn spelled_bytes(alloc: Global, text: &[u8]) -> Result<Option<Vec<u8>>, AllocError>
-    ensures { IfOk result (λ found. MatchOption found (IsErr (decode_of (without_spaces text.now))) (λ bytes. decode_of (without_spaces text.now) ≡ Ok bytes.items)) }
+    ensures { IfOk result (λ found. MatchOption found (IsErr (decode_of (without_spaces text.now)))
+        (λ bytes. decode_of (without_spaces text.now) ≡ Ok bytes.items)) }
 {
     let digits: Vec<u8> = text
         .iter()
@@ -84,7 +89,8 @@ fn are_digits(text: &[u8]) -> bool
     all
 }
 
-/// Reads the first pairs of digits, up to a space or until the buffer is full. So a line without spaces is read with no test for them.
+/// Reads the first pairs of digits, up to a space or until the buffer is full. So a line without spaces is read with no
+/// test for them.
 #[inline(always)]
 pub(crate) fn read_pairs(text: &[u8], buffer: &mut [u8]) -> usize
     ensures few { (2 * result ≤ length text.now) × (result ≤ length buffer.new) }

@@ -8,7 +8,9 @@ ghost use Rattle.zvt_trace.specs.Meanings as meaning;
 ghost use Rattle.zvt_trace.specs.Trace.{Sides, new_line};
 ghost use Rattle.zvt_trace.specs.Emitting.{LineEnds};
 ghost use Rattle.zvt_trace.specs.TraceEvent.{At};
-ghost use Rattle.zvt_trace.specs.Listening.{AnswersFrom, AnswersWalk, EmitsEnd, EmitsLine, FollowBoth, HasWalked, IsSound, TakeBy, WalksFirst, WalksLine, WalksOn, most, reading_by, scope_of};
+ghost use Rattle.zvt_trace.specs.Listening.{AnswersFrom, AnswersWalk, EmitsEnd, EmitsLine, FollowBoth, HasWalked};
+ghost use Rattle.zvt_trace.specs.Listening.{IsSound, TakeBy, WalksFirst, WalksLine, WalksOn, most, reading_by};
+ghost use Rattle.zvt_trace.specs.Listening.{scope_of};
 ghost use Rattle.zvt_trace.specs.Written.{limit};
 
 use crate::both::Both;
@@ -27,9 +29,9 @@ use zvt_grammar::Lengths;
 /// Reads a trace line by line and passes each event to the listener, including messages that are cut off by its end.
 /// `lengths` selects strict or padded lengths.
 ///
-/// Stops at the first line that is not valid, without an event for it. Returns the number of messages and of bad streams,
-/// which have invalid or incomplete messages. If the walk fails, the listener has heard every event of the lines before,
-/// and the first few of the current line.
+/// Stops at the first line that is not valid, without an event for it. Returns the number of messages and of bad
+/// streams, which have invalid or incomplete messages. If the walk fails, the listener has heard every event of the
+/// lines before, and the first few of the current line.
 pub fn walk<L: Listener>(
     listener: &mut L,
     alloc: Global,
@@ -38,7 +40,8 @@ pub fn walk<L: Listener>(
     trace: &[u8],
 ) -> Result<Tally, TraceFault>
     requires { length trace.now ≤ limit }
-    ensures { AnswersWalk (reading_of lengths) L.hears L.fails scope (lines trace.now) listener.old listener.new result }
+    ensures { AnswersWalk (reading_of lengths) L.hears L.fails scope (lines trace.now) listener.old
+        listener.new result }
 {
     let mut progress = Progress::new(alloc, scope, lengths);
     progress.read_lines(listener, trace)?;
@@ -92,7 +95,9 @@ impl Progress {
     ) -> Result<(), TraceFault>
         requires sound { IsSound self.old }
         requires fits { self.old.size + length text.now ≤ most }
-        ensures walks { (before : List (List ℕ)) (earlier : List At) → HasWalked (reading_by self.old) (scope_of self.old) before earlier self.old → WalksOn (reading_by self.old) L.hears L.fails (scope_of self.old) (before ++ lines text.now) earlier self.new listener.old listener.new result }
+        ensures walks { (before : List (List ℕ)) (earlier : List At) → HasWalked (reading_by self.old)
+            (scope_of self.old) before earlier self.old → WalksOn (reading_by self.old) L.hears L.fails
+            (scope_of self.old) (before ++ lines text.now) earlier self.new listener.old listener.new result }
         ensures sound { OnOk result (IsSound self.new) }
         ensures size { OnOk result (self.new.size ≡ self.old.size + length text.now) }
         ensures options { self.new.options ≡ self.old.options }
@@ -125,7 +130,9 @@ impl Progress {
     /// Emits what is cut off at the end of the trace, and answers the tally.
     pub(crate) fn finish<L: Listener>(self, listener: &mut L) -> Result<Tally, TraceFault>
         requires sound { IsSound self }
-        ensures { (before : List (List ℕ)) (earlier : List At) → HasWalked (reading_by self) (scope_of self) before earlier self → AnswersFrom (reading_by self) L.hears L.fails (scope_of self) before earlier listener.old listener.new result }
+        ensures { (before : List (List ℕ)) (earlier : List At) → HasWalked (reading_by self) (scope_of self) before
+            earlier self → AnswersFrom (reading_by self) L.hears L.fails (scope_of self) before earlier listener.old
+            listener.new result }
     {
         let mut both = Both {
             first: self.tally,
@@ -136,8 +143,8 @@ impl Progress {
     }
 }
 
-/// Emits the events of the first line of this text, which has this number, and returns the text after it. Most lines have
-/// the plain form.
+/// Emits the events of the first line of this text, which has this number, and returns the text after it. Most lines
+/// have the plain form.
 #[inline(always)]
 fn emit_first<'t, L: Listener>(
     listener: &mut L,
@@ -150,7 +157,9 @@ fn emit_first<'t, L: Listener>(
     requires reading { TakeBy (reading_of options.now.lengths) sides.old }
     requires some { 0 < length rest.now }
     ensures reading { OnOk result (TakeBy (reading_of options.now.lengths) sides.new) }
-    ensures emits { (state : Sides) → FollowBoth (reading_of options.now.lengths) sides.old state → WalksFirst (λ after. after.now) (reading_of options.now.lengths) L.hears L.fails options.now.scope number rest.now state sides.new listener.old listener.new result }
+    ensures emits { (state : Sides) → FollowBoth (reading_of options.now.lengths) sides.old state
+        → WalksFirst (λ after. after.now) (reading_of options.now.lengths) L.hears L.fails options.now.scope number
+        rest.now state sides.new listener.old listener.new result }
     ensures less { IfOk result (λ after. length after.now < length rest.now) }
     ensures size { length buffer.new ≡ length buffer.old }
 {
@@ -180,7 +189,9 @@ fn emit_other<'t, L: Listener>(
     requires reading { TakeBy (reading_of options.now.lengths) sides.old }
     requires some { 0 < length rest.now }
     ensures reading { OnOk result (TakeBy (reading_of options.now.lengths) sides.new) }
-    ensures emits { (state : Sides) → FollowBoth (reading_of options.now.lengths) sides.old state → WalksFirst (λ after. after.now) (reading_of options.now.lengths) L.hears L.fails options.now.scope number rest.now state sides.new listener.old listener.new result }
+    ensures emits { (state : Sides) → FollowBoth (reading_of options.now.lengths) sides.old state
+        → WalksFirst (λ after. after.now) (reading_of options.now.lengths) L.hears L.fails options.now.scope number
+        rest.now state sides.new listener.old listener.new result }
     ensures less { IfOk result (λ after. length after.now < length rest.now) }
     ensures size { length buffer.new ≡ length buffer.old }
 {
@@ -200,7 +211,9 @@ fn emit_line<L: Listener>(
     requires reading { TakeBy (reading_of options.now.lengths) sides.old }
     requires read { (content : List ℕ) × Reads content read }
     ensures reading { OnOk result (TakeBy (reading_of options.now.lengths) sides.new) }
-    ensures emits { (content : List ℕ) → Reads content read.entry → (state : Sides) → FollowBoth (reading_of options.now.lengths) sides.old state → WalksLine (reading_of options.now.lengths) L.hears L.fails options.now.scope number content state sides.new listener.old listener.new result }
+    ensures emits { (content : List ℕ) → Reads content read.entry → (state : Sides)
+        → FollowBoth (reading_of options.now.lengths) sides.old state → WalksLine (reading_of options.now.lengths)
+        L.hears L.fails options.now.scope number content state sides.new listener.old listener.new result }
 {
     let line = match read {
         Ok(line) => line,
@@ -242,7 +255,9 @@ impl BothSides {
         requires reading { TakeBy (reading_of options.now.lengths) self.old }
         requires goes_on { GoesOn line.now }
         ensures reading { OnOk result (TakeBy (reading_of options.now.lengths) self.new) }
-        ensures emits { (sides : Sides) → FollowBoth (reading_of options.now.lengths) self.old sides → EmitsLine (reading_of options.now.lengths) L.hears L.fails options.now.scope number (meant_by line.now) sides self.new listener.old listener.new result }
+        ensures emits { (sides : Sides) → FollowBoth (reading_of options.now.lengths) self.old sides
+            → EmitsLine (reading_of options.now.lengths) L.hears L.fails options.now.scope number (meant_by line.now)
+            sides self.new listener.old listener.new result }
     {
         match line {
             TraceLine::Comment => Ok(()),
@@ -266,7 +281,9 @@ impl BothSides {
         number: u64,
     ) -> Result<(), ListenerError>
         ensures reading { OnOk result (TakeBy (reading_of options.now.lengths) self.new) }
-        ensures emits { (sides : Sides) → FollowBoth (reading_of options.now.lengths) self.old sides → EmitsLine (reading_of options.now.lengths) L.hears L.fails options.now.scope number meaning.lost sides self.new listener.old listener.new result }
+        ensures emits { (sides : Sides) → FollowBoth (reading_of options.now.lengths) self.old sides
+            → EmitsLine (reading_of options.now.lengths) L.hears L.fails options.now.scope number meaning.lost sides
+            self.new listener.old listener.new result }
     {
         self.emit_end(listener, number)?;
         listener.hear(number, &TraceEvent::Lost)?;
@@ -287,7 +304,9 @@ impl BothSides {
         requires reading { TakeBy (reading_of options.now.lengths) self.old }
         requires spelled { SpellsBytes piece.undecoded.now }
         ensures reading { OnOk result (TakeBy (reading_of options.now.lengths) self.new) }
-        ensures emits { (sides : Sides) → FollowBoth (reading_of options.now.lengths) self.old sides → EmitsLine (reading_of options.now.lengths) L.hears L.fails options.now.scope line (meaning.piece from (bytes_in piece.entry)) sides self.new listener.old listener.new result }
+        ensures emits { (sides : Sides) → FollowBoth (reading_of options.now.lengths) self.old sides
+            → EmitsLine (reading_of options.now.lengths) L.hears L.fails options.now.scope line
+            (meaning.piece from (bytes_in piece.entry)) sides self.new listener.old listener.new result }
     {
         if self.rejected {
             return emit_unread(listener, line, from);
@@ -311,7 +330,8 @@ impl BothSides {
         listener: &mut L,
         number: u64,
     ) -> Result<(), ListenerError>
-        ensures { (r : Reading) (sides : Sides) → FollowBoth r self.now sides → EmitsEnd L.hears L.fails (LineEnds r number sides) 2 listener.old listener.new result }
+        ensures { (r : Reading) (sides : Sides) → FollowBoth r self.now sides → EmitsEnd L.hears L.fails
+            (LineEnds r number sides) 2 listener.old listener.new result }
     {
         if self.rejected {
             return Ok(());
