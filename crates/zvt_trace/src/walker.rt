@@ -176,7 +176,7 @@ fn emit_first<'t, L: Listener>(
     }
 }
 
-/// The same for a first line that lacks the plain form.
+/// Emits the events of the first line of the text, and returns the text behind it. The line may have any form.
 #[inline(never)]
 fn emit_other<'t, L: Listener>(
     listener: &mut L,
