@@ -12,7 +12,7 @@ use Rattle.zvt_session.specs.Objects.{step_line}
 use Rattle.zvt_session.specs.Reporting.{ReportedSoFar, Reports}
 use Rattle.zvt_session.specs.Runs.{WritesPart, made_of, noting, standing}
 use Rattle.zvt_session.proofs.Noted.{reported}
-use Rattle.zvt_session.proofs.Runs.{SoFar, as_told, broke, broken_total_stops, ended, line_stops, no_check, not_short, one_more, runs_out, then, unsuccessful}
+use Rattle.zvt_session.proofs.Runs.{SoFar, as_told, broke, broken_total_stops, ended, line_stops, no_check, noted_by, not_short, one_more, runs_out, then, unsuccessful}
 use Rattle.zvt_session.proofs.steps.run_steps.Goals.{else-steps-via-then-steps+else-short, else-steps-via-else-steps}
 use Rattle.zvt_session.proofs.steps.run_steps.Goals as goal
 

@@ -1,6 +1,6 @@
 use Rattle.zvt_session.specs.LineEnd.{end_state}
 use Rattle.zvt_session.proofs.There.{made_there}
-use Rattle.zvt_session.proofs.till_end.EndpointStepLineK.make.Goals as goal
+use Rattle.zvt_session.proofs.till_end.EndpointStepLine.make.Goals as goal
 
 pub returns : goal.returns
 returns g c =

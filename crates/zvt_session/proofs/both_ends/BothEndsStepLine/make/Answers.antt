@@ -5,7 +5,7 @@ use Rattle.zvt_session.specs.BothEnds.{ended_of, here, line_of}
 use Rattle.zvt_session.specs.LineEnd.{NotOrdered, Ordered}
 use Rattle.zvt_session.specs.Steps.{verdict_of}
 use Rattle.zvt_session.proofs.Turns.{begun, begun_not, book_fails, breaks, comes, decided, given_up, goes_on}
-use Rattle.zvt_session.proofs.both_ends.BothEndsStepLineK.make.Goals as goal
+use Rattle.zvt_session.proofs.both_ends.BothEndsStepLine.make.Goals as goal
 
 pub returns-in-Err : goal.returns-in-Err
 returns-in-Err g c =

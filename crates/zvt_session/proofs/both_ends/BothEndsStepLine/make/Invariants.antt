@@ -1,6 +1,6 @@
 use Rattle.zvt_session.specs.BothEnds.{here}
 use Rattle.zvt_session.proofs.Turns.{Going}
-use Rattle.zvt_session.proofs.both_ends.BothEndsStepLineK.make.Given as goal
+use Rattle.zvt_session.proofs.both_ends.BothEndsStepLine.make.Given as goal
 
 abbrev pub invariant-alternations : goal.invariant-alternations
 invariant-alternations g l =
