@@ -66,6 +66,24 @@ def old_book():
     return of.file() + b" 800000\n\n"
 
 
+def paid(text):
+    """The sum of the payments of a run that were not taken back. A run that reverses an entry has a new book."""
+    amounts = []
+    for pay, entry in re.findall(rb"^(?:pay:(\d+)\S* -> paid|reverse:(\d+)\S* -> reversed)", text, re.M):
+        if pay:
+            amounts.append(int(pay))
+        else:
+            amounts[int(entry) - 1] = 0
+    return sum(amounts)
+
+
+def ends_without_room(text, full):
+    """Whether a run went on as the full one up to an order for which no room could be reserved: that was its last."""
+    found = re.fullmatch(rb"((?:.+\n)*)\S+ -> not sent: NoSpace\ntotal (\d+)\n", text)
+    before = int(re.search(rb"total (\d+)\n$", full)[1]) - paid(full)
+    return bool(found) and full.startswith(found[1]) and int(found[2]) == before + paid(found[1])
+
+
 class Trial(fault_injection.Trial):
     """The runs with a book. Each has a book of its own, by its tag."""
 
@@ -117,7 +135,7 @@ class Trial(fault_injection.Trial):
                 as_ever = (ended, text, errors) == (status, full, full_errors)
                 if not as_ever and not (refused and ends_by(kind, ended, errors)):
                     self.differs(here, "it ends with", ended, errors)
-                if not (is_prefix(text, full) or full.startswith(text)):
+                if not (is_prefix(text, full) or full.startswith(text) or ends_without_room(text, full)):
                     self.differs(here, "is no front of the full text:", text)
                 if words[0] != "book":
                     self.look_at_book(here, tag, text, old_book() if OLD in words else b"")
