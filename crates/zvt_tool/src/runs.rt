@@ -19,7 +19,6 @@ use zvt_json::Form;
 use zvt_session::{EndFault, Ends, NoNotes, StepOptions, plan};
 use zvt_tcp::{LoopRun, TerminalRun, TillRun};
 use zvt_term::Verdict;
-use zvt_till::Till;
 
 /// How many seconds a till waits for the connection, and for each message.
 const WAIT: u16 = 60;
@@ -135,7 +134,7 @@ where
         (ReportsRun None None 0 0) (ReportsNothing None None 0 0) result }
     ensures write { result ≡ Err EndFault.Write → W.failures writer.old < W.failures writer.new }
 {
-    let mut till = Till::with_defaults(alloc);
+    let mut till = zvt_till::Till::with_defaults(alloc);
     zvt_tcp::run_loop(rt, alloc, run, &mut till, &NoNotes, writer, &mut Unreported)
 }
 
@@ -154,7 +153,7 @@ where
         (ReportsRun None None 0 0) (ReportsNothing None None 0 0) result }
     ensures write { result ≡ Err EndFault.Write → W.failures writer.old < W.failures writer.new }
 {
-    let mut till = Till::with_defaults(alloc);
+    let mut till = zvt_till::Till::with_defaults(alloc);
     zvt_tcp::run_till(rt, alloc, run, &mut till, &NoNotes, writer, &mut Unreported)
 }
 
