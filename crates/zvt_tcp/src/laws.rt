@@ -4,7 +4,7 @@ ghost use Rattle.zvt_tcp.specs.Outliving.{BookRunsOutlive};
 use zvt_journal::Device;
 use zvt_kept::calls_outlive;
 
-/// The book outlives the process. A crash at any moment of a run by [`run_till_kept`](crate::run_till_kept), whatever
+/// The book outlives the process. A crash at any moment of a run by [`run_till`](crate::run_till) with a book, whatever
 /// the run returns, leaves a journal of the till's log and of an initial part of the events of the run's steps. When
 /// the run ends, the journal has all of these events, unless it failed.
 ///
