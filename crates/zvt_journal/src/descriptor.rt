@@ -184,8 +184,8 @@ pub(crate) fn sync_folder_of(path: &[u8]) -> io::Result<()> {
     sync_all(&unsafe { OwnedFd::from_raw_fd(number) })
 }
 
-/// Writes these bytes at the end of a file, which it makes if there is none, and makes them durable. It is opened for
-/// reading too: so a FIFO of that name fails, and does not wait for a reader.
+/// Appends these bytes to a file and makes them durable. Creates the file if it does not exist. The file is opened for
+/// reading too, so that a FIFO of that name fails and does not wait for a reader.
 pub(crate) fn append_synced(path: &[u8], bytes: &[u8]) -> io::Result<()> {
     let file = opened(path, libc::O_RDWR | libc::O_APPEND | libc::O_CREAT, 0o600)?;
     write_all_at(&file, 0, bytes)?;

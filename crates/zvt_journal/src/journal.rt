@@ -49,7 +49,7 @@ impl<D: Device> Journal<D> {
     }
 
     /// Appends a record, consisting of complete lines, and makes it durable. Disk space has to be reserved for a record
-    /// that begins with `#`, as that of an order does: see [`reserve`](Journal::reserve).
+    /// that begins with `#`, like an order's: see [`reserve`](Journal::reserve).
     ///
     /// After `Ok`, every later crash leaves a file that contains the record. After `Err`, the file contains the
     /// earlier records, with or without the new one. `Full` and `Memory` write nothing. After `Failed`, do not use

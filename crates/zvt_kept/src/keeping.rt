@@ -23,8 +23,8 @@ use zvt_text::Text;
 use zvt_till::{BookFault, Heard, Order, Outgoing, Till, Untaken, heard_view, reply_to};
 
 /// Gives the till an order once its journal has it, and returns the message to send. An order that the till refuses
-/// asks for no disk space, and one for which there is none leaves the till and the journal's records as they were. If
-/// the journal fails, `failure` says why.
+/// asks for no disk space. If the disk has no space, the till and the journal's records stay as they were. If the
+/// journal fails, `failure` says why.
 pub(crate) fn take_order<D: Device>(
     alloc: Global,
     till: &mut Till,

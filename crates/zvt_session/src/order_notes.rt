@@ -15,7 +15,7 @@ pub trait NoteSource<K> {
     /// The till, with this note for its next order.
     ghost noted: { K → List ℕ → K };
 
-    /// Gives the till the note of its next order, that of the step which this word names.
+    /// Gives the till the note of its next order, with the reference in this word of a step.
     fn note_next(&self, till: &mut K, word: &[u8])
         ensures { (note : List ℕ) × IsNoteOf word.now note × (till.new ≡ noted till.old note) };
 }

@@ -2,7 +2,7 @@
 use crate::event::TraceEvent;
 use crate::listener::{Listener, ListenerError};
 
-/// Two listeners, of which the first hears each event before the second. If the first fails, the second does not hear.
+/// Two listeners as one. The first hears each event before the second. If the first fails, the second hears nothing.
 #[derive(Drop)]
 pub struct Both<A, B> {
     pub first: A,
