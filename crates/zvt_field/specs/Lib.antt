@@ -6,7 +6,6 @@ pub mod Spelling
 pub mod Bodies
 pub mod Lists
 pub mod Named
-pub mod Names
 pub mod Answers
 pub mod Laws
 pub mod UniqueDecoding

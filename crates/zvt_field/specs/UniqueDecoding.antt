@@ -1,5 +1,5 @@
 -- Why bytes spell one list of fields: no field begins another.
-use Rattle.std.proofs.Common.{◌≡◌, ◌≢◌, ℕ, ◌+◌, ◌<◌, ◌≤◌, Bool, true, false, cond, Option, Some, None, List, [], ◌∷◌, ◌++◌, length, refl, sym, ◌∙◌, ap, subst, append_assoc, arith, length-append}
+use Rattle.std.proofs.Common.{◌≡◌, ◌≢◌, ℕ, ◌+◌, ◌<◌, ◌≤◌, Bool, true, false, cond, Option, Some, None, List, [], ◌∷◌, ◌++◌, length, option_map, ◌==◌, refl, sym, ◌∙◌, ap, subst, append_assoc, arith, length-append}
 use Rattle.zvt_bcd.specs.LengthDigits.{counted}
 use Rattle.zvt_grammar.specs.Reading.{Reading}
 use Rattle.zvt_tlv.specs.Grammar.{Objects}
@@ -7,7 +7,7 @@ use Rattle.zvt_tlv.specs.Sized.{Sized}
 use Rattle.zvt_tlv.specs.UniqueDecoding.{length_prefix, same_prefix, one_tree, length_size}
 use Rattle.zvt_field.specs.declared.shapes.Shape.{Shape}
 use Rattle.zvt_field.specs.declared.shapes.Shape.TheVariants.{Fixed, Digits, Ll, Lll, Tree}
-use Rattle.zvt_field.specs.Shapes.{shape_of, is_one_of, look_up, table}
+use Rattle.zvt_field.specs.Shapes.{BmpRow, shape_of, look_up, table}
 use Rattle.zvt_field.specs.Grammar.{Field, plain, tree, IsHead, FieldOf, FieldList}
 
 -- no shape is empty
@@ -19,34 +19,24 @@ IsSane (Some Ll) = Unit {0}
 IsSane (Some Lll) = Unit {0}
 IsSane (Some Tree) = Unit {0}
 
-abbrev AllSane : List (List ℕ × Shape) → Type 0
+abbrev AllSane : List BmpRow → Type 0
 AllSane [] = Unit {0}
-AllSane (row ∷ rows) = IsSane (Some row.1) × AllSane rows
+AllSane (one ∷ rows) = IsSane (Some one.shape) × AllSane rows
 
-either : (b : Bool) (x y : Option Shape) → IsSane x → IsSane y → IsSane (cond b x y)
-either true x y p q = p
-either false x y p q = q
+abbrev shape_in : Option BmpRow → Option Shape
+shape_in one = option_map (λ row. row.shape) one
 
-sane_rows : (bmp : ℕ) (rows : List (List ℕ × Shape)) → AllSane rows → IsSane (look_up bmp rows)
+either : (b : Bool) (one : BmpRow) (other : Option BmpRow) → IsSane (Some one.shape) → IsSane (shape_in other) → IsSane (shape_in (cond b (Some one) other))
+either true one other p q = p
+either false one other p q = q
+
+sane_rows : (bmp : ℕ) (rows : List BmpRow) → AllSane rows → IsSane (shape_in (look_up bmp rows))
 sane_rows bmp [] h = tt
-sane_rows bmp (row ∷ rows) h = either (is_one_of bmp row.0) (Some row.1) (look_up bmp rows) h.0 (sane_rows bmp rows h.1)
+sane_rows bmp (one ∷ rows) h = either (bmp == one.bmp) one (look_up bmp rows) h.0 (sane_rows bmp rows h.1)
 
 pub sane : (bmp : ℕ) → IsSane (shape_of bmp)
 unfolding shape_of
-sane bmp =
-    sane_rows bmp table (
-      (omega arith, omega arith),
-      (
-        (omega arith, omega arith),
-        (
-          (omega arith, omega arith),
-          (
-            (omega arith, omega arith),
-            ((omega arith, omega arith), ((omega arith, omega arith), ((omega arith, omega arith), ((omega arith, omega arith), ((omega arith, omega arith), ((omega arith, omega arith), (tt, (tt, (tt, tt))))))))),
-          ),
-        ),
-      ),
-    )
+sane bmp = sane_rows bmp table ((omega arith, omega arith), ((omega arith, omega arith), ((omega arith, omega arith), ((omega arith, omega arith), ((omega arith, omega arith), (tt, ((omega arith, omega arith), ((omega arith, omega arith), ((omega arith, omega arith), ((omega arith, omega arith), ((omega arith, omega arith), ((omega arith, omega arith), (tt, (tt, (tt, ((omega arith, omega arith), ((omega arith, omega arith), ((omega arith, omega arith), (tt, (tt, ((omega arith, omega arith), ((omega arith, omega arith), ((omega arith, omega arith), (tt, ((omega arith, omega arith), ((omega arith, omega arith), (tt, ((omega arith, omega arith), ((omega arith, omega arith), ((omega arith, omega arith), (tt, ((omega arith, omega arith), (tt, (tt, ((omega arith, omega arith), (tt, ((omega arith, omega arith), (tt, ((omega arith, omega arith), tt)))))))))))))))))))))))))))))))))))))))
 
 -- what comes before a content says how long it is, and of what kind
 pub record SameHead (digits digits' : Bool) (n n' : ℕ) (size size' x y : List ℕ) : Type 0 where

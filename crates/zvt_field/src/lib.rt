@@ -1,13 +1,13 @@
 //! The fields of a message: a byte, the BMP, that names each one, and a content of the kind that the BMP says.
 #![tactic(auto)]
 
+pub mod bmp;
 mod bodies;
 mod contents;
 pub mod judge;
 pub mod laws;
 mod lists;
 mod named;
-mod names;
 mod owned_fields;
 mod reader;
 mod shapes;
@@ -21,12 +21,11 @@ pub use bodies::{BadField, Field, FieldBody};
 pub use judge::{LlAt, LlNext, judge_bmp, judge_content, judge_ll};
 pub use lists::{Fields, PushRefusal};
 pub use named::{amount, count, currency, only, original, receipt, result, trace};
-pub use names::name;
 pub use owned_fields::{owned, owned_field};
 pub use reader::{scan, scan_fields, scan_loose};
-pub use shapes::Shape;
+pub use shapes::{Format, Shape};
 pub use single::{Single, read_single};
 pub use sizes::size;
-pub use table::shape;
+pub use table::{format, name, shape};
 pub use views::{FieldView, FieldsView};
 pub use writer::write_into;

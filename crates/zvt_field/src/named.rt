@@ -7,7 +7,7 @@ ghost use Rattle.zvt_field.specs.Bodies.{HasSpelling};
 ghost use Rattle.zvt_field.specs.Named.{count_of, only_of, content_of, amount_of, trace_of, result_of, receipt_of};
 ghost use Rattle.zvt_field.specs.Named.{currency_of, original_of};
 
-use crate::{Field, FieldBody, Fields};
+use crate::{Field, FieldBody, Fields, bmp};
 use zvt_bcd::{Amount, Currency, Trace, number};
 
 /// Returns the field with this BMP, if there is exactly one.
@@ -52,28 +52,28 @@ fn content(fields: &Fields, bmp: u8) -> Option<&[u8]>
 pub fn amount(fields: &Fields) -> Option<Amount>
     ensures { result ≡ amount_of fields.now }
 {
-    Amount::new(number(content(fields, 0x04)?))
+    Amount::new(number(content(fields, bmp::AMOUNT)?))
 }
 
 /// Returns the trace number in BMP 0B, if it appears exactly once.
 pub fn trace(fields: &Fields) -> Option<Trace>
     ensures { result ≡ trace_of fields.now }
 {
-    Trace::new(number(content(fields, 0x0B)?) as u32)
+    Trace::new(number(content(fields, bmp::TRACE)?) as u32)
 }
 
 /// Returns the result code in BMP 27, if it appears exactly once.
 pub fn result(fields: &Fields) -> Option<u8>
     ensures { result ≡ result_of fields.now }
 {
-    content(fields, 0x27)?.first().copied()
+    content(fields, bmp::RESULT)?.first().copied()
 }
 
 /// Returns the receipt number in BMP 87, if it appears exactly once: its two bytes as read, which need not be digits.
 pub fn receipt(fields: &Fields) -> Option<[u8; 2]>
     ensures { result ≡ receipt_of fields.now }
 {
-    match content(fields, 0x87)? {
+    match content(fields, bmp::RECEIPT)? {
         [high, low] => Some([*high, *low]),
         _ => None,
     }
@@ -83,14 +83,14 @@ pub fn receipt(fields: &Fields) -> Option<[u8; 2]>
 pub fn currency(fields: &Fields) -> Option<Currency>
     ensures { result ≡ currency_of fields.now }
 {
-    Currency::new(number(content(fields, 0x49)?) as u16)
+    Currency::new(number(content(fields, bmp::CURRENCY)?) as u16)
 }
 
 /// Returns the original trace number in BMP 37, if it appears exactly once: its three bytes as read.
 pub fn original(fields: &Fields) -> Option<[u8; 3]>
     ensures { result ≡ original_of fields.now }
 {
-    match content(fields, 0x37)? {
+    match content(fields, bmp::ORIGINAL)? {
         [high, middle, low] => Some([*high, *middle, *low]),
         _ => None,
     }

@@ -8,8 +8,8 @@ ghost use Rattle.zvt_field.specs.Named.{content_of, count_of};
 ghost use Rattle.zvt_field.specs.Single.{Saw, Collected, Says};
 ghost use Rattle.zvt_field.specs.Views.{PlainBytes};
 
-use crate::contents;
 use crate::views::{FieldView, FieldsView};
+use crate::{bmp, contents};
 use zvt_bcd::{Amount, Currency, Trace};
 
 /// Values of fields that are valid only if their BMP appears exactly once.
@@ -101,12 +101,12 @@ impl<'a> Slots<'a> {
         ensures { (fields left rest : List Field) → Collected fields self.old left → left ≡ shown field.now ∷ rest
             → Collected fields self.new rest }
     {
-        self.result.see(0x27, field);
-        self.amount.see(0x04, field);
-        self.trace.see(0x0B, field);
-        self.receipt.see(0x87, field);
-        self.original.see(0x37, field);
-        self.currency.see(0x49, field);
+        self.result.see(bmp::RESULT, field);
+        self.amount.see(bmp::AMOUNT, field);
+        self.trace.see(bmp::TRACE, field);
+        self.receipt.see(bmp::RECEIPT, field);
+        self.original.see(bmp::ORIGINAL, field);
+        self.currency.see(bmp::CURRENCY, field);
     }
 }
 
@@ -135,13 +135,13 @@ pub fn read_single(fields: &FieldsView<'_>) -> Single
 {
     let slots = collect(fields);
     Single {
-        result: contents::result(slots.result.content(0x27)),
-        amount: contents::amount(slots.amount.content(0x04)),
-        trace: contents::trace(slots.trace.content(0x0B)),
-        receipt: contents::receipt(slots.receipt.content(0x87)),
-        original: contents::original(slots.original.content(0x37)),
-        has_original: slots.original.is_there(0x37),
-        currency: contents::currency(slots.currency.content(0x49)),
-        has_currency: slots.currency.is_there(0x49),
+        result: contents::result(slots.result.content(bmp::RESULT)),
+        amount: contents::amount(slots.amount.content(bmp::AMOUNT)),
+        trace: contents::trace(slots.trace.content(bmp::TRACE)),
+        receipt: contents::receipt(slots.receipt.content(bmp::RECEIPT)),
+        original: contents::original(slots.original.content(bmp::ORIGINAL)),
+        has_original: slots.original.is_there(bmp::ORIGINAL),
+        currency: contents::currency(slots.currency.content(bmp::CURRENCY)),
+        has_currency: slots.currency.is_there(bmp::CURRENCY),
     }
 }

@@ -10,7 +10,7 @@ ghost use Rattle.zvt_field.specs.Views.{FieldsBytes, fields_once, FieldBytes, fi
 ghost use Rattle.zvt_field.specs.Views.{ContentFirst, tree_of, PlainBytes};
 
 use crate::table::shape;
-use crate::{Shape, contents};
+use crate::{Shape, bmp, contents};
 use std::marker::Model;
 use zvt_bcd::{Amount, Currency, Trace};
 use zvt_tlv::{ForestView, length_first};
@@ -115,21 +115,21 @@ impl<'a> FieldsView<'a> {
     pub fn amount(&self) -> Option<Amount>
         ensures { result ≡ amount_of self.now }
     {
-        contents::amount(self.content(0x04))
+        contents::amount(self.content(bmp::AMOUNT))
     }
 
     /// Returns the trace number in BMP 0B, if it appears exactly once.
     pub fn trace(&self) -> Option<Trace>
         ensures { result ≡ trace_of self.now }
     {
-        contents::trace(self.content(0x0B))
+        contents::trace(self.content(bmp::TRACE))
     }
 
     /// Returns the result code in BMP 27, if it appears exactly once.
     pub fn result(&self) -> Option<u8>
         ensures { result ≡ result_of self.now }
     {
-        contents::result(self.content(0x27))
+        contents::result(self.content(bmp::RESULT))
     }
 
     /// Returns the receipt number in BMP 87, if it appears exactly once: its two bytes as read, which need not be
@@ -137,21 +137,21 @@ impl<'a> FieldsView<'a> {
     pub fn receipt(&self) -> Option<[u8; 2]>
         ensures { result ≡ receipt_of self.now }
     {
-        contents::receipt(self.content(0x87))
+        contents::receipt(self.content(bmp::RECEIPT))
     }
 
     /// Returns the currency in BMP 49, if it appears exactly once.
     pub fn currency(&self) -> Option<Currency>
         ensures { result ≡ currency_of self.now }
     {
-        contents::currency(self.content(0x49))
+        contents::currency(self.content(bmp::CURRENCY))
     }
 
     /// Returns the original trace number in BMP 37, if it appears exactly once: its three bytes as read.
     pub fn original(&self) -> Option<[u8; 3]>
         ensures { result ≡ original_of self.now }
     {
-        contents::original(self.content(0x37))
+        contents::original(self.content(bmp::ORIGINAL))
     }
 
     /// Returns the number of fields with this BMP.
