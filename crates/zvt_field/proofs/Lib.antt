@@ -21,3 +21,4 @@ pub mod Exists
 pub mod SizedSpelling
 pub mod OwnedLemmas
 pub mod Shortening
+pub mod TableLemmas

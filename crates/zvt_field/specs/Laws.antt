@@ -4,6 +4,8 @@ use Rattle.zvt_grammar.specs.declared.why.Why.{Why}
 use Rattle.zvt_grammar.specs.Reading.{Reading, shortest}
 use Rattle.zvt_grammar.specs.Laws.{EndThemselves, SpellingsAreOne}
 use Rattle.zvt_tlv.specs.Judging.{Opener}
+use Rattle.zvt_field.specs.Shapes.{format_of}
+use Rattle.zvt_field.specs.declared.shapes.Format.TheVariants.{Hidden}
 use Rattle.zvt_field.specs.Grammar.{Field, FieldOf, FieldList}
 use Rattle.zvt_grammar.specs.declared.answer.Scan.{Scan}
 use Rattle.zvt_grammar.specs.declared.answer.Scan.TheVariants.{More}
@@ -59,3 +61,8 @@ FaultsAreOne = (f : Field) (v w : BadField) → HasFault (name_of f) f v → Has
 
 abbrev pub SpelledIsFaultless : Type 0
 SpelledIsFaultless = (f : Field) (v : BadField) → HasSpelling f → HasFault (name_of f) f v → ⊥
+
+-- The card number, the three tracks, the verification value and the password.
+abbrev pub SecretsAreHidden : Type 0
+SecretsAreHidden =
+    (format_of 0x22 ≡ Hidden) × (format_of 0x23 ≡ Hidden) × (format_of 0x24 ≡ Hidden) × (format_of 0x2D ≡ Hidden) × (format_of 0x3A ≡ Hidden) × (format_of 0x3D ≡ Hidden)

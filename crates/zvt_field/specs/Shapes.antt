@@ -66,7 +66,7 @@ look_up bmp (one ∷ rows) = cond (bmp == one.bmp) (Some one) (look_up bmp rows)
 unfoldable pub shape_of : ℕ → Option Shape
 shape_of bmp = option_map (λ one. one.shape) (look_up bmp table)
 
-unfoldable pub name_of : ℕ → Option (List ℕ)
+abbrev pub name_of : ℕ → Option (List ℕ)
 name_of bmp = option_map (λ one. one.name) (look_up bmp table)
 
 -- What the table does not list is shown as bytes.
@@ -74,5 +74,5 @@ abbrev pub format_in : Option Format → Format
 format_in None = Bytes
 format_in (Some format) = format
 
-unfoldable pub format_of : ℕ → Format
+abbrev pub format_of : ℕ → Format
 format_of bmp = format_in (option_map (λ one. one.format) (look_up bmp table))

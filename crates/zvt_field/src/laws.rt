@@ -2,7 +2,7 @@
 
 ghost use Rattle.zvt_field.specs.Laws.{EachSizeIsFilled, EachBeginningStands, PositionsAreOne, TestsDecide};
 ghost use Rattle.zvt_field.specs.Laws.{RefusalsAreOne, FieldsEndThemselves, ListsAreOne, ListsHaveOne, AnswersAreOne};
-ghost use Rattle.zvt_field.specs.Laws.{AnswersStay, FaultsAreOne, SpelledIsFaultless};
+ghost use Rattle.zvt_field.specs.Laws.{AnswersStay, FaultsAreOne, SecretsAreHidden, SpelledIsFaultless};
 
 /// Some fields have exactly that size, for each size but one byte.
 pub fn each_size_is_filled()
@@ -43,4 +43,10 @@ pub fn answers_stay()
 pub fn faults_are_one()
     ensures faults { FaultsAreOne }
     ensures faultless { SpelledIsFaultless }
+{}
+
+/// No output shows a card number (22), a track (23, 24, 2D), a verification value (3A) or a password (3D): the table
+/// hides them.
+pub fn secrets_are_hidden()
+    ensures { SecretsAreHidden }
 {}

@@ -1,7 +1,8 @@
 //! The table of the BMPs, after the list of bitmaps of PA00P015. Which of them are listed is this project's choice.
 
-ghost use Rattle.std.specs.Prelude.{◌≡◌, is_some, option_map};
+ghost use Rattle.std.specs.Prelude.{◌≡◌, IfSome, is_some, option_map};
 ghost use Rattle.zvt_field.specs.Judging.{count_digits};
+ghost use Rattle.zvt_field.specs.declared.shapes.Format.TheVariants.{Amount};
 ghost use Rattle.zvt_field.specs.Shapes.{format_in, format_of, name_of, shape_of};
 
 use crate::bmp;
@@ -29,12 +30,13 @@ fn info(shape: Shape, name: &'static str, format: Format) -> BmpInfo
 }
 
 /// The row of a BMP, if the table lists it.
-#[tactic(auto, unfolding(crate::specs::Shapes::shape_of, crate::specs::Shapes::name_of, crate::specs::Shapes::format_of))]
+#[tactic(auto, unfolding(crate::specs::Shapes::shape_of))]
 #[inline(always)]
 fn find(bmp: u8) -> Option<BmpInfo>
     ensures shape { option_map (λ row. row.shape) result ≡ shape_of bmp }
     ensures name { option_map (λ row. row.name.now) result ≡ name_of bmp }
     ensures format { format_in (option_map (λ row. row.format) result) ≡ format_of bmp }
+    ensures amount { IfSome result (λ row. row.format ≡ Amount → bmp ≡ 0x04) }
 {
     Some(match bmp {
         0x01 => info(Shape::Fixed(1), "time-out", Format::Bytes),
@@ -99,7 +101,8 @@ pub fn name(bmp: u8) -> Option<&'static str>
 /// Returns how an output shows the content of the field with this BMP. What the table does not list is shown as bytes.
 #[inline(always)]
 pub fn format(bmp: u8) -> Format
-    ensures { result ≡ format_of bmp }
+    ensures value { result ≡ format_of bmp }
+    ensures amount { result ≡ Amount → bmp ≡ 0x04 }
 {
     match find(bmp) {
         Some(row) => row.format,

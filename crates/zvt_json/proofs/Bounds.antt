@@ -8,9 +8,12 @@ use Rattle.zvt_grammar.specs.Reading.{shortest}
 use Rattle.zvt_tlv.specs.Grammar.{Objects, none, primitive, constructed}
 use Rattle.zvt_field.specs.Grammar.{Field, plain, tree, FieldList, Plain}
 use Rattle.zvt_field.proofs.ViewLemmas.{amount_parts}
-use Rattle.zvt_text.specs.Lines.{is_hidden, is_quoted}
+use Rattle.zvt_field.specs.Shapes.{format_of}
+use Rattle.zvt_field.proofs.TableLemmas.{of_amount}
+use Rattle.zvt_field.specs.declared.shapes.Format.{Format}
+use Rattle.zvt_field.specs.declared.shapes.Format.TheVariants.{Amount, Bytes, Hidden, Result, Text}
 use Rattle.zvt_text.specs.Results.{meaning_of}
-use Rattle.zvt_json.specs.Fields.{amount_value, content_value, field_values, hidden_value, object_values, plain_value, quoted_value, result_value}
+use Rattle.zvt_json.specs.Fields.{amount_value, content_value, field_values, hidden_value, object_values, plain_value, quoted_value, result_value, value_in}
 use Rattle.zvt_json.specs.Reading.{fits, items_fit}
 
 -- ---- numbers
@@ -52,10 +55,6 @@ result_fits bmp (code ∷ []) = coded_fits bmp code (meaning_of code) refl
 result_fits bmp (a ∷ b ∷ more) = refl
 
 -- one of two values
-either_fits : (b : Bool) (x y : Data) → (b ≡ true → fits x ≡ true) → fits y ≡ true → fits (if b then x else y) ≡ true
-either_fits true x y p q = p refl
-either_fits false x y p q = q
-
 amount_fits : (bmp : ℕ) (content : List ℕ) (one : List ℕ) → Plain bmp content one → bmp ≡ 0x04 → fits (amount_value bmp content) ≡ true
 amount_fits bmp content one spelled is =
     let parts = amount_parts content (subst (λ (n : ℕ). ∥ ((one : List ℕ) × Plain n content one) ∥₁) is ∣ (one, spelled) ∣₁) in
@@ -64,13 +63,20 @@ amount_fits bmp content one spelled is =
 content_short : (bmp : ℕ) (content one : List ℕ) → Plain bmp content one → length content ≤ length one
 content_short bmp content one spelled = omega (arith, ap length spelled.whole, length-append spelled.size content)
 
-plain_fits : (bmp : ℕ) (content one : List ℕ) → Plain bmp content one → length one < 2 ^ 64 → fits (plain_value bmp content) ≡ true
-plain_fits bmp content one spelled small =
+hidden_fits : (bmp : ℕ) (content one : List ℕ) → Plain bmp content one → length one < 2 ^ 64 → fits (hidden_value bmp (length content)) ≡ true
+hidden_fits bmp content one spelled small =
     let short = content_short bmp content one spelled in
-    let hidden : fits (hidden_value bmp (length content)) ≡ true = ap (λ (b : Bool). b && true) (lt-ltb (length content) (2 ^ 64) (omega (arith, short, small))) in
-    either_fits (bmp == 0x04) (amount_value bmp content) _ (λ is. amount_fits bmp content one spelled (eqb-true bmp 0x04 is))
-    (either_fits (bmp == 0x27) (result_value bmp content) _ (λ is. result_fits bmp content)
-    (either_fits (is_quoted bmp) (quoted_value bmp content) _ (λ is. refl) (either_fits (is_hidden bmp) (hidden_value bmp (length content)) (content_value bmp content) (λ is. hidden) refl)))
+    ap (λ (b : Bool). b && true) (lt-ltb (length content) (2 ^ 64) (omega (arith, short, small)))
+
+shown_fits : (format : Format) (bmp : ℕ) (content one : List ℕ) → format_of bmp ≡ format → Plain bmp content one → length one < 2 ^ 64 → fits (value_in format bmp content) ≡ true
+shown_fits Amount bmp content one is spelled small = amount_fits bmp content one spelled (of_amount bmp is)
+shown_fits Result bmp content one is spelled small = result_fits bmp content
+shown_fits Text bmp content one is spelled small = refl
+shown_fits Hidden bmp content one is spelled small = hidden_fits bmp content one spelled small
+shown_fits Bytes bmp content one is spelled small = refl
+
+plain_fits : (bmp : ℕ) (content one : List ℕ) → Plain bmp content one → length one < 2 ^ 64 → fits (plain_value bmp content) ≡ true
+plain_fits bmp content one spelled small = shown_fits (format_of bmp) bmp content one refl spelled small
 
 pub fields_fit : (fields : List Field) (bytes : List ℕ) → FieldList shortest fields bytes → length bytes < 2 ^ 64 → items_fit (field_values fields) ≡ true
 fields_fit [] bytes spelled small = refl

@@ -10,11 +10,13 @@ use Rattle.zvt_tlv.proofs.CheckLemmas.{spelled_shallow}
 use Rattle.zvt_field.specs.Grammar.{Field, plain, tree, FieldList}
 use Rattle.zvt_apdu.specs.Grammar.{Data as Content, IsControl, IsFrameLength, Spells}
 use Rattle.zvt_apdu.specs.Message.{Message, ack, nack, registration, authorisation, reversal, end_of_day, abort_order, status, intermediate, print_line, text_block, completion, abort, other}
-use Rattle.zvt_text.specs.Lines.{is_hidden, is_quoted}
+use Rattle.zvt_field.specs.Shapes.{format_of}
+use Rattle.zvt_field.specs.declared.shapes.Format.{Format}
+use Rattle.zvt_field.specs.declared.shapes.Format.TheVariants.{Amount, Bytes, Hidden, Result, Text}
 use Rattle.zvt_text.specs.MessageTexts.{fields_of}
 use Rattle.zvt_text.specs.Results.{meaning_of}
 use Rattle.zvt_trace.specs.declared.direction.Direction.{Direction}
-use Rattle.zvt_json.specs.Fields.{amount_value, content_value, field_values, hidden_value, object_values, plain_value, quoted_value, result_value, words_of}
+use Rattle.zvt_json.specs.Fields.{amount_value, content_value, field_values, hidden_value, object_values, plain_value, quoted_value, result_value, words_of, value_in}
 use Rattle.zvt_json.specs.Messages.{about, first_members, last_members, message_value, with_data}
 use Rattle.zvt_trace.specs.TraceEvent as trace_event
 use Rattle.zvt_trace.specs.TraceEvent.{TraceEvent}
@@ -52,11 +54,15 @@ result_depth bmp [] = omega arith
 result_depth bmp (code ∷ []) = coded_depth bmp code (meaning_of code) refl
 result_depth bmp (a ∷ b ∷ more) = omega arith
 
+shown_depth : (format : Format) (bmp : ℕ) (content : List ℕ) → depth (value_in format bmp content) ≤ 1
+shown_depth Amount bmp content = omega arith
+shown_depth Result bmp content = result_depth bmp content
+shown_depth Text bmp content = omega arith
+shown_depth Hidden bmp content = omega arith
+shown_depth Bytes bmp content = omega arith
+
 plain_depth : (bmp : ℕ) (content : List ℕ) → depth (plain_value bmp content) ≤ 1
-plain_depth bmp content =
-    either_depth (bmp == 0x04) (amount_value bmp content) _ 1 (omega arith)
-    (either_depth (bmp == 0x27) (result_value bmp content) _ 1 (result_depth bmp content)
-    (either_depth (is_quoted bmp) (quoted_value bmp content) _ 1 (omega arith) (either_depth (is_hidden bmp) (hidden_value bmp (length content)) (content_value bmp content) 1 (omega arith) (omega arith))))
+plain_depth bmp content = shown_depth (format_of bmp) bmp content
 
 fields_depth : (fields : List Field) (bytes : List ℕ) → FieldList shortest fields bytes → items_depth (field_values fields) ≤ 13
 fields_depth [] bytes spelled = omega arith

@@ -9,7 +9,7 @@ use Rattle.json.specs.Print.{escape, escape_byte}
 use Rattle.zvt_grammar.specs.Names.{why_name}
 use Rattle.zvt_grammar.specs.declared.why.Why.{Why}
 use Rattle.zvt_grammar.specs.declared.why.Why.TheVariants as why
-use Rattle.zvt_field.specs.Names.{names}
+use Rattle.zvt_field.specs.Shapes.{BmpRow, look_up, table}
 use Rattle.zvt_apdu.specs.declared.kinds.Kind.{Kind}
 use Rattle.zvt_apdu.specs.declared.kinds.Kind.TheVariants as kind
 use Rattle.zvt_text.specs.MessageTexts.{four_digits, kind_name}
@@ -80,8 +80,25 @@ word_plain (row ∷ rows) code all =
       | inr other ↦ rw other (word_plain rows code parts.1)
     ]
 
+-- every name of the table of BMPs is plain
+abbrev plain_names : List BmpRow → Bool
+plain_names [] = true
+plain_names (one ∷ rows) = all_plain one.name && plain_names rows
+
+abbrev name_in : Option BmpRow → List ℕ
+name_in found = unwrap_or (option_map (λ one. one.name) found) []
+
+row_plain : (rows : List BmpRow) (bmp : ℕ) → plain_names rows ≡ true → escape (name_in (look_up bmp rows)) ≡ name_in (look_up bmp rows)
+row_plain [] bmp all = refl
+row_plain (one ∷ rows) bmp all =
+    let parts = and_parts (all_plain one.name) (plain_names rows) all in
+    elim (cases_Bool (bmp == one.bmp)) [
+      | inl here ↦ rw here (escape_all_plain one.name parts.0)
+      | inr other ↦ rw other (row_plain rows bmp parts.1)
+    ]
+
 pub name_plain : (bmp : ℕ) → escape (field_name bmp) ≡ field_name bmp
-name_plain bmp = word_plain names bmp refl
+name_plain bmp = row_plain table bmp refl
 
 pub meaning_plain : (code : ℕ) (meaning : List ℕ) → Some meaning ≡ meaning_of code → escape meaning ≡ meaning
 meaning_plain code meaning is =

@@ -5,12 +5,14 @@ use Rattle.serde_json.specs.Data.{Data}
 use Rattle.zvt_tlv.specs.Grammar.{Objects, none, primitive, constructed}
 use Rattle.zvt_field.specs.Grammar.{Field, plain, tree}
 use Rattle.zvt_apdu.specs.Message.{Message, ack, nack, registration, authorisation, reversal, end_of_day, abort_order, status, intermediate, print_line, text_block, completion, abort, other}
-use Rattle.zvt_text.specs.Lines.{is_hidden, is_quoted}
+use Rattle.zvt_field.specs.Shapes.{format_of}
+use Rattle.zvt_field.specs.declared.shapes.Format.{Format}
+use Rattle.zvt_field.specs.declared.shapes.Format.TheVariants.{Amount, Bytes, Hidden, Result, Text}
 use Rattle.zvt_text.specs.Results.{meaning_of}
 use Rattle.zvt_trace.specs.declared.direction.Direction.{Direction}
 use Rattle.zvt_trace.specs.TraceEvent as trace_event
 use Rattle.zvt_trace.specs.TraceEvent.{TraceEvent}
-use Rattle.zvt_json.specs.Fields.{amount_value, content_value, field_value, field_values, hidden_value, object_values, quoted_value, result_value}
+use Rattle.zvt_json.specs.Fields.{amount_value, content_value, field_value, field_values, hidden_value, object_values, quoted_value, result_value, value_in}
 use Rattle.zvt_json.specs.Messages.{message_value}
 use Rattle.zvt_json.specs.Events.{EventValue}
 use Rattle.zvt_json.specs.Reading.{items_ordered, ordered}
@@ -29,16 +31,15 @@ result_ordered bmp [] = refl
 result_ordered bmp (code ∷ []) = coded_ordered bmp code (meaning_of code) refl
 result_ordered bmp (a ∷ b ∷ more) = refl
 
--- one of two values
-either : (b : Bool) (x y : Data) → ordered x ≡ true → ordered y ≡ true → ordered (if b then x else y) ≡ true
-either true x y p q = p
-either false x y p q = q
+shown_ordered : (format : Format) (bmp : ℕ) (content : List ℕ) → ordered (value_in format bmp content) ≡ true
+shown_ordered Amount bmp content = refl
+shown_ordered Result bmp content = result_ordered bmp content
+shown_ordered Text bmp content = refl
+shown_ordered Hidden bmp content = refl
+shown_ordered Bytes bmp content = refl
 
 field_ordered : (f : Field) → ordered (field_value f) ≡ true
-field_ordered (plain bmp content) =
-    either (bmp == 0x04) (amount_value bmp content) _ refl
-    (either (bmp == 0x27) (result_value bmp content) _ (result_ordered bmp content)
-    (either (is_quoted bmp) (quoted_value bmp content) _ refl (either (is_hidden bmp) (hidden_value bmp (length content)) (content_value bmp content) refl refl)))
+field_ordered (plain bmp content) = shown_ordered (format_of bmp) bmp content
 field_ordered (tree bmp objects) = ap (λ (b : Bool). b && true) (objects_ordered objects)
 
 fields_ordered : (fields : List Field) → items_ordered (field_values fields) ≡ true

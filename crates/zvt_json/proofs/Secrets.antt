@@ -1,8 +1,9 @@
 -- Only the size of what is hidden is said.
-use Rattle.std.proofs.Common.{◌≡◌, List, [], ◌∷◌, ◌++◌, refl, ap}
-use Rattle.serde_json.specs.Data.{Items, item}
+use Rattle.std.proofs.Common.{◌≡◌, ℕ, List, [], ◌∷◌, ◌++◌, refl, sym, ◌∙◌, ap}
+use Rattle.serde_json.specs.Data.{Data, Items, item}
 use Rattle.zvt_field.specs.Grammar.{Field, plain}
-use Rattle.zvt_json.specs.Fields.{field_value, field_values, hidden_value}
+use Rattle.zvt_field.specs.declared.shapes.Format.{Format}
+use Rattle.zvt_json.specs.Fields.{field_value, field_values, hidden_value, value_in}
 use Rattle.zvt_json.specs.Laws.{PasswordsStayHidden, SecretsStayHidden}
 
 pub passwords_stay_hidden : PasswordsStayHidden
@@ -13,12 +14,10 @@ alike : (f g : Field) (before after : List Field) → field_value f ≡ field_va
 alike f g [] after e = ap (λ value. item value (field_values after)) e
 alike f g (first ∷ before) after e = ap (λ (values : Items). item (field_value first) values) (alike f g before after e)
 
+-- the value of a field that is shown so
+abbrev value_of : ℕ → List ℕ → Format → Data
+value_of bmp content format = value_in format bmp content
+
 pub secrets_stay_hidden : SecretsStayHidden
-secrets_stay_hidden = (
-  λ before after one other e. alike (plain 0x22 one) (plain 0x22 other) before after (ap (hidden_value 0x22) e),
-  λ before after one other e. alike (plain 0x23 one) (plain 0x23 other) before after (ap (hidden_value 0x23) e),
-  λ before after one other e. alike (plain 0x24 one) (plain 0x24 other) before after (ap (hidden_value 0x24) e),
-  λ before after one other e. alike (plain 0x2D one) (plain 0x2D other) before after (ap (hidden_value 0x2D) e),
-  λ before after one other e. alike (plain 0x3A one) (plain 0x3A other) before after (ap (hidden_value 0x3A) e),
-  λ before after one other e. alike (plain 0x3D one) (plain 0x3D other) before after (ap (hidden_value 0x3D) e),
-)
+secrets_stay_hidden bmp is before after one other e =
+    alike (plain bmp one) (plain bmp other) before after (ap (value_of bmp one) is ∙ ap (hidden_value bmp) e ∙ sym (ap (value_of bmp other) is))

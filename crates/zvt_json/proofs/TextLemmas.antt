@@ -9,7 +9,6 @@ use Rattle.serde_json.specs.Written.{compact_text, items_text, members_text}
 use Rattle.zvt_bcd.specs.Digits.{number_of}
 use Rattle.zvt_tlv.specs.Grammar.{Objects}
 use Rattle.zvt_text.specs.Bytes.{escaped_text, hex_of}
-use Rattle.zvt_text.specs.Lines.{is_hidden}
 use Rattle.zvt_text.specs.Results.{meaning_of}
 use Rattle.zvt_json.specs.Fields.{amount_value, constructed_value, content_value, field_name, hidden_value, named, object_values, plain_value, primitive_value, quoted_value, result_value, tag_member, tree_value, words_of}
 use Rattle.zvt_json.specs.Texts.{amount_text, code_text, content_text, hidden_text, name_text, opened_text, primitive_text, quoted_text, result_text, shut, tag_text, tree_text, words_text}
@@ -33,24 +32,23 @@ pub content_said : (bmp : ℕ) (content : List ℕ) → content_text bmp content
 unfolding escape_byte
 content_said bmp content = ap (λ (l : List ℕ). opened_text bmp ++ (codes ",\"content\":\"" ++ (shut (encode_upper content) ++ l))) (name_said bmp)
 
-of_result : codes "27\"" ≡ shut (hex_of 0x27)
-unfolding escape_byte encode_with
-of_result = refl
-
-pub code_said : (code : ℕ) → code_text code ≡ compact_text (result_value 0x27 (code ∷ []))
+-- a name, and the words of a result
+coded_said : (bmp code : ℕ) → name_text bmp ++ words_text (meaning_of code) ≡ members_text true (named bmp (words_of (meaning_of code)))
 unfolding escape_byte
-code_said code =
-    ap (λ (l : List ℕ). codes "{\"bmp\":\"" ++ (l ++ (codes ",\"code\":\"" ++ (shut (hex_of code) ++ (codes ",\"name\":\"result\"" ++ words_text (meaning_of code)))))) of_result
-    ∙ ap (λ (l : List ℕ). opened_text 0x27 ++ (codes ",\"code\":\"" ++ (shut (hex_of code) ++ (codes ",\"name\":\"result\"" ++ l)))) (words_said code (meaning_of code) refl)
+coded_said bmp code = name_before bmp (words_text (meaning_of code)) ∙ ap (λ (l : List ℕ). codes ",\"name\":\"" ++ (shut (field_name bmp) ++ l)) (words_said code (meaning_of code) refl)
 
-pub result_said : (content : List ℕ) → result_text content ≡ compact_text (result_value 0x27 content)
-result_said [] = content_said 0x27 []
-result_said (code ∷ []) = code_said code
-result_said (a ∷ b ∷ more) = content_said 0x27 (a ∷ b ∷ more)
+pub code_said : (bmp code : ℕ) → code_text bmp code ≡ compact_text (result_value bmp (code ∷ []))
+unfolding escape_byte
+code_said bmp code = ap (λ (l : List ℕ). opened_text bmp ++ (codes ",\"code\":\"" ++ (shut (hex_of code) ++ l))) (coded_said bmp code)
 
-pub amount_said : (digits : List ℕ) → amount_text (number_of digits) ≡ compact_text (amount_value 0x04 digits)
-unfolding escape_byte encode_with
-amount_said digits = refl
+pub result_said : (bmp : ℕ) (content : List ℕ) → result_text bmp content ≡ compact_text (result_value bmp content)
+result_said bmp [] = content_said bmp []
+result_said bmp (code ∷ []) = code_said bmp code
+result_said bmp (a ∷ b ∷ more) = content_said bmp (a ∷ b ∷ more)
+
+pub amount_said : (bmp : ℕ) (digits : List ℕ) → amount_text bmp (number_of digits) ≡ compact_text (amount_value bmp digits)
+unfolding escape_byte
+amount_said bmp digits = ap (λ (l : List ℕ). opened_text bmp ++ l) (name_before bmp (codes ",\"value\":" ++ (decimal (number_of digits) ++ codes "}")))
 
 pub quoted_said : (bmp : ℕ) (content : List ℕ) → quoted_text bmp content ≡ compact_text (quoted_value bmp content)
 unfolding escape_byte
@@ -75,15 +73,3 @@ primitive_said tag content = refl
 pub constructed_said : (tag : List ℕ) (inner : Items) → compact_text (constructed_value tag inner) ≡ codes "{\"objects\":[" ++ (items_text false inner ++ tag_text tag)
 unfolding escape_byte
 constructed_said tag inner = refl
-
--- a field that is shown as bytes
-pub content_plain : (bmp : ℕ) (content : List ℕ) → (bmp ≡ 0x04 → ⊥) → (bmp ≡ 0x27 → ⊥) → (bmp ≡ 0x2A → ⊥) → (bmp ≡ 0x8B → ⊥) → is_hidden bmp ≡ false → content_text bmp content ≡ compact_text (plain_value bmp content)
-content_plain bmp content a b c d hidden =
-    let other : plain_value bmp content ≡ content_value bmp content = rw (ne_eqb bmp 0x04 a, ne_eqb bmp 0x27 b, ne_eqb bmp 0x2A c, ne_eqb bmp 0x8B d, hidden) refl in
-    content_said bmp content ∙ ap compact_text (sym other)
-
--- a field of which the size alone is shown
-pub hidden_plain : (bmp : ℕ) (content : List ℕ) → (bmp ≡ 0x04 → ⊥) → (bmp ≡ 0x27 → ⊥) → (bmp ≡ 0x2A → ⊥) → (bmp ≡ 0x8B → ⊥) → is_hidden bmp ≡ true → hidden_text bmp (length content) ≡ compact_text (plain_value bmp content)
-hidden_plain bmp content a b c d hidden =
-    let other : plain_value bmp content ≡ hidden_value bmp (length content) = rw (ne_eqb bmp 0x04 a, ne_eqb bmp 0x27 b, ne_eqb bmp 0x2A c, ne_eqb bmp 0x8B d, hidden) refl in
-    hidden_said bmp (length content) ∙ ap compact_text (sym other)

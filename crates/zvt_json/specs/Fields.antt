@@ -1,11 +1,12 @@
 -- The JSON of fields, and of the objects of a container. The members of an object come in the order of their names.
-use Rattle.std.specs.Prelude.{ℕ, ◌==◌, List, [], ◌∷◌, length, if◌then◌else◌, Option, Some, None, unwrap_or, codes}
+use Rattle.std.specs.Prelude.{ℕ, List, [], ◌∷◌, length, Option, Some, None, unwrap_or, codes}
 use Rattle.serde_json.specs.Data.{Data, string, array, object, Items, no_items, item, Members, no_members, member}
 use Rattle.zvt_bcd.specs.Digits.{number_of}
 use Rattle.zvt_tlv.specs.Grammar.{Objects, none, primitive, constructed}
 use Rattle.zvt_field.specs.Grammar.{Field, plain, tree}
-use Rattle.zvt_field.specs.Names.{name_of}
-use Rattle.zvt_text.specs.Lines.{is_hidden, is_quoted}
+use Rattle.zvt_field.specs.Shapes.{format_of, name_of}
+use Rattle.zvt_field.specs.declared.shapes.Format.{Format}
+use Rattle.zvt_field.specs.declared.shapes.Format.TheVariants.{Amount, Bytes, Hidden, Result, Text}
 use Rattle.zvt_text.specs.Results.{meaning_of}
 use Rattle.zvt_json.specs.Strings.{byte_value, count_value, hex_value, text_value}
 
@@ -59,13 +60,15 @@ abbrev pub hidden_value : ℕ → ℕ → Data
 hidden_value bmp size = of_bmp bmp (member (codes "hidden") (count_value size) (named bmp no_members))
 
 -- a field whose content is bytes
+abbrev pub value_in : Format → ℕ → List ℕ → Data
+value_in Amount bmp content = amount_value bmp content
+value_in Result bmp content = result_value bmp content
+value_in Text bmp content = quoted_value bmp content
+value_in Hidden bmp content = hidden_value bmp (length content)
+value_in Bytes bmp content = content_value bmp content
+
 abbrev pub plain_value : ℕ → List ℕ → Data
-plain_value bmp content =
-    if bmp == 0x04 then amount_value bmp content
-    else if bmp == 0x27 then result_value bmp content
-    else if is_quoted bmp then quoted_value bmp content
-    else if is_hidden bmp then hidden_value bmp (length content)
-    else content_value bmp content
+plain_value bmp content = value_in (format_of bmp) bmp content
 
 abbrev pub tree_value : ℕ → Objects → Data
 tree_value bmp objects = of_bmp bmp (named bmp (member (codes "objects") (array (object_values objects)) no_members))

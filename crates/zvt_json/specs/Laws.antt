@@ -4,6 +4,8 @@ use Rattle.serde_json.specs.Data.{Data}
 use Rattle.serde_json.specs.Read.{read}
 use Rattle.serde_json.specs.Written.{compact_text}
 use Rattle.zvt_field.specs.Grammar.{Field, plain}
+use Rattle.zvt_field.specs.Shapes.{format_of}
+use Rattle.zvt_field.specs.declared.shapes.Format.TheVariants.{Hidden}
 use Rattle.zvt_apdu.specs.Message.{registration, reversal, end_of_day}
 use Rattle.zvt_trace.specs.declared.direction.Direction.{Direction}
 use Rattle.zvt_trace.specs.TraceEvent.{TraceEvent, message, refused, unread, resumed, cut_off, lost}
@@ -24,9 +26,9 @@ abbrev pub StaysHidden : (bmp : ℕ) → Type 0
 StaysHidden bmp =
     (before after : List Field) (one other : List ℕ) → length one ≡ length other → field_values (before ++ plain bmp one ∷ after) ≡ field_values (before ++ plain bmp other ∷ after)
 
--- The card number, the three tracks, the verification value and the password.
+-- Whatever the table of BMPs hides.
 abbrev pub SecretsStayHidden : Type 0
-SecretsStayHidden = StaysHidden 0x22 × StaysHidden 0x23 × StaysHidden 0x24 × StaysHidden 0x2D × StaysHidden 0x3A × StaysHidden 0x3D
+SecretsStayHidden = (bmp : ℕ) → format_of bmp ≡ Hidden → StaysHidden bmp
 
 -- A place, a size and a count fit 64 bits, as the program's do.
 abbrev pub NumbersFit : TraceEvent → Type 0

@@ -152,15 +152,15 @@ name_text bmp = codes ",\"name\":\"" ++ (field_name bmp ++ 34 ∷ [])
 abbrev pub content_text : ℕ → List ℕ → List ℕ
 content_text bmp content = opened_text bmp ++ (codes ",\"content\":\"" ++ (shut (encode_upper content) ++ (name_text bmp ++ codes "}")))
 
-abbrev pub code_text : ℕ → List ℕ
-code_text code = codes "{\"bmp\":\"27\",\"code\":\"" ++ (shut (hex_of code) ++ (codes ",\"name\":\"result\"" ++ words_text (meaning_of code)))
+abbrev pub code_text : ℕ → ℕ → List ℕ
+code_text bmp code = opened_text bmp ++ (codes ",\"code\":\"" ++ (shut (hex_of code) ++ (name_text bmp ++ words_text (meaning_of code))))
 
-abbrev pub result_text : List ℕ → List ℕ
-result_text (code ∷ []) = code_text code
-result_text content = content_text 0x27 content
+abbrev pub result_text : ℕ → List ℕ → List ℕ
+result_text bmp (code ∷ []) = code_text bmp code
+result_text bmp content = content_text bmp content
 
-abbrev pub amount_text : ℕ → List ℕ
-amount_text units = codes "{\"bmp\":\"04\",\"name\":\"amount\",\"value\":" ++ decimal units ++ codes "}"
+abbrev pub amount_text : ℕ → ℕ → List ℕ
+amount_text bmp units = opened_text bmp ++ (name_text bmp ++ (codes ",\"value\":" ++ (decimal units ++ codes "}")))
 
 abbrev pub quoted_text : ℕ → List ℕ → List ℕ
 quoted_text bmp content = opened_text bmp ++ (name_text bmp ++ (codes ",\"text\":\"" ++ (shut (escaped_text content) ++ codes "}")))

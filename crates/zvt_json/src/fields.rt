@@ -5,7 +5,6 @@ ghost use Rattle.zvt_bcd.specs.Digits.{number_of};
 ghost use Rattle.zvt_field.specs.Lent.{shown};
 ghost use Rattle.zvt_field.specs.Views.{PlainBytes};
 ghost use Rattle.zvt_tlv.specs.Checks.{is_shallow};
-ghost use Rattle.zvt_text.specs.Lines.{is_hidden};
 ghost use Rattle.zvt_text.specs.Writing.{Puts};
 ghost use Rattle.zvt_json.specs.Fields.{field_value, field_values, plain_value};
 ghost use Rattle.zvt_json.specs.Texts.{amount_text, code_text, content_text, hidden_text, quoted_text, result_text};
@@ -15,7 +14,7 @@ use crate::objects::objects;
 use crate::parts::{comma, name, opened, words};
 use crate::strings::{byte, bytes, text};
 use zvt_bcd::number;
-use zvt_field::{FieldView, FieldsView};
+use zvt_field::{FieldView, FieldsView, Format, format};
 use zvt_text::cursor::{Full, decimal, fixed, push};
 use zvt_tlv::ForestView;
 
@@ -64,32 +63,23 @@ fn plain(buffer: &mut [u8], at: usize, bmp: u8, content: &[u8]) -> Result<usize,
     requires inside { at ≤ length buffer.old }
     ensures { Puts result at buffer.old buffer.new (compact_text (plain_value bmp content.now)) }
 {
-    match bmp {
-        0x04 => amount(buffer, at, units(content)),
-        0x27 => outcome(buffer, at, content),
-        0x2A | 0x8B => quoted(buffer, at, bmp, content),
-        _ if is_hidden(bmp) => hidden(buffer, at, bmp, content.len()),
-        _ => in_hexadecimal(buffer, at, bmp, content),
+    match format(bmp) {
+        Format::Amount => amount(buffer, at, bmp, units(content)),
+        Format::Result => outcome(buffer, at, bmp, content),
+        Format::Text => quoted(buffer, at, bmp, content),
+        Format::Hidden => hidden(buffer, at, bmp, content.len()),
+        Format::Bytes => in_hexadecimal(buffer, at, bmp, content),
     }
 }
 
-/// Whether it is a card number, a track, a verification value or a password.
-fn is_hidden(bmp: u8) -> bool
-    ensures { result ≡ is_hidden bmp }
-{
-    matches!(bmp, 0x22 | 0x23 | 0x24 | 0x2D | 0x3A | 0x3D)
-}
-
 /// An amount in its smallest unit.
-fn amount(buffer: &mut [u8], at: usize, units: u64) -> Result<usize, Full>
+fn amount(buffer: &mut [u8], at: usize, bmp: u8, units: u64) -> Result<usize, Full>
     requires { at ≤ length buffer.old }
-    ensures { Puts result at buffer.old buffer.new (amount_text units) }
+    ensures { Puts result at buffer.old buffer.new (amount_text bmp units) }
 {
-    let at = fixed(
-        buffer,
-        at,
-        *b"{\"bmp\":\"04\",\"name\":\"amount\",\"value\":",
-    )?;
+    let at = opened(buffer, at, bmp)?;
+    let at = name(buffer, at, bmp)?;
+    let at = fixed(buffer, at, *b",\"value\":")?;
     let at = decimal(buffer, at, units)?;
     push(buffer, at, b'}')
 }
@@ -102,24 +92,25 @@ fn units(content: &[u8]) -> u64
     number(content)
 }
 
-fn outcome(buffer: &mut [u8], at: usize, content: &[u8]) -> Result<usize, Full>
+fn outcome(buffer: &mut [u8], at: usize, bmp: u8, content: &[u8]) -> Result<usize, Full>
     requires { at ≤ length buffer.old }
-    ensures { Puts result at buffer.old buffer.new (result_text content.now) }
+    ensures { Puts result at buffer.old buffer.new (result_text bmp content.now) }
 {
     match content {
-        [code] => result_code(buffer, at, *code),
-        _ => in_hexadecimal(buffer, at, 0x27, content),
+        [code] => result_code(buffer, at, bmp, *code),
+        _ => in_hexadecimal(buffer, at, bmp, content),
     }
 }
 
 /// A result code, and what it means.
-fn result_code(buffer: &mut [u8], at: usize, code: u8) -> Result<usize, Full>
+fn result_code(buffer: &mut [u8], at: usize, bmp: u8, code: u8) -> Result<usize, Full>
     requires { at ≤ length buffer.old }
-    ensures { Puts result at buffer.old buffer.new (code_text code) }
+    ensures { Puts result at buffer.old buffer.new (code_text bmp code) }
 {
-    let at = fixed(buffer, at, *b"{\"bmp\":\"27\",\"code\":\"")?;
+    let at = opened(buffer, at, bmp)?;
+    let at = fixed(buffer, at, *b",\"code\":\"")?;
     let at = byte(buffer, at, code)?;
-    let at = fixed(buffer, at, *b",\"name\":\"result\"")?;
+    let at = name(buffer, at, bmp)?;
     words(buffer, at, code)
 }
 

@@ -2,8 +2,8 @@
 
 ghost use Rattle.zvt_json.specs.Laws.{EventsReadBack, PasswordsStayHidden, SecretsStayHidden};
 
-/// No JSON depends on the password of a message; and of a card number (22), a track (23, 24, 2D), a verification value
-/// (3A) or a password (3D) in a field it says the size alone.
+/// No JSON depends on the password of a message, and of a field that the table of BMPs hides it says the size alone.
+/// [`zvt_field::laws::secrets_are_hidden`] lists what that is.
 pub fn secrets_stay_hidden()
     ensures passwords { PasswordsStayHidden }
     ensures fields { SecretsStayHidden }

@@ -1,6 +1,8 @@
 -- What no text says.
 use Rattle.std.specs.Prelude.{◌≡◌, ℕ, Option, List, ◌∷◌, ◌++◌, length}
 use Rattle.zvt_field.specs.Grammar.{Field, plain}
+use Rattle.zvt_field.specs.Shapes.{format_of}
+use Rattle.zvt_field.specs.declared.shapes.Format.TheVariants.{Hidden}
 use Rattle.zvt_apdu.specs.Message.{registration, reversal, end_of_day}
 use Rattle.zvt_text.specs.Lines.{field_lines}
 use Rattle.zvt_text.specs.MessageTexts.{said}
@@ -18,6 +20,6 @@ abbrev pub StaysHidden : (bmp : ℕ) → Type 0
 StaysHidden bmp =
     (before after : List Field) (one other : List ℕ) → length one ≡ length other → field_lines (before ++ plain bmp one ∷ after) ≡ field_lines (before ++ plain bmp other ∷ after)
 
--- The card number, the three tracks, the verification value and the password.
+-- Whatever the table of BMPs hides.
 abbrev pub SecretsStayHidden : Type 0
-SecretsStayHidden = StaysHidden 0x22 × StaysHidden 0x23 × StaysHidden 0x24 × StaysHidden 0x2D × StaysHidden 0x3A × StaysHidden 0x3D
+SecretsStayHidden = (bmp : ℕ) → format_of bmp ≡ Hidden → StaysHidden bmp

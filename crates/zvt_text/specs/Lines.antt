@@ -1,35 +1,31 @@
 -- The lines of fields, and of the objects of a container.
-use Rattle.std.specs.Prelude.{ℕ, ◌+◌, ◌*◌, ◌==◌, ◌||◌, Bool, List, [], ◌∷◌, ◌++◌, length, replicate, if◌then◌else◌, unwrap_or, codes}
-use Rattle.std.specs.List.{flat_map, list_any}
+use Rattle.std.specs.Prelude.{ℕ, ◌+◌, ◌*◌, List, [], ◌∷◌, ◌++◌, length, replicate, unwrap_or, codes}
+use Rattle.std.specs.List.{flat_map}
 use Rattle.std.specs.Fmt.{decimal}
 use Rattle.hex.specs.Hex.{encode_upper}
 use Rattle.zvt_bcd.specs.Digits.{number_of}
 use Rattle.zvt_tlv.specs.Grammar.{Objects, none, primitive, constructed}
 use Rattle.zvt_field.specs.Grammar.{Field, plain, tree}
-use Rattle.zvt_field.specs.Names.{name_of}
+use Rattle.zvt_field.specs.Shapes.{format_of, name_of}
+use Rattle.zvt_field.specs.declared.shapes.Format.{Format}
+use Rattle.zvt_field.specs.declared.shapes.Format.TheVariants.{Amount, Bytes, Hidden, Result, Text}
 use Rattle.zvt_text.specs.Bytes.{hex_of, hex_or_dash, quoted}
 use Rattle.zvt_text.specs.Results.{result_words}
-
--- the card number, the tracks, the verification value and the password
-abbrev pub is_hidden : ℕ → Bool
-is_hidden bmp = list_any (λ hidden. bmp == hidden) (0x22 ∷ 0x23 ∷ 0x24 ∷ 0x2D ∷ 0x3A ∷ 0x3D ∷ [])
-
--- the contract number and the name of the card
-abbrev pub is_quoted : ℕ → Bool
-is_quoted bmp = bmp == 0x2A || bmp == 0x8B
 
 abbrev pub result_text : List ℕ → List ℕ
 result_text (code ∷ []) = result_words code
 result_text content = hex_or_dash content
 
--- the value of a field whose content is bytes
+-- the value of a field whose content is bytes; of what is hidden the size alone
+abbrev pub value_in : Format → List ℕ → List ℕ
+value_in Amount content = decimal (number_of content)
+value_in Result content = result_text content
+value_in Text content = quoted content
+value_in Hidden content = codes "hidden " ++ decimal (length content)
+value_in Bytes content = hex_or_dash content
+
 abbrev pub value_text : ℕ → List ℕ → List ℕ
-value_text bmp content =
-    if bmp == 0x04 then decimal (number_of content)
-    else if bmp == 0x27 then result_text content
-    else if is_quoted bmp then quoted content
-    else if is_hidden bmp then codes "hidden " ++ decimal (length content)
-    else hex_or_dash content
+value_text bmp content = value_in (format_of bmp) content
 
 -- what comes before an object's content
 abbrev pub object_head : ℕ → List ℕ → List ℕ

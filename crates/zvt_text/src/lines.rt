@@ -1,7 +1,7 @@
 //! The lines of fields.
 ghost use Rattle.std.specs.Prelude.{◌≡◌, ◌≤◌, [], length, unwrap_or};
 ghost use Rattle.zvt_field.specs.Lent.{shown};
-ghost use Rattle.zvt_field.specs.Names.{name_of};
+ghost use Rattle.zvt_field.specs.Shapes.{name_of};
 ghost use Rattle.zvt_text.specs.Lines.{field_line, field_lines, named_text};
 ghost use Rattle.zvt_text.specs.Writing.{Puts};
 

@@ -9,6 +9,7 @@ use crate::bytes::{bytes_or_dash, quote};
 use crate::cursor::{Full, decimal, fixed};
 use crate::write::put_result;
 use zvt_bcd::number;
+use zvt_field::{Format, format};
 
 /// An amount in its smallest unit, a result in words, quoted text, the size of what is hidden, or bytes in hexadecimal.
 pub(crate) fn value(buffer: &mut [u8], at: usize, bmp: u8, content: &[u8]) -> Result<usize, Full>
@@ -16,19 +17,19 @@ pub(crate) fn value(buffer: &mut [u8], at: usize, bmp: u8, content: &[u8]) -> Re
     requires inside { at ≤ length buffer.old }
     ensures { Puts result at buffer.old buffer.new (value_text bmp content.now) }
 {
-    match bmp {
-        0x04 => {
+    match format(bmp) {
+        Format::Amount => {
             let units = units(content);
             decimal(buffer, at, units)
         }
-        0x27 => outcome(buffer, at, content),
-        0x2A | 0x8B => quote(buffer, at, content),
-        0x22 | 0x23 | 0x24 | 0x2D | 0x3A | 0x3D => {
+        Format::Result => outcome(buffer, at, content),
+        Format::Text => quote(buffer, at, content),
+        Format::Hidden => {
             let at = fixed(buffer, at, *b"hidden ")?;
             let hidden = content.len() as u64;
             decimal(buffer, at, hidden)
         }
-        _ => bytes_or_dash(buffer, at, content),
+        Format::Bytes => bytes_or_dash(buffer, at, content),
     }
 }
 
