@@ -148,7 +148,7 @@ payment_fields six two long are short pair =
     (subst (λ (s : List ℕ). FieldList shortest (plain 0x49 two ∷ []) (0x49 ∷ s)) (append-nil two) (plain_field 0x49 two [] [] (currency_field two short pair) refl))
 
 -- digits of that count are those of their number
-digits_as : (count number : ℕ) (s : List ℕ) → length s ≡ count → AreDigits s → number_of s ≡ number → s ≡ digits count number
+pub digits_as : (count number : ℕ) (s : List ℕ) → length s ≡ count → AreDigits s → number_of s ≡ number → s ≡ digits count number
 digits_as count number s long are same = digits_are s are ∙ ap (λ (k : ℕ). digits k (number_of s)) long ∙ ap (digits count) same
 
 pub payment_spelled : (six two : List ℕ) (amount currency : ℕ) → length six ≡ 6 → AreDigits six → number_of six ≡ amount → length two ≡ 2 → AreDigits two → number_of two ≡ currency

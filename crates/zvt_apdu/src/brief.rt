@@ -7,11 +7,14 @@ ghost use Rattle.zvt_bcd.specs.Digits.{AreDigits, number_of};
 ghost use Rattle.zvt_apdu.specs.Briefs.{message_of_brief, PutsMessage};
 
 use crate::apdu::Apdu;
+use crate::control_bytes;
+use crate::put::{amount_digits, currency_digits, put_after, put_message};
 use crate::reader::scan;
-use crate::writer::{bytes_size, currency_digits, password_size, put_after, put_bytes};
+use crate::writer::{bytes_size, password_size};
 use std::alloc::{AllocError, Global};
 use std::fmt;
-use zvt_bcd::{Amount, Currency, put};
+use zvt_bcd::{Amount, Currency};
+use zvt_field::bmp;
 use zvt_grammar::Scan;
 
 /// The size of a buffer that each till message fits in.
@@ -65,43 +68,24 @@ impl fmt::Debug for Brief {
     }
 }
 
-/// An amount's six bytes of digits.
-fn amount_digits(amount: Amount) -> [u8; 6]
-    ensures six { length result ≡ 6 }
-    ensures digits { AreDigits result }
-    ensures number { number_of result ≡ amount }
-{
-    let mut digits = [0; 6];
-    put(amount.get(), &mut digits);
-    digits
-}
-
-/// Puts a message without data at the start, and says its size.
-fn put_bare(high: u8, low: u8, out: &mut [u8; MAX_BRIEF_LEN]) -> usize
-    ensures written { Puts (high ∷ low ∷ 0 ∷ []) out.old out.new result }
-    ensures fits { result ≤ 32 }
-    ensures byte { low < 256 }
-{
-    put_bytes(&[high, low, 0], out)
-}
-
-/// Puts a message 06 at the start whose data is a password and what comes after it, and says its size.
+/// Puts a message at the start whose data is a password and what comes after it, and says its size.
 fn put_with_password(
-    low: u8,
+    control: [u8; 2],
     password: [u8; 3],
     more: &[u8],
     out: &mut [u8; MAX_BRIEF_LEN],
 ) -> usize
     requires { length more.now ≤ 3 }
-    ensures written { Puts (0x06 ∷ low ∷ (3 + length more.now) ∷ (password ++ more.now)) out.old out.new result }
+    ensures written { Puts (control ++ (3 + length more.now) ∷ (password ++ more.now)) out.old out.new result }
     ensures fits { result ≤ 32 }
     ensures three { length password ≡ 3 }
     ensures bytes { AreBytes password }
     ensures more_bytes { AreBytes more.now }
 {
     let size = password_size(&password) + bytes_size(more);
+    let [high, low] = control;
     let [first, second, third] = password;
-    put_after(&[0x06, low, size as u8, first, second, third], more, out)
+    put_after(&[high, low, size as u8, first, second, third], more, out)
 }
 
 /// Puts a payment at the start, and says its size.
@@ -110,8 +94,9 @@ fn put_payment(amount: Amount, currency: Currency, out: &mut [u8]) -> usize
     ensures written { PutsMessage (message_of_brief (Brief.Pay amount currency)) out.old out.new result }
     ensures fits { result ≤ 32 }
 {
-    let at = put_after(&[0x06, 0x01, 0x0A, 0x04], &amount_digits(amount), out);
-    at + put_after(&[0x49], &currency_digits(currency), &mut out[at..])
+    let [high, low] = control_bytes::AUTHORISATION;
+    let at = put_after(&[high, low, 0x0A, bmp::AMOUNT], &amount_digits(amount), out);
+    at + put_after(&[bmp::CURRENCY], &currency_digits(currency), &mut out[at..])
 }
 
 /// Puts a reversal at the start, and says its size.
@@ -120,7 +105,12 @@ fn put_reversal(password: [u8; 3], receipt: &[u8; 2], out: &mut [u8; MAX_BRIEF_L
     ensures fits { result ≤ 32 }
 {
     let [high, low] = *receipt;
-    put_with_password(0x30, password, &[0x87, high, low], out)
+    put_with_password(
+        control_bytes::REVERSAL,
+        password,
+        &[bmp::RECEIPT, high, low],
+        out,
+    )
 }
 
 /// Encodes the message into the start of the buffer and returns its size. Every brief message fits. The rest of the
@@ -130,20 +120,30 @@ pub fn put_brief(brief: &Brief, buffer: &mut [u8; MAX_BRIEF_LEN]) -> usize
     ensures fits { result ≤ 32 }
 {
     match *brief {
-        Brief::Ack => put_bare(0x80, 0x00, buffer),
-        Brief::Nack(code) => put_bare(0x84, code, buffer),
+        Brief::Ack => put_message(control_bytes::ACK, &[], buffer),
+        Brief::Nack(code) => put_message([control_bytes::NACK, code], &[], buffer),
         Brief::Register {
             password,
             config,
             currency,
         } => {
             let [high, low] = currency_digits(currency);
-            put_with_password(0x00, password, &[config, high, low], buffer)
+            put_with_password(
+                control_bytes::REGISTRATION,
+                password,
+                &[config, high, low],
+                buffer,
+            )
         }
         Brief::Pay(amount, currency) => put_payment(amount, currency, buffer),
         Brief::Reverse { password, receipt } => put_reversal(password, &receipt, buffer),
-        Brief::CloseDay { password } => put_with_password(0x50, password, &[], buffer),
-        Brief::AbortOrder => put_bare(0x06, 0xB0, buffer),
+        Brief::CloseDay { password } => put_with_password(
+            control_bytes::END_OF_DAY,
+            password,
+            &[],
+            buffer,
+        ),
+        Brief::AbortOrder => put_message(control_bytes::ABORT_ORDER, &[], buffer),
     }
 }
 

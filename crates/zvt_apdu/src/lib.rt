@@ -3,13 +3,14 @@
 
 mod apdu;
 mod brief;
-mod control_bytes;
+pub mod control_bytes;
 mod frame;
 mod kinds;
 pub mod laws;
 mod messages;
 mod normal_form;
 mod owned_message;
+pub mod put;
 mod reader;
 mod views;
 mod writer;

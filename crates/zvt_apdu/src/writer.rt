@@ -2,7 +2,6 @@
 
 ghost use Rattle.std.specs.Prelude.{◌≡◌, ◌+◌, ◌++◌, ◌<◌, ◌≤◌, ◌^◌, ℕ, List, ◌∷◌, length, IfOk};
 ghost use Rattle.zvt_grammar.specs.Reading.{AreBytes, shortest};
-ghost use Rattle.zvt_bcd.specs.Digits.{AreDigits, number_of};
 ghost use Rattle.zvt_tlv.specs.Sizes.{Puts};
 ghost use Rattle.zvt_field.specs.Grammar.{FieldList};
 ghost use Rattle.zvt_apdu.specs.Grammar.{Data, Spells};
@@ -14,9 +13,10 @@ use crate::apdu::Apdu;
 use crate::control_bytes;
 use crate::frame::form_of;
 use crate::messages::Message;
+use crate::put::{currency_digits, put_after, put_bytes};
 use std::alloc::{AllocError, Global};
 use thiserror::Error;
-use zvt_bcd::{Currency, put};
+use zvt_bcd::Currency;
 use zvt_field::{Fields, write_into};
 
 /// The slice is shorter than the spelling, which has `need` bytes.
@@ -91,17 +91,6 @@ fn fields_size(fields: &Fields) -> usize
     zvt_field::size(fields)
 }
 
-/// A currency's two bytes of digits.
-pub(crate) fn currency_digits(currency: Currency) -> [u8; 2]
-    ensures two { length result ≡ 2 }
-    ensures digits { AreDigits result }
-    ensures number { number_of result ≡ currency }
-{
-    let mut digits = [0; 2];
-    put(u64::from(currency.get()), &mut digits);
-    digits
-}
-
 /// The size of the message's data.
 pub(crate) fn data_size(message: &Message) -> usize
     ensures { HasData (message_of message.now) result }
@@ -137,24 +126,6 @@ fn registration_size(password: &[u8; 3], config: u8, rest: &Option<(Currency, Fi
         None => first,
         Some(rest) => { first + currency_digits(rest.0).len() + fields_size(&rest.1) }
     }
-}
-
-/// Puts bytes at the start, and says how many.
-pub(crate) fn put_bytes(bytes: &[u8], out: &mut [u8]) -> usize
-    requires { length bytes.now ≤ length out.old }
-    ensures { Puts bytes.now out.old out.new result }
-{
-    out[..bytes.len()].copy_from_slice(bytes);
-    bytes.len()
-}
-
-/// Puts bytes at the start, and others after them, and says how many.
-pub(crate) fn put_after(first: &[u8], bytes: &[u8], out: &mut [u8]) -> usize
-    requires { length first.now + length bytes.now ≤ length out.old }
-    ensures { Puts (first.now ++ bytes.now) out.old out.new result }
-{
-    let at = put_bytes(first, out);
-    at + put_bytes(bytes, &mut out[at..])
 }
 
 /// Puts bytes at the start, and fields after them, and says how many.

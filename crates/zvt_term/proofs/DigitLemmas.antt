@@ -6,11 +6,6 @@ use Rattle.std.proofs.lemmas.List.Elements.{All-nil, All-cons, All-head, All-tai
 use Rattle.zvt_bcd.specs.Digits.{AreDigits, IsDigitPair, pair_number, number_of}
 use Rattle.zvt_grammar.specs.Reading.{AreBytes}
 use Rattle.zvt_apdu.specs.Briefs.{digits}
-use Rattle.zvt_apdu.proofs.BriefLemmas.{digits_are}
-
--- digits of that count are those of their number
-pub digits_as : (count number : ℕ) (s : List ℕ) → length s ≡ count → AreDigits s → number_of s ≡ number → s ≡ digits count number
-digits_as count number s long are same = digits_are s are ∙ ap (λ (k : ℕ). digits k (number_of s)) long ∙ ap (digits count) same
 
 pub length-digits : (k n : ℕ) → length (digits k n) ≡ k
 length-digits zero n = refl

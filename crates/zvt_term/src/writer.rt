@@ -1,8 +1,6 @@
 //! The messages of the terminal, written without memory.
 ghost use Rattle.std.specs.Prelude.{◌≡◌, ◌+◌, ◌++◌, [], ◌∷◌, ◌<◌, ◌≤◌, ◌^◌, length, codes, IfOk};
 ghost use Rattle.std.specs.Fmt.{decimal};
-ghost use Rattle.zvt_grammar.specs.Reading.{AreBytes};
-ghost use Rattle.zvt_tlv.specs.Sizes.{Puts};
 ghost use Rattle.zvt_apdu.specs.Message.{print_line};
 ghost use Rattle.zvt_apdu.specs.Briefs.{digits, PutsMessage};
 ghost use Rattle.zvt_term.specs.Reports.{IsWritable, currency_field, message_of_report, text_of};
@@ -10,32 +8,14 @@ ghost use Rattle.zvt_term.specs.Reports.{IsWritable, currency_field, message_of_
 use crate::messages::{Line, Report};
 use itoa::Buffer;
 use std::alloc::{AllocError, Global};
-use zvt_apdu::{Apdu, scan};
+use zvt_apdu::put::{amount_digits, currency_digits, put_after, put_bytes, put_message};
+use zvt_apdu::{Apdu, control_bytes, scan};
 use zvt_bcd::{Amount, Currency, put};
+use zvt_field::bmp::{AMOUNT, CURRENCY, ORIGINAL, RECEIPT, RESULT, TERMINAL, TRACE};
 use zvt_grammar::Scan;
 
 /// The size of a buffer that each report fits in.
 pub const MAX_REPORT_LEN: usize = 32;
-
-/// An amount's six bytes of digits.
-fn amount_digits(amount: Amount) -> [u8; 6]
-    ensures digits { result ≡ digits 6 amount }
-    ensures small { amount < 100 ^ 6 }
-{
-    let mut six = [0; 6];
-    put(amount.get(), &mut six);
-    six
-}
-
-/// A currency's two bytes of digits.
-fn currency_digits(currency: Currency) -> [u8; 2]
-    ensures digits { result ≡ digits 2 currency }
-    ensures small { currency < 100 ^ 2 }
-{
-    let mut two = [0; 2];
-    put(u64::from(currency.get()), &mut two);
-    two
-}
 
 /// The two bytes of digits of a row's number.
 fn number_digits(number: u16) -> [u8; 2]
@@ -57,37 +37,6 @@ fn tid_digits(tid: u32) -> [u8; 4]
     four
 }
 
-/// Puts bytes at the start, and says how many.
-fn put_bytes(bytes: &[u8], out: &mut [u8]) -> usize
-    requires { length bytes.now ≤ length out.old }
-    ensures { Puts bytes.now out.old out.new result }
-{
-    out[..bytes.len()].copy_from_slice(bytes);
-    bytes.len()
-}
-
-/// Puts bytes at the start, and others after them, and says how many.
-fn put_after(first: &[u8], bytes: &[u8], out: &mut [u8]) -> usize
-    requires { length first.now + length bytes.now ≤ length out.old }
-    ensures written { Puts (first.now ++ bytes.now) out.old out.new result }
-    ensures size { result ≡ length first.now + length bytes.now }
-    ensures are_bytes { AreBytes bytes.now }
-{
-    let at = put_bytes(first, out);
-    at + put_bytes(bytes, &mut out[at..])
-}
-
-/// Puts a message of these control bytes and data at the start, and says its size.
-fn put_data(high: u8, low: u8, bytes: &[u8], out: &mut [u8; MAX_REPORT_LEN]) -> usize
-    requires { length bytes.now ≤ 29 }
-    ensures written { Puts (high ∷ low ∷ length bytes.now ∷ bytes.now) out.old out.new result }
-    ensures fits { result ≤ 32 }
-    ensures are_bytes { AreBytes bytes.now }
-    ensures byte { low < 256 }
-{
-    put_after(&[high, low, bytes.len() as u8], bytes, out)
-}
-
 /// Puts a registration's completion at the start, and says its size.
 fn put_registration(tid: u32, currency: Option<Currency>, out: &mut [u8; MAX_REPORT_LEN]) -> usize
     requires { tid ≤ 99999999 }
@@ -96,10 +45,14 @@ fn put_registration(tid: u32, currency: Option<Currency>, out: &mut [u8; MAX_REP
 {
     let [a, b, c, d] = tid_digits(tid);
     match currency {
-        None => put_data(0x06, 0x0F, &[0x29, a, b, c, d], out),
+        None => put_message(control_bytes::COMPLETION, &[TERMINAL, a, b, c, d], out),
         Some(currency) => {
             let [high, low] = currency_digits(currency);
-            put_data(0x06, 0x0F, &[0x29, a, b, c, d, 0x49, high, low], out)
+            put_message(
+                control_bytes::COMPLETION,
+                &[TERMINAL, a, b, c, d, CURRENCY, high, low],
+                out,
+            )
         }
     }
 }
@@ -120,17 +73,17 @@ fn put_approval(
     match currency {
         None => {
             let fields = [
-                0x27, 0x00, 0x04, a, b, c, d, e, f, 0x0B, 0x00, high, low, 0x87, high, low,
+                RESULT, 0x00, AMOUNT, a, b, c, d, e, f, TRACE, 0x00, high, low, RECEIPT, high, low,
             ];
-            put_data(0x04, 0x0F, &fields, out)
+            put_message(control_bytes::STATUS, &fields, out)
         }
         Some(currency) => {
             let [first, second] = currency_digits(currency);
             let fields = [
-                0x27, 0x00, 0x04, a, b, c, d, e, f, 0x0B, 0x00, high, low, 0x87, high, low, 0x49,
-                first, second,
+                RESULT, 0x00, AMOUNT, a, b, c, d, e, f, TRACE, 0x00, high, low, RECEIPT, high, low,
+                CURRENCY, first, second,
             ];
-            put_data(0x04, 0x0F, &fields, out)
+            put_message(control_bytes::STATUS, &fields, out)
         }
     }
 }
@@ -155,18 +108,18 @@ fn put_reversal(
     match currency {
         None => {
             let fields = [
-                0x27, 0x00, 0x04, a, b, c, d, e, f, 0x0B, 0x00, high, low, 0x37, 0x00, old_high,
-                old_low, 0x87, high, low,
+                RESULT, 0x00, AMOUNT, a, b, c, d, e, f, TRACE, 0x00, high, low, ORIGINAL, 0x00,
+                old_high, old_low, RECEIPT, high, low,
             ];
-            put_data(0x04, 0x0F, &fields, out)
+            put_message(control_bytes::STATUS, &fields, out)
         }
         Some(currency) => {
             let [first, second] = currency_digits(currency);
             let fields = [
-                0x27, 0x00, 0x04, a, b, c, d, e, f, 0x0B, 0x00, high, low, 0x37, 0x00, old_high,
-                old_low, 0x87, high, low, 0x49, first, second,
+                RESULT, 0x00, AMOUNT, a, b, c, d, e, f, TRACE, 0x00, high, low, ORIGINAL, 0x00,
+                old_high, old_low, RECEIPT, high, low, CURRENCY, first, second,
             ];
-            put_data(0x04, 0x0F, &fields, out)
+            put_message(control_bytes::STATUS, &fields, out)
         }
     }
 }
@@ -179,7 +132,8 @@ fn put_text(words: &[u8], more: &[u8], out: &mut [u8]) -> usize
     ensures fits { result ≤ 32 }
 {
     let size = (1 + words.len() + more.len()) as u8;
-    let at = put_after(&[0x06, 0xD1, size, 0x00], words, out);
+    let [high, low] = control_bytes::PRINT_LINE;
+    let at = put_after(&[high, low, size, 0x00], words, out);
     at + put_bytes(more, &mut out[at..])
 }
 
@@ -213,15 +167,15 @@ pub fn put_report(report: &Report, buffer: &mut [u8; MAX_REPORT_LEN]) -> usize
     ensures fits { result ≤ 32 }
 {
     match report {
-        Report::Ack => put_data(0x80, 0x00, &[], buffer),
-        Report::Nack(code) => put_data(0x84, *code, &[], buffer),
+        Report::Ack => put_message(control_bytes::ACK, &[], buffer),
+        Report::Nack(code) => put_message([control_bytes::NACK, *code], &[], buffer),
         Report::Registered { tid, currency } => put_registration(*tid, *currency, buffer),
         Report::Approved {
             amount,
             number,
             currency,
         } => put_approval(*amount, *number, *currency, buffer),
-        Report::Result(code) => put_data(0x04, 0x0F, &[0x27, *code], buffer),
+        Report::Result(code) => put_message(control_bytes::STATUS, &[RESULT, *code], buffer),
         Report::TakenBack {
             amount,
             number,
@@ -229,8 +183,8 @@ pub fn put_report(report: &Report, buffer: &mut [u8; MAX_REPORT_LEN]) -> usize
             currency,
         } => put_reversal(*amount, *number, *original, *currency, buffer),
         Report::Line(line) => put_line(line, buffer),
-        Report::Done => put_data(0x06, 0x0F, &[], buffer),
-        Report::Aborted(code) => put_data(0x06, 0x1E, &[*code], buffer),
+        Report::Done => put_message(control_bytes::COMPLETION, &[], buffer),
+        Report::Aborted(code) => put_message(control_bytes::ABORT, &[*code], buffer),
     }
 }
 

@@ -6,17 +6,17 @@ use Rattle.zvt_apdu.proofs.brief.put_brief.Goals as goal
 
 pub returns-in-Ack-clause-written : goal.returns-in-Ack-clause-written
 returns-in-Ack-clause-written c =
-    subst (λ (b : Brief). PutsMessage (message_of_brief b) c.args.buffer.now c.put_bare.new.out c.put_bare.result) (sym c.in-Ack.is) (record { bytes = _; spelled = brief.ack_spelled; puts = c.put_bare.ensures.written })
+    subst (λ (b : Brief). PutsMessage (message_of_brief b) c.args.buffer.now c.put_message.new.out c.put_message.result) (sym c.in-Ack.is) (record { bytes = _; spelled = brief.ack_spelled; puts = c.put_message.ensures.written })
 
 pub returns-in-Nack-clause-written : goal.returns-in-Nack-clause-written
 returns-in-Nack-clause-written c =
-    subst (λ (b : Brief). PutsMessage (message_of_brief b) c.args.buffer.now c.put_bare-in-Nack.new.out c.put_bare-in-Nack.result) (sym c.in-Nack.is)
-    (record { bytes = _; spelled = brief.nack_spelled c.in-Nack.code c.put_bare-in-Nack.ensures.byte; puts = c.put_bare-in-Nack.ensures.written })
+    subst (λ (b : Brief). PutsMessage (message_of_brief b) c.args.buffer.now c.put_message-in-Nack.new.out c.put_message-in-Nack.result) (sym c.in-Nack.is)
+    (record { bytes = _; spelled = brief.nack_spelled c.in-Nack.code c.put_message-in-Nack.ensures.control.1.0; puts = c.put_message-in-Nack.ensures.written })
 
 pub returns-in-AbortOrder-clause-written : goal.returns-in-AbortOrder-clause-written
 returns-in-AbortOrder-clause-written c =
-    subst (λ (b : Brief). PutsMessage (message_of_brief b) c.args.buffer.now c.put_bare-in-AbortOrder.new.out c.put_bare-in-AbortOrder.result) (sym c.in-AbortOrder.is)
-    (record { bytes = _; spelled = brief.abort_spelled; puts = c.put_bare-in-AbortOrder.ensures.written })
+    subst (λ (b : Brief). PutsMessage (message_of_brief b) c.args.buffer.now c.put_message-in-AbortOrder.new.out c.put_message-in-AbortOrder.result) (sym c.in-AbortOrder.is)
+    (record { bytes = _; spelled = brief.abort_spelled; puts = c.put_message-in-AbortOrder.ensures.written })
 
 pub returns-in-CloseDay-clause-written : goal.returns-in-CloseDay-clause-written
 returns-in-CloseDay-clause-written c =

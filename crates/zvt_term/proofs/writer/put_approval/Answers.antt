@@ -8,14 +8,14 @@ use Rattle.zvt_term.proofs.writer.put_approval.Goals as goal
 
 pub returns-in-None-clause-written : goal.returns-in-None-clause-written
 returns-in-None-clause-written c =
-    subst (λ (o : Option ℕ). PutsMessage (message_of_report (Approved c.args.amount c.args.number o)) c.args.out.now c.put_data.new.out c.put_data.result) (sym c.in-None.is)
+    subst (λ (o : Option ℕ). PutsMessage (message_of_report (Approved c.args.amount c.args.number o)) c.args.out.now c.put_message.new.out c.put_message.result) (sym c.in-None.is)
     (put_spelled _ 0x04 0x0F _ _ _ _ refl (omega arith)
-    (approval_listed c.args.amount c.args.number None c.amount_digits.result c.number_digits.result _ c.amount_digits.ensures.digits c.amount_digits.ensures.small c.number_digits.ensures c.requires
-    nothing_listed) c.put_data.ensures.written)
+    (approval_listed c.args.amount c.args.number None c.amount_digits.result c.number_digits.result _ c.amount_digits.ensures.spelled c.amount_digits.ensures.small c.number_digits.ensures c.requires
+    nothing_listed) c.put_message.ensures.written)
 
 pub returns-in-Some-clause-written : goal.returns-in-Some-clause-written
 returns-in-Some-clause-written c =
-    subst (λ (o : Option ℕ). PutsMessage (message_of_report (Approved c.args.amount c.args.number o)) c.args.out.now c.put_data-in-Some.new.out c.put_data-in-Some.result) (sym c.in-Some.is)
+    subst (λ (o : Option ℕ). PutsMessage (message_of_report (Approved c.args.amount c.args.number o)) c.args.out.now c.put_message-in-Some.new.out c.put_message-in-Some.result) (sym c.in-Some.is)
     (put_spelled _ 0x04 0x0F _ _ _ _ refl (omega arith)
-    (approval_listed c.args.amount c.args.number (Some c.in-Some.currency) c.amount_digits.result c.number_digits.result _ c.amount_digits.ensures.digits c.amount_digits.ensures.small c.number_digits.ensures c.requires
-    (currency_listed c.in-Some.currency c.currency_digits.result c.currency_digits.ensures.digits c.currency_digits.ensures.small)) c.put_data-in-Some.ensures.written)
+    (approval_listed c.args.amount c.args.number (Some c.in-Some.currency) c.amount_digits.result c.number_digits.result _ c.amount_digits.ensures.spelled c.amount_digits.ensures.small c.number_digits.ensures c.requires
+    (currency_listed c.in-Some.currency c.currency_digits.result c.currency_digits.ensures.spelled c.currency_digits.ensures.small)) c.put_message-in-Some.ensures.written)

@@ -8,12 +8,12 @@ use Rattle.zvt_term.proofs.writer.put_registration.Goals as goal
 
 pub returns-in-None-clause-written : goal.returns-in-None-clause-written
 returns-in-None-clause-written c =
-    subst (λ (o : Option ℕ). PutsMessage (message_of_report (Registered c.args.tid o)) c.args.out.now c.put_data.new.out c.put_data.result) (sym c.in-None.is)
-    (put_spelled _ 0x06 0x0F _ _ _ _ refl (omega arith) (registered_listed c.args.tid None c.tid_digits.result _ c.tid_digits.ensures c.requires nothing_listed) c.put_data.ensures.written)
+    subst (λ (o : Option ℕ). PutsMessage (message_of_report (Registered c.args.tid o)) c.args.out.now c.put_message.new.out c.put_message.result) (sym c.in-None.is)
+    (put_spelled _ 0x06 0x0F _ _ _ _ refl (omega arith) (registered_listed c.args.tid None c.tid_digits.result _ c.tid_digits.ensures c.requires nothing_listed) c.put_message.ensures.written)
 
 pub returns-in-Some-clause-written : goal.returns-in-Some-clause-written
 returns-in-Some-clause-written c =
-    subst (λ (o : Option ℕ). PutsMessage (message_of_report (Registered c.args.tid o)) c.args.out.now c.put_data-in-Some.new.out c.put_data-in-Some.result) (sym c.in-Some.is)
+    subst (λ (o : Option ℕ). PutsMessage (message_of_report (Registered c.args.tid o)) c.args.out.now c.put_message-in-Some.new.out c.put_message-in-Some.result) (sym c.in-Some.is)
     (put_spelled _ 0x06 0x0F _ _ _ _ refl (omega arith)
     (registered_listed c.args.tid (Some c.in-Some.currency) c.tid_digits.result _ c.tid_digits.ensures c.requires
-    (currency_listed c.in-Some.currency c.currency_digits.result c.currency_digits.ensures.digits c.currency_digits.ensures.small)) c.put_data-in-Some.ensures.written)
+    (currency_listed c.in-Some.currency c.currency_digits.result c.currency_digits.ensures.spelled c.currency_digits.ensures.small)) c.put_message-in-Some.ensures.written)

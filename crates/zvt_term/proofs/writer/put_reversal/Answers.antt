@@ -8,15 +8,15 @@ use Rattle.zvt_term.proofs.writer.put_reversal.Goals as goal
 
 pub returns-in-None-clause-written : goal.returns-in-None-clause-written
 returns-in-None-clause-written c =
-    subst (λ (o : Option ℕ). PutsMessage (message_of_report (TakenBack c.args.amount c.args.number c.args.original o)) c.args.out.now c.put_data.new.out c.put_data.result) (sym c.in-None.is)
+    subst (λ (o : Option ℕ). PutsMessage (message_of_report (TakenBack c.args.amount c.args.number c.args.original o)) c.args.out.now c.put_message.new.out c.put_message.result) (sym c.in-None.is)
     (put_spelled _ 0x04 0x0F _ _ _ _ refl (omega arith)
-    (reversal_listed c.args.amount c.args.number c.args.original None c.amount_digits.result c.number_digits.result c.number_digits-2.result _ c.amount_digits.ensures.digits c.amount_digits.ensures.small
-    c.number_digits.ensures c.requires.number c.number_digits-2.ensures c.requires.original nothing_listed) c.put_data.ensures.written)
+    (reversal_listed c.args.amount c.args.number c.args.original None c.amount_digits.result c.number_digits.result c.number_digits-2.result _ c.amount_digits.ensures.spelled c.amount_digits.ensures.small
+    c.number_digits.ensures c.requires.number c.number_digits-2.ensures c.requires.original nothing_listed) c.put_message.ensures.written)
 
 pub returns-in-Some-clause-written : goal.returns-in-Some-clause-written
 returns-in-Some-clause-written c =
-    subst (λ (o : Option ℕ). PutsMessage (message_of_report (TakenBack c.args.amount c.args.number c.args.original o)) c.args.out.now c.put_data-in-Some.new.out c.put_data-in-Some.result) (sym c.in-Some.is)
+    subst (λ (o : Option ℕ). PutsMessage (message_of_report (TakenBack c.args.amount c.args.number c.args.original o)) c.args.out.now c.put_message-in-Some.new.out c.put_message-in-Some.result) (sym c.in-Some.is)
     (put_spelled _ 0x04 0x0F _ _ _ _ refl (omega arith)
-    (reversal_listed c.args.amount c.args.number c.args.original (Some c.in-Some.currency) c.amount_digits.result c.number_digits.result c.number_digits-2.result _ c.amount_digits.ensures.digits
+    (reversal_listed c.args.amount c.args.number c.args.original (Some c.in-Some.currency) c.amount_digits.result c.number_digits.result c.number_digits-2.result _ c.amount_digits.ensures.spelled
     c.amount_digits.ensures.small c.number_digits.ensures c.requires.number c.number_digits-2.ensures c.requires.original
-    (currency_listed c.in-Some.currency c.currency_digits.result c.currency_digits.ensures.digits c.currency_digits.ensures.small)) c.put_data-in-Some.ensures.written)
+    (currency_listed c.in-Some.currency c.currency_digits.result c.currency_digits.ensures.spelled c.currency_digits.ensures.small)) c.put_message-in-Some.ensures.written)

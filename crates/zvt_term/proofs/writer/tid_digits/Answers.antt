@@ -1,5 +1,5 @@
 use Rattle.std.proofs.Common.{◌∙◌}
-use Rattle.zvt_term.proofs.DigitLemmas.{digits_as}
+use Rattle.zvt_apdu.proofs.BriefLemmas.{digits_as}
 use Rattle.zvt_term.proofs.writer.tid_digits.Goals as goal
 
 pub returns : goal.returns
