@@ -77,6 +77,10 @@ Moves r at left outer bytes byte (Err why) = fault r (role_of at left (depth_of 
 abbrev pub Judges : Reading → At → (left depth : ℕ) → (byte : ℕ) → Result Move Why → Type 0
 Judges r at left depth byte result = (outer bytes : List ℕ) → depth ≡ depth_of outer → Where r at left outer bytes → Moves r at left outer bytes byte result
 
+-- The same in every depth, of a byte that plays this part by what the code keeps before it and after it.
+abbrev pub Judged : Reading → Part → Goes → Levels → (byte : ℕ) → Result Transition Why → Goes → Levels → Type 0
+Judged r part goes levels byte result new now = (depth : ℕ) → Judges r (at_part part goes.more levels) goes.left depth byte (leads_to result new now)
+
 -- Data of n bytes begins after these control bytes and this length.
 abbrev pub BeginsData : Reading → (high low n : ℕ) → Result Move Why → Type 0
 BeginsData r high low n (Ok move) =

@@ -1,12 +1,12 @@
 //! Transitions by one byte.
 //!
 //! Each transition is `#[inline(always)]`: a step becomes one function, and no byte costs a call.
-
 ghost use Rattle.std.specs.Prelude.{◌≡◌, ℕ, ◌+◌, ◌<◌, ◌≤◌, ◌^◌, false, true};
 ghost use Rattle.zvt_grammar.specs.Reading.{Reading};
 ghost use Rattle.zvt_grammar.specs.Lengths.{reading_of};
 ghost use Rattle.zvt_stream.specs.Parts as at;
-ghost use Rattle.zvt_stream.specs.Moves.{BeginsData, IsReady, Judges, Keeps, leads_to};
+ghost use Rattle.zvt_stream.specs.Moves.{BeginsData, IsReady, Judged, Judges, Keeps, leads_to};
+ghost use Rattle.zvt_stream.specs.declared.transitions.Part.TheVariants as part;
 ghost use Rattle.zvt_stream.specs.DecoderState.{HasDigits};
 
 use arrayvec::ArrayVec;
@@ -51,8 +51,7 @@ pub(crate) enum Part {
 pub(crate) struct Goes {
     /// The part that the next byte plays.
     pub(crate) part: Part,
-    /// How many bytes of a content are to come, how many bytes of any value before the fields, or how many digits of a
-    /// length after the next one.
+    /// Bytes of a content or before the fields that are to come, or digits of a length after the next one.
     pub(crate) more: usize,
     /// The bytes of the innermost level that are to come.
     pub(crate) left: usize,
@@ -87,16 +86,13 @@ pub(crate) enum Transition {
     Opens { trailing: usize },
 }
 
-// Each function judges a byte that plays one part.
-
 #[inline(always)]
 pub(crate) fn judge_first_size(
     goes: &mut Goes,
     levels: &mut Levels,
     byte: u8,
 ) -> Result<Transition, Why>
-    ensures judges { (r : Reading) (depth : ℕ) → Judges r (at.FirstSize levels.old.high levels.old.low) goes.old.left
-        depth byte (leads_to result goes.new levels.new) }
+    ensures judges { (r : Reading) → Judged r part.FirstSize goes.old levels.old byte result goes.new levels.new }
     ensures keeps { Keeps levels.old levels.new }
 {
     if byte == 0xFF {
@@ -112,8 +108,7 @@ pub(crate) fn judge_low_size(
     levels: &mut Levels,
     byte: u8,
 ) -> Result<Transition, Why>
-    ensures judges { (r : Reading) (depth : ℕ) → Judges r (at.LowSize levels.old.high levels.old.low) goes.old.left
-        depth byte (leads_to result goes.new levels.new) }
+    ensures judges { (r : Reading) → Judged r part.LowSize goes.old levels.old byte result goes.new levels.new }
     ensures keeps { Keeps levels.old levels.new }
 {
     goes.part = Part::HighSize;
@@ -185,8 +180,7 @@ pub(crate) fn judge_payload(goes: &mut Goes) -> Result<Transition, Why>
 #[inline(always)]
 pub(crate) fn judge_head(goes: &mut Goes, levels: &mut Levels, byte: u8) -> Result<Transition, Why>
     requires { IsReady (at.Head goes.old.more levels.old.number) goes.old.left }
-    ensures judges { (r : Reading) (depth : ℕ) → Judges r (at.Head goes.old.more levels.old.number) goes.old.left depth
-        byte (leads_to result goes.new levels.new) }
+    ensures judges { (r : Reading) → Judged r part.Head goes.old levels.old byte result goes.new levels.new }
     ensures keeps { Keeps levels.old levels.new }
 {
     judge_content_byte(goes.more == 0, byte)?;
@@ -211,8 +205,7 @@ pub(crate) fn judge_field(
     lengths: Lengths,
 ) -> Result<Transition, Why>
     requires { 2 ≤ goes.old.left }
-    ensures judges { (depth : ℕ) → Judges (reading_of lengths) at.Name goes.old.left depth byte
-        (leads_to result goes.new levels.new) }
+    ensures judges { Judged (reading_of lengths) part.Name goes.old levels.old byte result goes.new levels.new }
     ensures keeps { Keeps levels.old levels.new }
 {
     goes.left -= 1;
@@ -250,8 +243,7 @@ pub(crate) fn judge_field(
 #[inline]
 pub(crate) fn judge_count(goes: &mut Goes, levels: &mut Levels, byte: u8) -> Result<Transition, Why>
     requires { HasDigits goes.old.more levels.old.number goes.old.left }
-    ensures judges { (r : Reading) (depth : ℕ) → Judges r (at.Digit goes.old.more levels.old.number) goes.old.left depth
-        byte (leads_to result goes.new levels.new) }
+    ensures judges { (r : Reading) → Judged r part.Digit goes.old levels.old byte result goes.new levels.new }
     ensures keeps { Keeps levels.old levels.new }
 {
     goes.left -= 1;
@@ -290,8 +282,7 @@ pub(crate) fn judge_free(goes: &mut Goes) -> Result<Transition, Why>
 #[inline]
 pub(crate) fn judge_digits(goes: &mut Goes, byte: u8) -> Result<Transition, Why>
     requires { IsReady (at.Content true goes.old.more) goes.old.left }
-    ensures { (levels : Levels) (r : Reading) (depth : ℕ) → Judges r (at.Content true goes.old.more) goes.old.left depth
-        byte (leads_to result goes.new levels) }
+    ensures { (levels : Levels) (r : Reading) → Judged r part.Digits goes.old levels byte result goes.new levels }
 {
     judge_content_byte(true, byte)?;
     goes.part = Part::Digits;
@@ -311,8 +302,7 @@ pub(crate) fn judge_container(
     lengths: Lengths,
 ) -> Result<Transition, Why>
     requires { 1 ≤ goes.old.left }
-    ensures judges { (depth : ℕ) → Judges (reading_of lengths) (at.Container levels.old.length) goes.old.left depth byte
-        (leads_to result goes.new levels.new) }
+    ensures judges { Judged (reading_of lengths) part.Container goes.old levels.old byte result goes.new levels.new }
     ensures keeps { Keeps levels.old levels.new }
 {
     goes.part = Part::Container;
@@ -367,8 +357,7 @@ pub(crate) fn judge_object_length(
     lengths: Lengths,
 ) -> Result<Transition, Why>
     requires { 1 ≤ goes.old.left }
-    ensures judges { (depth : ℕ) → Judges (reading_of lengths) (at.Length levels.old.nests levels.old.length)
-        goes.old.left depth byte (leads_to result goes.new levels.new) }
+    ensures judges { Judged (reading_of lengths) part.Length goes.old levels.old byte result goes.new levels.new }
     ensures keeps { Keeps levels.old levels.new }
 {
     goes.left -= 1;
