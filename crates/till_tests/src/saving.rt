@@ -4,7 +4,7 @@ use std::alloc::Global;
 use std::process::Abort;
 use std::test::Fail;
 use zvt_bcd::{Amount, Trace};
-use zvt_snapshot::{LoadError, load, reloaded, save};
+use zvt_till::snapshot::{LoadError, load, reloaded, save};
 use zvt_till::{Cause, Doubt, Entry, Heard, Order, Outcome, Till};
 
 /// The till at rest without a doubt, in the first layout.

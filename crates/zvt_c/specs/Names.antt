@@ -7,7 +7,7 @@ use Rattle.zvt_till.specs.declared.outcomes.Cause.TheVariants.{NoStatus, Conflic
 use Rattle.zvt_till.specs.declared.outcomes.Outcome.TheVariants.{Registered, Paid, Declined, Refused, Aborted, Unclear, Reversed, DayClosed}
 use Rattle.zvt_till.specs.declared.orders.OrderRefusal.TheVariants.{Offline, NotRegistered, Busy, NothingToCancel, BookFull, UnknownEntry, AlreadyReversed, NoReceipt, Memory}
 use Rattle.zvt_c.specs.Answers.{code_of_why}
-use Rattle.zvt_snapshot.specs.Encoded.{cause_code}
+use Rattle.zvt_till.specs.SnapshotEncoded.{cause_code}
 use Rattle.zvt_c.specs.Numbers.{ended}
 use Rattle.zvt_c.specs.Ordering.{status_of}
 use Rattle.zvt_text.specs.Results.{meaning_of}

@@ -12,7 +12,7 @@ use Rattle.zvt_till.specs.Doubts.{unclear_reversals}
 use Rattle.zvt_till.specs.Marks.{total}
 use Rattle.zvt_till.specs.Numbers.{no_numbers}
 use Rattle.zvt_till.specs.declared.numbers.Numbers.{Numbers}
-use Rattle.zvt_snapshot.specs.Encoded.{cause_code}
+use Rattle.zvt_till.specs.SnapshotEncoded.{cause_code}
 use Rattle.zvt_c.specs.declared.session.Session.{Session}
 use Rattle.zvt_c.specs.declared.numbers.ZvtOutcome.{ZvtOutcome}
 use Rattle.zvt_c.specs.declared.numbers.ZvtState.{ZvtState}

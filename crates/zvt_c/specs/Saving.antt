@@ -1,6 +1,6 @@
 -- What is saved of a handle, and what is loaded of one.
 use Rattle.std.specs.Prelude.{◌≡◌, ◌⊎◌, ℕ, List, length, Option, Some, None, option_map}
-use Rattle.zvt_snapshot.specs.Encoded.{saved, saved_first, HasNoDoubts, IsKept, IsSavedAs}
+use Rattle.zvt_till.specs.SnapshotEncoded.{saved, saved_first, HasNoDoubts, IsKept, IsSavedAs}
 use Rattle.zvt_stream.specs.StreamState.{at_start}
 use Rattle.zvt_till.specs.Till.{TillState, step}
 use Rattle.zvt_till.specs.declared.happenings.Happening.TheVariants.{Lost}

@@ -5,7 +5,7 @@ ghost use Rattle.zvt_c.specs.Numbers.{row_of, trace_of, unclear_row_of};
 ghost use Rattle.zvt_c.specs.Ordering.{order_named, payment_of, status_of};
 
 use zvt_bcd::{Amount, Trace};
-use zvt_snapshot::cause_code;
+use zvt_till::snapshot::cause_code;
 use zvt_till::{Cause, Doubt, Entry, Numbers, Order, OrderRefusal, Outcome};
 
 /// How an order ended. Members that do not apply to the kind are 0.

@@ -1,14 +1,14 @@
 //! A till that outlives its process.
 ghost use Rattle.std.specs.Prelude.{◌≡◌, ◌≤◌, ◌⊎◌, IfSome, IfNone, None, length, MatchOption};
 ghost use Rattle.zvt_c.specs.Saving.{Loads, Restores, RestoresFirst, Saves, Written};
-ghost use Rattle.zvt_snapshot.specs.Encoded.{saved, IsKept};
+ghost use Rattle.zvt_till.specs.SnapshotEncoded.{saved, IsKept};
 ghost use Rattle.zvt_till.specs.Till.{step};
 
 use crate::answer::{ZvtAnswer, bare, found};
 use crate::handle::ZvtTill;
 use crate::session::Session;
 use std::alloc::Global;
-use zvt_snapshot::{LoadError, load, save};
+use zvt_till::snapshot::{LoadError, load, save};
 use zvt_stream::Stream;
 use zvt_till::{Happening, Till};
 

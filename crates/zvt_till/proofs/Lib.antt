@@ -30,3 +30,9 @@ mod Rows
 pub mod Room
 mod DistinctLemmas
 pub mod NumbersHeard
+pub mod SnapshotBodies
+pub mod SnapshotHeaders
+pub mod SnapshotLostLine
+pub mod SnapshotLeft
+pub mod SnapshotNumbers
+pub mod SnapshotRows

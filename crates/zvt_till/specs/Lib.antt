@@ -23,3 +23,7 @@ pub mod TillHistory
 pub mod Judging
 pub mod Names
 pub mod Numbers
+pub mod SnapshotDecoding
+pub mod SnapshotReading
+pub mod SnapshotEncoded
+pub mod SnapshotSums

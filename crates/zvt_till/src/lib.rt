@@ -15,6 +15,7 @@ mod numbers;
 mod orders;
 mod outcomes;
 mod settings;
+pub mod snapshot;
 mod statuses;
 mod till;
 mod used_traces;

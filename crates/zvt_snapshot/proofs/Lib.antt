@@ -1,6 +1,0 @@
-pub mod Bodies
-pub mod Headers
-pub mod LostLineLemmas
-pub mod Left
-pub mod Numbers
-pub mod Rows

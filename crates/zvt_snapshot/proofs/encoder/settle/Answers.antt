@@ -1,5 +1,0 @@
-use Rattle.std.proofs.Common.{rules}
-use Rattle.zvt_snapshot.proofs.encoder.settle.Goals as goal
-
-pub returns-in-Some-Reverse-clause-book : goal.returns-in-Some-Reverse-clause-book
-returns-in-Some-Reverse-clause-book c = search rules

@@ -1,4 +1,0 @@
-pub mod Decoding
-pub mod Reading
-pub mod Encoded
-pub mod Sums
