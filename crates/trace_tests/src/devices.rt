@@ -2,7 +2,7 @@
 use crate::assertions::assert_equal;
 use std::alloc::{AllocError, Global};
 use std::test::Fail;
-use zvt_diagnostics::write_notes;
+use zvt_show::diagnostics::write_notes;
 use zvt_grammar::Lengths;
 use zvt_io::{Failed, GhostCount, Over, Sink, Source};
 use zvt_tool::{ToolFault, audit, show};

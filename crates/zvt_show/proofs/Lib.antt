@@ -4,3 +4,6 @@ pub mod FollowLemmas
 pub mod PageLemmas
 pub mod PrinterLemmas
 pub mod TurnLemmas
+pub mod TextLemmas
+pub mod CountLemmas
+pub mod NoteLemmas

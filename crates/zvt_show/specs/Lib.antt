@@ -3,3 +3,7 @@ pub mod Followed
 pub mod Lines
 pub mod Text
 pub mod Written
+pub mod Notes
+pub mod NotesWritten
+pub mod Noting
+pub mod Hints

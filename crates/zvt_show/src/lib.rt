@@ -4,6 +4,7 @@
 //! [`follow_trace`] writes the text of a trace while it comes.
 #![tactic(auto)]
 
+pub mod diagnostics;
 mod follow;
 mod pages;
 mod render;

@@ -38,7 +38,7 @@ pub use zvt_cli::{
     CheckOptions, Choice, ChoiceFault, PlayOptions, TapOptions, TerminalOptions, TillOptions,
     with_show,
 };
-pub use zvt_diagnostics::{hint_on, write_notes};
+pub use zvt_show::diagnostics::{hint_on, write_notes};
 pub use zvt_grammar::Lengths;
 pub use zvt_journal::{FileDevice, FileFailure, JournalFileError, Opened, open_file, read_book};
 pub use zvt_json::Form;

@@ -1,3 +1,0 @@
-pub mod CountLemmas
-pub mod NoteLemmas
-pub mod TextLemmas

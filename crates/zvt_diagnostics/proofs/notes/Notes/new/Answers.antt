@@ -1,4 +1,0 @@
-use Rattle.zvt_diagnostics.proofs.notes.Notes.new.Goals as goal
-
-pub returns-clause-trailing : goal.returns-clause-trailing
-returns-clause-trailing c = c.nothing.ensures c.args.scope

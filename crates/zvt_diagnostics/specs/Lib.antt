@@ -1,4 +1,0 @@
-pub mod Hints
-pub mod Notes
-pub mod Noting
-pub mod Written
