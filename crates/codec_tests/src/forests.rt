@@ -36,7 +36,7 @@ fn deep(rt: &impl Abort, alloc: Global, count: usize, levels: usize) -> Result<T
     Ok(object)
 }
 
-/// The forest of objects that have a spelling.
+/// Makes a forest of objects that have an encoding.
 fn forest(rt: &impl Abort, objects: Vec<Tlv>) -> Forest {
     let Ok(forest) = Forest::checked(objects) else {
         panic!(rt; "the objects have a spelling");

@@ -29,7 +29,7 @@ impl Model for Apdu {
 }
 
 impl Apdu {
-    /// Its message.
+    /// Returns the message.
     pub fn message(&self) -> &Message
         ensures value { message_of result.now ≡ self.now }
         ensures spelled { HasSpelling self.now }

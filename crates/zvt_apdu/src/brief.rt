@@ -1,4 +1,4 @@
-//! The messages that a till sends, without memory of their own.
+//! The messages that a till sends, encoded without allocating.
 
 ghost use Rattle.std.specs.Prelude.{◌≡◌, ◌+◌, ◌++◌, [], ◌∷◌, ◌<◌, ◌≤◌, length, IfOk};
 ghost use Rattle.zvt_grammar.specs.Reading.{AreBytes};
@@ -17,34 +17,34 @@ use zvt_bcd::{Amount, Currency};
 use zvt_field::bmp;
 use zvt_grammar::Scan;
 
-/// The size of a buffer that each till message fits in.
+/// Size of a buffer that holds any till message.
 pub const MAX_BRIEF_LEN: usize = 32;
 
-/// A message that a till sends, by the few values that it is made of. Its control bytes are given in hexadecimal.
+/// A message that a till sends, with the values that it carries. Each variant gives its control bytes in hexadecimal.
 #[derive(Clone, Copy, PartialEq, Eq)]
 pub enum Brief {
-    /// 80 00: the terminal's message was taken.
+    /// 80 00: acknowledges the terminal's message.
     Ack,
-    /// 84 and the code: it was refused.
+    /// 84 and an error code: rejects it.
     Nack(u8),
-    /// 06 00: the till registers, and names its currency.
+    /// 06 00: registers the till and names its currency.
     Register {
         password: [u8; 3],
         config: u8,
         currency: Currency,
     },
-    /// 06 01: a payment of this amount (BMP 04) in this currency (BMP 49).
+    /// 06 01: orders a payment of this amount (BMP 04) in this currency (BMP 49).
     Pay(Amount, Currency),
-    /// 06 30: the payment with this receipt number (BMP 87) is taken back.
+    /// 06 30: reverses the payment with this receipt number (BMP 87).
     Reverse {
         password: [u8; 3],
         receipt: [u8; 2],
     },
-    /// 06 50: the day is closed.
+    /// 06 50: closes the day.
     CloseDay {
         password: [u8; 3],
     },
-    /// 06 B0: the running order is given up.
+    /// 06 B0: aborts the running order.
     AbortOrder,
 }
 
@@ -147,7 +147,7 @@ pub fn put_brief(brief: &Brief, buffer: &mut [u8; MAX_BRIEF_LEN]) -> usize
     }
 }
 
-/// The message that the till message represents.
+/// Returns the message that it stands for.
 pub fn brief_message(alloc: Global, brief: &Brief) -> Result<Apdu, AllocError>
     ensures { IfOk result (λ apdu. apdu ≡ message_of_brief brief.now) }
 {

@@ -1,5 +1,4 @@
-//! The control bytes of the messages that have a name of their own. Each constant cites its chapter of PA00P015 by
-//! title.
+//! The control bytes of the messages that this library names. Each constant cites its chapter of PA00P015 by title.
 
 /// From either side: a positive acknowledgement (PA00P015, general command structure).
 pub const ACK: [u8; 2] = [0x80, 0x00];

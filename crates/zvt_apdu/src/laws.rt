@@ -1,4 +1,4 @@
-//! Laws of the grammar, each the contract of a function that does nothing.
+//! Laws of the grammar, each stated as the contract of an empty function.
 
 ghost use Rattle.std.specs.Prelude.{ℕ, List};
 ghost use Rattle.zvt_grammar.specs.Laws.{SpellingsAreOne, CutsAreOne, PrefixesOfCut, Growth, PrefixesAlive};
@@ -62,7 +62,7 @@ pub fn answers_are_one()
     ensures { AnswersAreOne }
 {}
 
-/// Bytes that come later change no answer but more.
+/// Later bytes change no answer except more.
 pub fn answers_stay()
     ensures { AnswersStay }
 {}

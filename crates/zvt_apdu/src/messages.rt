@@ -11,7 +11,7 @@ pub enum Message {
     Ack {
         payload: Vec<u8>,
     },
-    /// 84 and the code: it was refused.
+    /// 84 and an error code: rejects it.
     Nack {
         code: u8,
         payload: Vec<u8>,
@@ -29,7 +29,7 @@ pub enum Message {
         password: [u8; 3],
         fields: Fields,
     },
-    /// 06 50: the day is closed.
+    /// 06 50: closes the day.
     EndOfDay {
         password: [u8; 3],
         fields: Fields,

@@ -11,8 +11,7 @@ use crate::views::ApduView;
 use std::alloc::{AllocError, Global};
 use zvt_field::Fields;
 
-/// The message that a view shows, in memory of its own. The only error is that memory runs out, and one whose list of
-/// fields is empty wants none.
+/// Copies the message of a view. Fails only if an allocation fails, and never for an empty list of fields.
 pub fn owned(alloc: Global, apdu: &ApduView<'_>) -> Result<Apdu, AllocError>
     ensures { MatchResult result (λ made. made ≡ apdu.now) (λ _. fields_in apdu.now ≢ Some []) }
 {

@@ -7,7 +7,7 @@ ghost use Rattle.zvt_apdu.specs.Briefs.{digits};
 
 use zvt_bcd::{Amount, Currency, put};
 
-/// An amount's six bytes of digits.
+/// Returns the six bytes of digits of an amount.
 pub fn amount_digits(amount: Amount) -> [u8; 6]
     ensures six { length result ≡ 6 }
     ensures digits { AreDigits result }
@@ -20,7 +20,7 @@ pub fn amount_digits(amount: Amount) -> [u8; 6]
     six
 }
 
-/// A currency's two bytes of digits.
+/// Returns the two bytes of digits of a currency.
 pub fn currency_digits(currency: Currency) -> [u8; 2]
     ensures two { length result ≡ 2 }
     ensures digits { AreDigits result }

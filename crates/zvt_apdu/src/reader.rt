@@ -1,4 +1,4 @@
-//! The reader of messages.
+//! Reads messages.
 
 ghost use Rattle.std.specs.Prelude.{◌≡◌, ◌≤◌, ◌+◌, false, length, true, MatchResult};
 ghost use Rattle.zvt_grammar.specs.Reading.{padded, shortest};
@@ -23,14 +23,14 @@ pub fn scan(alloc: Global, bytes: &[u8]) -> Result<Scan<(Apdu, usize)>, AllocErr
     scan_message(alloc, bytes, Lengths::Shortest)
 }
 
-/// Reads the first message. Lengths may have any form that holds them.
+/// Reads the first message. Lengths may have any form.
 pub fn scan_loose(alloc: Global, bytes: &[u8]) -> Result<Scan<(Apdu, usize)>, AllocError>
     ensures { MatchResult result (Answers padded bytes.now) (λ _. TakesMemory padded bytes.now) }
 {
     scan_message(alloc, bytes, Lengths::Padded)
 }
 
-/// Reads the message that comes first, of the lengths that the caller asks for.
+/// Reads the first message with the given forms of length.
 #[inline(always)]
 pub fn scan_message(
     alloc: Global,

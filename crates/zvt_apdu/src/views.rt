@@ -17,7 +17,7 @@ use std::marker::Model;
 use zvt_bcd::{Currency, number};
 use zvt_field::FieldsView;
 
-/// A message in the bytes that spell it. Contracts see the message.
+/// A message in the bytes that encode it. In contracts a view is its message.
 #[derive(Drop)]
 pub struct ApduView<'a> {
     bytes: &'a [u8],
@@ -35,7 +35,7 @@ impl<'a> Model for ApduView<'a> {
     ghost view = { λ v. v.spelled.0 };
 }
 
-/// The view of bytes that are exactly the spelling of a message.
+/// Returns a view of bytes that are exactly one encoded message.
 pub fn view<'a>(bytes: &'a [u8]) -> ApduView<'a>
     requires { MessageBytes bytes.now }
     ensures { (m : Message) → Spells padded m bytes.now → result ≡ m }
@@ -44,14 +44,14 @@ pub fn view<'a>(bytes: &'a [u8]) -> ApduView<'a>
 }
 
 impl<'a> ApduView<'a> {
-    /// Its bytes.
+    /// Returns the bytes.
     pub fn bytes(&self) -> &'a [u8]
         ensures { ∥ Spells padded self.now result.now ∥₁ }
     {
         self.bytes
     }
 
-    /// Its control bytes.
+    /// Returns the control bytes.
     pub fn control(&self) -> [u8; 2]
         ensures value { result ≡ control_of self.now }
         ensures named { ∥ IsControl self.now result ∥₁ }
@@ -73,7 +73,7 @@ impl<'a> ApduView<'a> {
         }
     }
 
-    /// Which of the messages it is.
+    /// Returns the kind of the message.
     pub fn kind(&self) -> Kind
         ensures { result ≡ kind_of self.now }
     {
@@ -81,14 +81,14 @@ impl<'a> ApduView<'a> {
         kind_at(high, low)
     }
 
-    /// Its data, after its control bytes and its length.
+    /// Returns the data, after the control bytes and the length.
     fn data(&self) -> &'a [u8]
         ensures { ∥ Data padded self.now result.now ∥₁ }
     {
         data(self.bytes)
     }
 
-    /// The code of a refusal (84), or of an order given up (06 1E).
+    /// Returns the code of a negative acknowledgement (84) or of an abort (06 1E).
     pub fn code(&self) -> Option<u8>
         ensures { result ≡ code_in self.now }
     {
@@ -99,7 +99,7 @@ impl<'a> ApduView<'a> {
         }
     }
 
-    /// The password of a registration, of a reversal or of the end of a day.
+    /// Returns the password of a registration, a reversal or an end of day.
     pub fn password(&self) -> Option<[u8; 3]>
         ensures { result ≡ password_in self.now }
     {
@@ -112,7 +112,7 @@ impl<'a> ApduView<'a> {
         }
     }
 
-    /// The configuration of a registration.
+    /// Returns the configuration byte of a registration.
     pub fn config(&self) -> Option<u8>
         ensures { result ≡ config_in self.now }
     {
@@ -145,7 +145,7 @@ impl<'a> ApduView<'a> {
         }
     }
 
-    /// The attribute of a line to print.
+    /// Returns the attribute of a print line.
     pub fn attribute(&self) -> Option<u8>
         ensures { result ≡ attribute_in self.now }
     {
@@ -155,7 +155,7 @@ impl<'a> ApduView<'a> {
         }
     }
 
-    /// The text of a line to print, after its attribute.
+    /// Returns the text of a print line, after its attribute.
     pub fn text(&self) -> Option<&'a [u8]>
         ensures { option_copied result ≡ text_in self.now }
     {
@@ -165,8 +165,8 @@ impl<'a> ApduView<'a> {
         }
     }
 
-    /// The bytes of any value that end an acknowledgement, a refusal, an intermediate status, an abort, or a message
-    /// without a name of its own.
+    /// Returns the free bytes at the end of an acknowledgement, a negative acknowledgement, an intermediate status, an
+    /// abort, or a message that this library does not name.
     pub fn payload(&self) -> Option<&'a [u8]>
         ensures { option_copied result ≡ payload_in self.now }
     {

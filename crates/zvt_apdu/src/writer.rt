@@ -1,4 +1,4 @@
-//! The writer of messages, and what they need.
+//! Writes messages.
 
 ghost use Rattle.std.specs.Prelude.{◌≡◌, ◌+◌, ◌++◌, ◌<◌, ◌≤◌, ◌^◌, ℕ, List, ◌∷◌, length, IfOk};
 ghost use Rattle.zvt_grammar.specs.Reading.{AreBytes, shortest};
@@ -19,7 +19,7 @@ use thiserror::Error;
 use zvt_bcd::Currency;
 use zvt_field::{Fields, write_into};
 
-/// The slice is shorter than the spelling, which has `need` bytes.
+/// The buffer is shorter than the encoding, which has `need` bytes.
 #[derive(Clone, Copy, Debug, Drop, PartialEq, Eq, Error)]
 #[error("the buffer is too small: the message needs {need} bytes")]
 pub struct NoRoom {
@@ -211,7 +211,7 @@ fn put_head(high: u8, low: u8, size: usize, out: &mut [u8]) -> usize
     }
 }
 
-/// The size of the message's spelling.
+/// Returns the size of the encoded message.
 pub fn size(apdu: &Apdu) -> usize
     ensures value { (bytes : List ℕ) → Spells shortest apdu.now bytes → result ≡ length bytes }
     ensures spelled { HasSpelling apdu.now }
@@ -238,7 +238,7 @@ pub fn encode_into(apdu: &Apdu, out: &mut [u8]) -> Result<usize, NoRoom>
     Ok(at + write_data(message, &mut out[at..]))
 }
 
-/// The message's spelling.
+/// Encodes the message into a new vector.
 pub fn encode(alloc: Global, apdu: &Apdu) -> Result<Vec<u8>, AllocError>
     ensures { IfOk result (λ bytes. Spells shortest apdu.now bytes.items) }
 {

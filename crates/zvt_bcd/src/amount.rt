@@ -20,7 +20,7 @@ impl Model for Amount {
 }
 
 impl Amount {
-    /// The amount of that many units, from 1 to 999,999,999,999.
+    /// Returns an amount of 1 to 999,999,999,999 units, or `None` outside this range.
     pub fn new(units: u64) -> Option<Amount>
         ensures given { IsSome result ↔ ((1 ≤ units) × (units ≤ 999999999999)) }
         ensures value { IfSome result (λ amount. amount ≡ units) }
@@ -32,7 +32,7 @@ impl Amount {
         }
     }
 
-    /// Its units.
+    /// Returns the number of units.
     pub fn get(self) -> u64
         ensures value { result ≡ self }
         ensures least { 1 ≤ result }

@@ -3,7 +3,7 @@ ghost use Rattle.std.specs.Prelude.{◌≡◌, ◌↔◌, ℕ, ◌≤◌, IsSome
 
 use std::marker::Model;
 
-/// A currency by its ISO 4217 number: two bytes of BCD. 978 is the euro.
+/// A currency by its ISO 4217 number, in two bytes of BCD. The euro is 978.
 #[derive(Clone, Copy, Debug, PartialEq, Eq)]
 pub struct Currency {
     number: u16,
@@ -23,7 +23,7 @@ impl Currency {
     /// The euro.
     pub const EURO: Currency = Currency { number: 978 };
 
-    /// The currency of this number, from 0 to 9,999.
+    /// Returns the currency with this number, or `None` above 9,999.
     pub fn new(number: u16) -> Option<Currency>
         ensures given { IsSome result ↔ (number ≤ 9999) }
         ensures value { IfSome result (λ currency. currency ≡ number) }

@@ -9,7 +9,7 @@ pub fn is_digits(bytes: &[u8]) -> bool
     bytes.iter().all(|byte| byte / 16 <= 9 && byte % 16 <= 9)
 }
 
-/// The number that the digits spell, of at most nine bytes.
+/// Returns the number in at most nine bytes of digits.
 pub fn number(bytes: &[u8]) -> u64
     requires digits { AreDigits bytes.now }
     requires short { length bytes.now ≤ 9 }
@@ -32,7 +32,7 @@ fn pair(byte: u8) -> u64
     u64::from(byte / 16 * 10 + byte % 16)
 }
 
-/// Writes the number in digits that fill the slice of at most nine bytes, with leading zeros.
+/// Fills the slice, at most nine bytes long, with the digits of the number and leading zeros.
 pub fn put(number: u64, out: &mut [u8])
     requires short { length out.old ≤ 9 }
     requires fits { number < 100 ^ length out.old }

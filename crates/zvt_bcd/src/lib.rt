@@ -1,4 +1,4 @@
-//! Binary coded decimals, two digits in a byte, and the small values that are written in them.
+//! Binary coded decimals, two digits to a byte, and the values that ZVT writes in them.
 #![tactic(auto)]
 
 mod amount;

@@ -20,7 +20,7 @@ impl Model for Trace {
 }
 
 impl Trace {
-    /// The trace number from 0 to 999,999.
+    /// Returns the trace number, or `None` above 999,999.
     pub fn new(number: u32) -> Option<Trace>
         ensures given { IsSome result ↔ (number ≤ 999999) }
         ensures value { IfSome result (λ trace. trace ≡ number) }

@@ -19,16 +19,16 @@ pub enum FieldBody {
     Tree(Forest),
 }
 
-/// Why a field has no spelling.
+/// Why a field has no encoding.
 #[derive(Clone, Copy, Debug, Drop, PartialEq, Eq, Error)]
 pub enum BadField {
-    /// The table has no such BMP.
+    /// The table does not list the BMP.
     #[error("no field has this BMP")]
     Unknown,
-    /// The body is of another kind or size than the BMP asks for.
+    /// The body has another kind or size than the BMP demands.
     #[error("the content is of another kind or size than its BMP requires")]
     Size,
-    /// A half of a byte is no decimal digit where digits are demanded.
+    /// Half of a byte is not a decimal digit where digits are required.
     #[error("the content has a half byte that is not a decimal digit")]
     NotDigit,
 }
@@ -55,9 +55,10 @@ impl Model for Field {
 }
 
 impl Field {
-    /// The field of that BMP and body, if it has a spelling. Else the body is handed back with its first fault, in the
-    /// order of `BadField`. `Size` means that a fixed size is missed, that over 99 or 999 bytes would follow a length
-    /// of two or three digits, or that a container has over 65,535 bytes with its BMP and its length.
+    /// Returns the field with this BMP and body if it has an encoding. Otherwise hands the body back with its first
+    /// fault, in the order of `BadField`. `Size` means that a fixed size is not met, that more than 99 or 999 bytes
+    /// would follow a length of two or three digits, or that a container would exceed 65,535 bytes with its BMP and
+    /// length.
     pub fn checked(bmp: u8, body: FieldBody) -> Result<Field, (FieldBody, BadField)>
         ensures ok { IsOk result ↔ HasSpelling (field_of bmp body) }
         ensures value { IfOk result (λ field. field ≡ field_of bmp body) }
@@ -76,7 +77,7 @@ impl Field {
         Ok(Field { bmp, body })
     }
 
-    /// The field of a body that was read.
+    /// Makes a field of a body that was read.
     pub(crate) fn of(bmp: u8, body: FieldBody) -> Field
         requires { HasSpelling (field_of bmp body) }
         ensures { result ≡ field_of bmp body }
@@ -84,7 +85,7 @@ impl Field {
         Field { bmp, body }
     }
 
-    /// Its BMP.
+    /// Returns the BMP.
     pub fn bmp(&self) -> u8
         ensures { result ≡ name_of self.now }
     {
@@ -105,7 +106,7 @@ fn note_bytes(bytes: &[u8])
     ensures { AreBytes bytes.now }
 {}
 
-/// Whether a body has the kind and the size that the shape asks for.
+/// Whether a body has the kind and the size that the shape demands.
 fn size_agrees(shape: Shape, body: &FieldBody) -> bool
     ensures size { (bmp : ℕ) → result ≡ size_agrees shape (field_of bmp body.now) }
     ensures parts { (bmp : ℕ) → AreParts (field_of bmp body.now) }

@@ -1,4 +1,4 @@
-//! Which bytes may follow: the tests of a BMP and of a digit of a length.
+//! Decides whether a BMP, a digit of a length or a byte of content can follow.
 
 ghost use Rattle.std.specs.Prelude.{◌≡◌, ◌≤◌, ◌<◌, ◌-◌, ◌^◌};
 ghost use Rattle.zvt_grammar.specs.Tests.{fits};
@@ -43,8 +43,8 @@ pub fn judge_bmp(left: usize, byte: u8, lengths: Lengths) -> Result<Shape, Why>
     }
 }
 
-/// Judges a digit of a length, with that many digits after it and that number before it: the number with it.
-/// `left` counts the bytes of the fields after it.
+/// Judges a digit of a length and returns the number so far. `more` digits follow it, and `before` is the number before
+/// it. `left` counts the bytes of the fields after it.
 #[inline(always)]
 pub fn judge_digit(more: usize, before: usize, left: usize, byte: u8) -> Result<usize, Why>
     requires more { more ≤ 2 }
@@ -105,7 +105,7 @@ pub fn judge_ll(at: LlAt, left: usize, byte: u8) -> Result<LlNext, Why>
     }))
 }
 
-/// Judges a byte of the content of a field of that shape.
+/// Judges a byte of the content of a field of this shape.
 #[inline(always)]
 pub fn judge_content(shape: Shape, byte: u8) -> Result<(), Why>
     ensures { JudgesContent (has_digits shape) byte result }
@@ -113,7 +113,7 @@ pub fn judge_content(shape: Shape, byte: u8) -> Result<(), Why>
     judge_content_byte(matches!(shape, Shape::Digits(_)), byte)
 }
 
-/// Judges a byte of a content, of digits or of any bytes.
+/// Judges a byte of content, which is digits or any bytes.
 #[inline(always)]
 pub fn judge_content_byte(digits: bool, byte: u8) -> Result<(), Why>
     ensures { JudgesContent digits byte result }

@@ -1,15 +1,15 @@
-//! Laws of the grammar, each the contract of a function that does nothing.
+//! Laws of the grammar, each stated as the contract of an empty function.
 
 ghost use Rattle.zvt_field.specs.Laws.{EachSizeIsFilled, EachBeginningStands, PositionsAreOne, TestsDecide};
 ghost use Rattle.zvt_field.specs.Laws.{RefusalsAreOne, FieldsEndThemselves, ListsAreOne, ListsHaveOne, AnswersAreOne};
 ghost use Rattle.zvt_field.specs.Laws.{AnswersStay, FaultsAreOne, SecretsAreHidden, SpelledIsFaultless};
 
-/// Some fields have exactly that size, for each size but one byte.
+/// For every size except one byte there are fields of exactly that size.
 pub fn each_size_is_filled()
     ensures { EachSizeIsFilled }
 {}
 
-/// One more byte leaves the bytes alive exactly where its tests pass; there is one set of tests for it.
+/// A byte keeps the bytes completable exactly if its tests pass, and there is one set of tests for it.
 pub fn tests_decide()
     ensures decide { TestsDecide }
     ensures some { EachBeginningStands }
@@ -21,8 +21,8 @@ pub fn refusals_are_one()
     ensures { RefusalsAreOne }
 {}
 
-/// No field's spelling begins another, neither two fields nor two lists share one, and in the shortest
-/// reading each has one.
+/// No field's encoding begins another one. Two fields, or two lists, never share an encoding, and in the shortest
+/// reading each has exactly one.
 pub fn spellings_are_one()
     ensures ends { FieldsEndThemselves }
     ensures lists { ListsAreOne }
@@ -34,12 +34,12 @@ pub fn answers_are_one()
     ensures { AnswersAreOne }
 {}
 
-/// Bytes that come later change no answer but more.
+/// Later bytes change no answer except more.
 pub fn answers_stay()
     ensures { AnswersStay }
 {}
 
-/// A field has one fault, or a spelling.
+/// A field has either an encoding or exactly one fault.
 pub fn faults_are_one()
     ensures faults { FaultsAreOne }
     ensures faultless { SpelledIsFaultless }

@@ -1,4 +1,4 @@
-//! The fields of a message: a byte, the BMP, that names each one, and a content of the kind that the BMP says.
+//! The fields of a message. Each begins with a byte, the BMP, that names it and determines the kind of its content.
 #![tactic(auto)]
 
 pub mod bmp;

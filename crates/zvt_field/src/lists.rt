@@ -1,4 +1,4 @@
-//! Fields that are together, and what they need to have a spelling.
+//! Lists of fields that have an encoding together.
 
 ghost use Rattle.std.specs.Prelude.{◌≡◌, [], ◌∷◌, ◌++◌, OnOk, OnErr, IfErr};
 ghost use Rattle.zvt_field.specs.Bodies.{HaveSpelling};
@@ -10,7 +10,7 @@ use std::alloc::Global;
 use std::fmt;
 use std::marker::Model;
 
-/// Fields that have a spelling together, and its size.
+/// A list of fields that has an encoding, and its size.
 #[derive(Drop)]
 pub struct Fields {
     list: Vec<Field>,
@@ -33,12 +33,12 @@ impl Model for Fields {
     ghost invariant = { λ f. HaveSize f.list.items f.size };
 }
 
-/// Why a field can't come after others. The field is handed back.
+/// Why a field cannot be appended. The field is handed back.
 #[derive(Drop)]
 pub enum PushRefusal {
-    /// The fields would have more than 65,535 bytes with it.
+    /// With this field, the list would exceed 65,535 bytes.
     TooLarge(Field),
-    /// No memory was left.
+    /// An allocation failed.
     Memory(Field),
 }
 
@@ -57,7 +57,7 @@ impl fmt::Display for PushRefusal {
 }
 
 impl Fields {
-    /// No fields.
+    /// Creates an empty list.
     pub fn new(alloc: Global) -> Fields
         ensures { result ≡ [] }
     {
@@ -67,7 +67,7 @@ impl Fields {
         }
     }
 
-    /// The fields of a list whose spelling has that size.
+    /// Makes a list of fields whose encoding has this size.
     pub(crate) fn of(list: Vec<Field>, size: usize) -> Fields
         requires { HaveSize list.items size }
         ensures { result ≡ list.items }
@@ -95,7 +95,7 @@ impl Fields {
         Ok(())
     }
 
-    /// The fields, in order.
+    /// Returns the fields in order.
     pub fn list(&self) -> &[Field]
         ensures list { result.now ≡ self.now }
         ensures spelled { HaveSpelling self.now }

@@ -1,4 +1,4 @@
-//! Values of fields that appear once.
+//! Values of fields that appear exactly once.
 
 ghost use Rattle.std.specs.Prelude.{◌≡◌, ℕ, IfSome};
 ghost use Rattle.std.specs.Option.{option_copied};

@@ -1,4 +1,4 @@
-//! Values of their own from views.
+//! Copies views into owned values.
 
 ghost use Rattle.std.specs.Prelude.{◌≡◌, ◌≢◌, [], IfOk, MatchResult};
 ghost use Rattle.zvt_field.specs.Bodies.{field_of, HasSpelling, HaveSpelling};

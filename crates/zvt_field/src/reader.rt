@@ -1,4 +1,4 @@
-//! The reader of a room of fields.
+//! Reads the fields in a room.
 
 ghost use Rattle.std.specs.Prelude.{◌≡◌, ◌≢◌, ◌≤◌, ◌<◌, ◌^◌, not, if◌then◌else◌, MatchResult, position};
 ghost use Rattle.zvt_grammar.specs.Reading.{shortest, padded};
@@ -23,7 +23,7 @@ pub struct Head {
 }
 
 impl Head {
-    /// A BMP alone, before that many bytes.
+    /// The head of a field that is a BMP alone, before `size` bytes of content.
     fn fixed(size: usize, digits: bool) -> Head
         ensures { result ≡ record { start = 1; size = size; digits = digits } }
     {
@@ -199,7 +199,7 @@ pub fn scan(alloc: Global, bytes: &[u8], room: usize) -> Result<Scan<Fields>, Al
     scan_fields(alloc, bytes, room, Lengths::Shortest)
 }
 
-/// Reads the fields in a room. Lengths of objects may have any form that holds them.
+/// Reads the fields in a room. Lengths of objects may have any form.
 pub fn scan_loose(alloc: Global, bytes: &[u8], room: usize) -> Result<Scan<Fields>, AllocError>
     requires small { room < 2 ^ 16 }
     requires filled { room ≢ 1 }
@@ -208,7 +208,7 @@ pub fn scan_loose(alloc: Global, bytes: &[u8], room: usize) -> Result<Scan<Field
     scan_fields(alloc, bytes, room, Lengths::Padded)
 }
 
-/// Reads the fields of a room, by the lengths that the caller asks for.
+/// Reads the fields in a room with the given forms of length.
 #[inline(always)]
 pub fn scan_fields(
     alloc: Global,

@@ -1,4 +1,4 @@
-//! Shapes of fields, and how their contents are shown.
+//! The shapes of fields, and how outputs show their contents.
 
 /// The shape of a field: a fixed number of bytes, a fixed number of bytes of digits, bytes after a length of two or
 /// three digits, or objects after their length (PA00P015, list of bitmaps).

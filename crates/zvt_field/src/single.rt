@@ -1,4 +1,4 @@
-//! The fields that a status information counts, each where it appears exactly once, found in one walk.
+//! Finds the fields of a status information in one pass, each only if it appears exactly once.
 
 ghost use Rattle.std.specs.Prelude.{◌≡◌, List, [], ◌∷◌, IfSome, not, ◌==◌};
 ghost use Rattle.std.specs.Option.{option_copied};
@@ -56,7 +56,7 @@ impl<'a> Slot<'a> {
         }
     }
 
-    /// The bytes of the field that appears once and is no container.
+    /// Returns the bytes of the field if it appears exactly once and is not a container.
     #[inline(always)]
     fn content(&self, bmp: u8) -> Option<&'a [u8]>
         requires { (fields : List Field) × Saw bmp fields self.now [] }

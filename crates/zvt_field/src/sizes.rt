@@ -1,4 +1,4 @@
-//! The sizes of spellings.
+//! Sizes of encodings.
 
 ghost use Rattle.std.specs.Prelude.{◌≡◌, ℕ, List, length, ◌+◌, ◌<◌, ◌^◌};
 ghost use Rattle.zvt_grammar.specs.Reading.{shortest};
@@ -50,7 +50,7 @@ pub(crate) fn list_size(fields: &[Field]) -> usize
     total
 }
 
-/// The size of the fields' spelling, at most 65,535.
+/// Returns the size of the fields' encoding, at most 65,535.
 pub fn size(fields: &Fields) -> usize
     ensures value { (bytes : List ℕ) → FieldList shortest fields.now bytes → result ≡ length bytes }
     ensures spelled { HaveSpelling fields.now }

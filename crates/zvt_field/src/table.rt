@@ -1,4 +1,4 @@
-//! The table of the BMPs, after the list of bitmaps of PA00P015. Which of them are listed is this project's choice.
+//! The table of BMPs (PA00P015, list of bitmaps). This project chooses which ones it lists.
 
 ghost use Rattle.std.specs.Prelude.{◌≡◌, IfSome, is_some, option_map};
 ghost use Rattle.zvt_field.specs.Judging.{count_digits};
@@ -110,7 +110,7 @@ pub fn format(bmp: u8) -> Format
     }
 }
 
-/// How many digits the length after a BMP of that shape has.
+/// Returns the number of digits in the length after a BMP of this shape.
 pub fn count_digits(shape: Option<Shape>) -> usize
     ensures { result ≡ count_digits shape }
 {

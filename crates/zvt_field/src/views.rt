@@ -72,7 +72,7 @@ impl<'a> Model for FieldsView<'a> {
 impl<'a> FieldsView<'a> {
     ghost use Rattle.zvt_field.specs.Lent.{all_shown};
 
-    /// The view of bytes that spell fields, each length of objects in any form that holds it.
+    /// Returns a view of bytes that encode fields, with lengths of objects in any form.
     pub fn of(bytes: &'a [u8]) -> FieldsView<'a>
         requires { FieldsBytes bytes.now }
         ensures { (fields : List Field) → FieldList padded fields bytes.now → result ≡ fields }
@@ -80,7 +80,7 @@ impl<'a> FieldsView<'a> {
         FieldsView { bytes }
     }
 
-    /// Another view of the same fields.
+    /// Returns another view of the same fields.
     pub fn again(&self) -> FieldsView<'a>
         ensures { result ≡ self.now }
     {
@@ -103,7 +103,7 @@ impl<'a> FieldsView<'a> {
         found
     }
 
-    /// The bytes of the field of that BMP, where it appears exactly once and is no container.
+    /// Returns the bytes of the field with this BMP if it appears exactly once and is not a container.
     fn content(&self, bmp: u8) -> Option<&'a [u8]>
         ensures content { option_copied result ≡ content_of bmp self.now }
         ensures spelled { IfSome result (λ bytes. PlainBytes bmp bytes.now) }

@@ -1,4 +1,4 @@
-//! The writer of spellings.
+//! Writes encodings.
 
 ghost use Rattle.std.specs.Prelude.{◌≡◌, ℕ, List, ◌∷◌, length, ◌+◌, ◌<◌, ◌≤◌, IsTrue};
 ghost use Rattle.zvt_grammar.specs.Reading.{shortest};
@@ -59,7 +59,7 @@ fn write_field(out: &mut [u8], field: &Field) -> usize
     }
 }
 
-/// Writes the fields' spelling at the start, and says its size.
+/// Writes the fields' encoding at the start and returns its size.
 pub fn write_into(fields: &Fields, out: &mut [u8]) -> usize
     requires { (bytes : List ℕ) → FieldList shortest fields.now bytes → length bytes ≤ length out.old }
     ensures { (bytes : List ℕ) → FieldList shortest fields.now bytes → Puts bytes out.old out.new result }

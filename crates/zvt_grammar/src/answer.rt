@@ -3,11 +3,11 @@
 /// Result of reading the bytes so far.
 #[derive(Drop)]
 pub enum Scan<V> {
-    /// A whole value comes first.
+    /// The bytes start with a complete value.
     Whole(V),
-    /// The bytes begin a value, and more are needed.
+    /// The bytes are the beginning of a value, and more are needed.
     More,
-    /// No value begins with the bytes up to and with the one at `place`, counted from 0.
+    /// No value starts with the bytes up to and including the one at `place`, counted from 0.
     Refused { place: usize, why: Why },
 }
 

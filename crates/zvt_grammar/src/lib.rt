@@ -1,4 +1,4 @@
-//! Results of readers, for every grammar of the project, and the definitions that all grammars share.
+//! The answers of readers, and the definitions that all grammars share.
 #![tactic(auto)]
 
 mod answer;

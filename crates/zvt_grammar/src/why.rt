@@ -6,28 +6,28 @@ use std::fmt;
 /// Reason why a byte is refused.
 #[derive(Clone, Copy, Debug, PartialEq, Eq)]
 pub enum Why {
-    /// A length is in a longer form than it needs.
+    /// A length has a longer form than necessary.
     NotShortest,
-    /// What the byte begins or counts leaves too few bytes, or a single one, in what holds it.
+    /// The item that the byte begins or counts does not fit what encloses it, or leaves a single byte over.
     DoesNotFit,
     /// No form of length begins with this byte.
     LengthForm,
-    /// An object would be deeper than 6.
+    /// An object would be nested more than six levels deep.
     TooDeep,
     /// A tag would have more than three bytes.
     TagTooLong,
-    /// No BMP of the table.
+    /// The table of BMPs does not list this one.
     UnknownField,
-    /// A half of the byte is no decimal digit where digits are demanded.
+    /// Half of the byte is not a decimal digit where digits are required.
     NotDigit,
-    /// No digit F0 to F9 of an LL or LLL length.
+    /// A digit of an LL or LLL length is not F0 to F9.
     LengthDigit,
 }
 
 impl Why {
     ghost use Rattle.zvt_grammar.specs.Names.{why_name};
 
-    /// The name of the reason, as it is written in every output.
+    /// Returns the name of the reason as every output writes it.
     pub fn name(self) -> &'static str
         ensures { result.now ≡ why_name self }
     {

@@ -1,10 +1,10 @@
-//! A count that contracts alone see: it has no limit and takes no memory.
+//! A counter that exists only in contracts: it has no limit and takes no memory.
 ghost use Rattle.std.specs.Prelude.{◌≡◌, ℕ, ◌+◌};
 ghost use Rattle.std.specs.Borrow.{ftrue};
 
 use std::marker::Model;
 
-/// How often something happened, for contracts alone.
+/// How often something happened. It exists only in contracts.
 #[derive(Drop)]
 pub struct GhostCount {
     ghost count: { ℕ },
@@ -15,14 +15,14 @@ impl Model for GhostCount {
 }
 
 impl GhostCount {
-    /// It never happened.
+    /// Creates a counter at zero.
     pub fn zero() -> GhostCount
         ensures { result.count ≡ 0 }
     {
         GhostCount {}
     }
 
-    /// It happened once more.
+    /// Returns the count after one more event.
     pub fn next(&self) -> GhostCount
         ensures { result.count ≡ self.now.count + 1 }
     {

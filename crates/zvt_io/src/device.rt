@@ -1,4 +1,4 @@
-//! Readers and writers as contracts see them.
+//! Readers and writers with models for contracts.
 ghost use Rattle.std.specs.Prelude.{◌≡◌, ℕ, ◌+◌, List, Option};
 ghost use Rattle.zvt_io.specs.Devices.{Reads, Writes, CountsFailure};
 
@@ -29,9 +29,9 @@ pub trait Source {
     /// How many reads were made, failed ones included.
     ghost reads: { Self → ℕ };
 
-    /// Reads into the start of the buffer, and answers how many bytes: 0 at the end, or where the
-    /// buffer is empty. A read that failed took no byte. What is in the buffer after the bytes
-    /// that were read may be anything, and after a read that failed all of it.
+    /// Reads into the start of the buffer and returns the number of bytes: 0 at the end, or if the buffer is empty. A
+    /// failed read takes no byte. The rest of the buffer may hold anything afterwards, and after a failed read the
+    /// whole buffer may.
     fn read(&mut self, buffer: &mut [u8]) -> Result<usize, Failed>
         ensures bytes { Reads (remaining self.old) (remaining self.new) result buffer.new }
         ensures failures { CountsFailure (failures self.old) (failures self.new) result }
@@ -46,7 +46,7 @@ pub trait Sink {
     /// How many writes have failed.
     ghost failures: { Self → ℕ };
 
-    /// Writes all the bytes. A write that failed has written a prefix of them.
+    /// Writes all the bytes. A failed write has written a prefix of them.
     fn write_all(&mut self, bytes: &[u8]) -> Result<(), Failed>
         ensures bytes { Writes (written self.old) (written self.new) result bytes.now }
         ensures failures { CountsFailure (failures self.old) (failures self.new) result };

@@ -1,4 +1,5 @@
-//! Readers and writers whose models have their bytes, as far as these are known, and the number of failures.
+//! Readers and writers for contracts: their models have the bytes, as far as they are known, and the number of
+//! failures.
 #![tactic(auto)]
 
 mod count;

@@ -1,4 +1,4 @@
-//! Devices made of std's readers and writers.
+//! Devices over std's readers and writers.
 ghost use Rattle.std.specs.Prelude.{◌≡◌};
 ghost use Rattle.zvt_io.specs.Counts.{reads_of, failures_of};
 ghost use Rattle.zvt_io.specs.Devices.{Reads, Writes, CountsFailure};
@@ -7,7 +7,7 @@ use crate::count::GhostCount;
 use crate::device::{Failed, Sink, Source};
 use std::io::{Read, Write};
 
-/// A reader or a writer of std, with its counts. A call that the system interrupted counts as failed.
+/// A reader or a writer of std, with its counts. A call that a signal interrupts counts as failed.
 #[derive(Drop)]
 pub struct Over<T> {
     pub inner: T,
@@ -16,7 +16,7 @@ pub struct Over<T> {
 }
 
 impl<T> Over<T> {
-    /// A device over this reader or writer. It has counted nothing yet.
+    /// Makes a device of a reader or a writer. Its counts are zero.
     pub fn new(inner: T) -> Over<T>
         ensures inner { result.inner ≡ inner }
         ensures reads { reads_of result ≡ 0 }

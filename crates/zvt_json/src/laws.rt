@@ -1,4 +1,4 @@
-//! Laws of the JSON, each the contract of a function that does nothing.
+//! Laws of the JSON, each stated as the contract of an empty function.
 
 ghost use Rattle.zvt_json.specs.Laws.{EventsReadBack, PasswordsStayHidden, SecretsStayHidden};
 

@@ -149,7 +149,7 @@ fn code(buffer: &mut [u8], at: usize, code: Option<u8>) -> Result<usize, Full>
     push(buffer, at, b',')
 }
 
-/// The configuration of a registration.
+/// Returns the configuration byte of a registration.
 fn config(buffer: &mut [u8], at: usize, config: Option<u8>) -> Result<usize, Full>
     requires { at ≤ length buffer.old }
     ensures { Puts result at buffer.old buffer.new (part_text config_led config) }
@@ -162,7 +162,7 @@ fn config(buffer: &mut [u8], at: usize, config: Option<u8>) -> Result<usize, Ful
     push(buffer, at, b',')
 }
 
-/// The attribute of a line to print.
+/// Returns the attribute of a print line.
 fn attribute(buffer: &mut [u8], at: usize, attribute: Option<u8>) -> Result<usize, Full>
     requires { at ≤ length buffer.old }
     ensures { Puts result at buffer.old buffer.new (part_text attribute_led attribute) }

@@ -25,7 +25,7 @@ pub enum RecordError {
     /// This line, counted from 1, is a check that doesn't belong to the record before it.
     #[error("line {number} of the journal is not the check of its record: the file was changed or damaged")]
     Check { number: usize },
-    /// Memory was refused.
+    /// An allocation failed.
     #[error("out of memory")]
     Memory,
 }

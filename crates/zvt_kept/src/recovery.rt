@@ -37,7 +37,7 @@ pub enum RecoveryError {
     /// or its bytes are not one message.
     #[error("record {number} of the book contradicts the records before it")]
     Record { number: usize },
-    /// Memory was refused.
+    /// An allocation failed.
     #[error("out of memory")]
     Memory,
 }

@@ -21,7 +21,7 @@ pub enum NumberField {
 }
 
 impl NumberField {
-    /// Its BMP.
+    /// Returns the BMP.
     pub fn bmp(self) -> u8
         ensures { result ≡ bmp_of self }
     {
@@ -32,7 +32,7 @@ impl NumberField {
         }
     }
 
-    /// How many bytes it has.
+    /// Returns the number of bytes.
     pub(crate) fn size(self) -> usize
         ensures { result ≡ size_of self }
     {
@@ -51,7 +51,7 @@ pub(crate) enum Number {
 }
 
 impl Number {
-    /// Its bytes.
+    /// Returns the bytes.
     pub(crate) fn bytes(&self) -> &[u8]
         ensures { result.now ≡ bytes_in self.now }
     {

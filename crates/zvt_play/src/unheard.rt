@@ -32,14 +32,14 @@ impl Unheard {
         }
     }
 
-    /// Its bytes.
+    /// Returns the bytes.
     pub(crate) fn bytes(&self) -> &[u8]
         ensures { result.now ≡ unheard_in self.now }
     {
         &self.chunk[self.from..self.to]
     }
 
-    /// How many bytes there are.
+    /// Returns the number of bytes.
     pub(crate) fn len(&self) -> usize
         ensures { result ≡ length (unheard_in self.now) }
     {

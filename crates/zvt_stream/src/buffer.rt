@@ -11,7 +11,7 @@ use crate::judge::{DecodeRun, Judge, Steps};
 use std::alloc::{AllocError, Global};
 use std::marker::Model;
 
-/// How many bytes the longest message has.
+/// Size of the longest message in bytes.
 pub const MAX_APDU_LEN: usize = 65_540;
 
 /// The capacity for the first bytes.
@@ -37,7 +37,7 @@ impl Model for Held {
 }
 
 impl Held {
-    /// No bytes, and capacity for none.
+    /// Creates an empty buffer without capacity.
     pub fn new(alloc: Global) -> Held
         ensures { result ≡ record { bytes = []; room = 0 } }
     {
@@ -47,7 +47,7 @@ impl Held {
         }
     }
 
-    /// No bytes, and capacity for the longest message: adding its bytes never asks for memory.
+    /// Creates an empty buffer with capacity for the longest message, so that adding bytes never allocates.
     pub fn reserved(alloc: Global) -> Result<Held, AllocError>
         ensures { IfOk result (λ held. held ≡ record { bytes = []; room = 65540 }) }
     {
@@ -148,7 +148,7 @@ impl Held {
         self.size = count;
     }
 
-    /// How many bytes there are.
+    /// Returns the number of bytes.
     #[inline(always)]
     pub fn len(&self) -> usize
         ensures { result ≡ length self.now.bytes }
@@ -156,7 +156,7 @@ impl Held {
         self.size
     }
 
-    /// The bytes of a whole message.
+    /// Returns the bytes of a complete message.
     #[inline(always)]
     pub fn spelled(&self) -> &[u8]
         requires { MessageBytes self.now.bytes }

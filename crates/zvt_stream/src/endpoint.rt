@@ -7,7 +7,7 @@ use crate::stream::Stream;
 /// [`pump`](crate::pump) works on these parts. Create a new endpoint for a new connection.
 #[derive(Drop)]
 pub struct Endpoint<R, W> {
-    /// The device that brings what the other end sends.
+    /// Receives the bytes of the other end.
     pub reader: R,
     /// Sends the bytes of this end.
     pub writer: W,

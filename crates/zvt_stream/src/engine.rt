@@ -1,4 +1,4 @@
-//! The engine of a line: reads messages, lets a machine process them, and writes its replies.
+//! Drives a line: reads messages, lets a machine process them, and writes its replies.
 
 ghost use Rattle.std.specs.Prelude.{◌≡◌, ◌≢◌, ℕ, ◌+◌, ◌<◌, ◌≤◌, Bool, false, true, List, [], ◌++◌, IfOk, IfErr, IsOk};
 ghost use Rattle.std.specs.Prelude.{IsSome, Some, OnOk, OnErr, MatchResult, length};

@@ -14,7 +14,7 @@ pub enum Head {
 }
 
 impl Head {
-    /// The control bytes after one more byte of the message.
+    /// Returns the control bytes after one more byte of the message.
     #[inline(always)]
     pub fn then(self, byte: u8) -> Head
         ensures { (bytes : List ℕ) → self ≡ head_of bytes → result ≡ head_of (bytes ++ byte ∷ []) }
@@ -26,7 +26,7 @@ impl Head {
         }
     }
 
-    /// The control bytes of the message that goes on with these bytes.
+    /// Returns the control bytes of the message after these further bytes.
     pub fn before(self, bytes: &[u8]) -> Head
         ensures { (held : List ℕ) → self ≡ head_of held → result ≡ head_of (held ++ bytes.now) }
     {

@@ -23,14 +23,14 @@ use zvt_grammar::{Lengths, Why};
 use zvt_io::GhostCount;
 use zvt_tlv::{LengthAt, TagAt};
 
-/// How many bytes were judged. Contracts alone see it: it takes no memory and no time.
+/// The number of bytes judged. It exists only in contracts, and takes neither memory nor time.
 #[derive(Drop)]
 pub struct Steps {
     judged: GhostCount,
 }
 
 impl Steps {
-    /// No byte was judged.
+    /// Creates a counter at zero.
     pub fn new() -> Steps
         ensures { judged_of result ≡ 0 }
     {
@@ -43,29 +43,28 @@ impl Steps {
 /// Result of judging a byte.
 #[derive(Clone, Copy)]
 pub enum Judged {
-    /// The bytes begin a message and hold none.
+    /// The bytes are the beginning of a message.
     Open,
-    /// The bytes are a message.
+    /// The bytes are a complete message.
     Ended,
 }
 
 /// Result of judging bytes.
 #[derive(Clone, Copy)]
 pub enum DecodeRun {
-    /// All were judged, and they begin a message and hold none.
+    /// All bytes were judged. They are the beginning of a message.
     Open,
     /// The first `taken` of them end a message.
     Ended { taken: usize },
-    /// No message begins with the bytes up to and with the one at `at`.
+    /// No message starts with the bytes up to and including the one at `at`.
     Refused { at: usize, why: Why },
 }
 
-/// The state of a message that is being read: the part that the next byte plays, and the open levels. Levels are the
-/// frame, the fields, a container, and objects in one another. Of each the judge counts how many of its bytes are to
-/// come.
+/// The state of a message that is being read: the role of the next byte, and the open levels. The levels are the frame,
+/// the fields, a container and nested objects. For each one the judge counts the bytes that are still to come.
 #[derive(Drop)]
 pub struct Judge {
-    /// The forms of length that it takes.
+    /// The accepted forms of length.
     lengths: Lengths,
     goes: Goes,
     levels: Levels,
@@ -83,7 +82,7 @@ impl Model for Judge {
 }
 
 impl Judge {
-    /// A judge at the start of a message, which takes each length in its shortest form.
+    /// Creates a judge at the start of a message that accepts only the shortest lengths.
     pub fn new() -> Judge
         ensures new { result ≡ start shortest }
         ensures stands { StandsFor result [] }
@@ -91,7 +90,7 @@ impl Judge {
         Judge::of(Lengths::Shortest)
     }
 
-    /// A judge at the start of a message, which takes each length in any form that holds it.
+    /// Creates a judge at the start of a message that also accepts padded lengths.
     pub fn loose() -> Judge
         ensures new { result ≡ start padded }
         ensures stands { StandsFor result [] }
@@ -99,7 +98,7 @@ impl Judge {
         Judge::of(Lengths::Padded)
     }
 
-    /// A judge at the start of a message, of the lengths that are asked for.
+    /// Creates a judge at the start of a message that accepts the given forms of length.
     pub(crate) fn of(lengths: Lengths) -> Judge
         ensures new { result ≡ start (reading_of lengths) }
         ensures stands { StandsFor result [] }
@@ -119,14 +118,14 @@ impl Judge {
         }
     }
 
-    /// The forms of length that it takes.
+    /// The accepted forms of length.
     pub fn lengths(&self) -> Lengths
         ensures { reading_of result ≡ self.now.reading }
     {
         self.lengths
     }
 
-    /// Another judge at the same position.
+    /// Returns another judge at the same position.
     pub fn again(&self) -> Judge
         ensures { result ≡ self.now }
     {
@@ -148,7 +147,7 @@ impl Judge {
         }
     }
 
-    /// How many levels are open, the frame counted: at most eight, since objects nest six deep.
+    /// Returns the number of open levels, including the frame: at most eight, since objects nest six deep.
     pub fn levels(&self) -> usize
         ensures levels { (bytes : List ℕ) → StandsFor self.now bytes → HasLevelsIn self.now.reading bytes result }
         ensures most { result ≤ 8 }
@@ -156,7 +155,7 @@ impl Judge {
         1 + self.levels.outer.len()
     }
 
-    /// The control bytes of the message that was begun, as far as they were judged.
+    /// Returns the control bytes of the unfinished message, as far as they were judged.
     #[inline(always)]
     pub fn head(&self) -> Head
         ensures { (bytes : List ℕ) → StandsFor self.now bytes → result ≡ head_of bytes }
@@ -168,8 +167,8 @@ impl Judge {
         }
     }
 
-    /// Judges the next byte. After the end of a message, and after a refusal, the judge is a new one of the same
-    /// lengths.
+    /// Judges the next byte. After the end of a message and after a refusal, the judge is at the start of a message
+    /// again.
     pub fn step(&mut self, steps: &mut Steps, byte: u8) -> Result<Judged, Why>
         ensures judged { (bytes : List ℕ) → StandsFor self.old bytes → Stepped self.old.reading bytes byte
             result self.new }
@@ -200,7 +199,7 @@ impl Judge {
         }
     }
 
-    /// Judges bytes one after another, up to the end of a message, and writes each to the room.
+    /// Judges bytes one after another up to the end of a message, and writes each one to the buffer.
     #[inline(always)]
     pub fn run(&mut self, steps: &mut Steps, bytes: &[u8], room: &mut [u8]) -> DecodeRun
         requires { HasRoomFor self.old (length bytes.now) (length room.old) }

@@ -1,4 +1,4 @@
-//! Laws of every stream. Each is the contract of an empty function.
+//! Laws of every stream, each stated as the contract of an empty function.
 
 ghost use Rattle.zvt_stream.specs.Cutting.{AnyCutting, AnyRefusal};
 ghost use Rattle.zvt_stream.specs.Judge.{JudgesStand};

@@ -12,7 +12,7 @@ use thiserror::Error;
 use zvt_apdu::ApduView;
 use zvt_grammar::Why;
 
-/// The messages that answer one message: at most two, of 64 bytes in all.
+/// The replies to one message: at most two messages, 64 bytes in all.
 #[derive(Drop)]
 pub struct Answers {
     written: ArrayVec<u8, 64>,
@@ -32,7 +32,7 @@ impl Model for Answers {
 }
 
 impl Answers {
-    /// No answer.
+    /// Creates an empty reply.
     pub fn new() -> Answers
         ensures { result ≡ record { bytes = []; count = 0 } }
     {
@@ -52,14 +52,14 @@ impl Answers {
         self.messages += 1;
     }
 
-    /// The bytes of all messages, in order.
+    /// Returns the bytes of all messages in order.
     pub fn bytes(&self) -> &[u8]
         ensures { result.now ≡ self.now.bytes }
     {
         self.written.as_slice()
     }
 
-    /// How many messages there are.
+    /// Returns the number of messages.
     pub fn count(&self) -> usize
         ensures count { result ≡ self.now.count }
         ensures few { result ≤ 2 }
@@ -84,10 +84,10 @@ pub trait Machine {
     /// Whether the machine has come to rest.
     ghost is_resting: { Self → Bool };
 
-    /// Whether a hearing may want memory.
+    /// Whether hearing a message may allocate.
     ghost wants_memory: { Bool };
 
-    /// Hears a message where it lies. Where memory is refused the machine is unchanged.
+    /// Hears a borrowed message. If an allocation fails, the machine does not change.
     fn hear(&mut self, alloc: Global, apdu: &ApduView<'_>) -> Result<Answers, AllocError>
         ensures heard { IfOk result (λ answers. hears self.old apdu.now answers self.new) }
         ensures err { OnErr result (self.new ≡ self.old) }
@@ -102,7 +102,7 @@ pub trait Machine {
     fn lost(&mut self)
         ensures { loses self.old self.new };
 
-    /// The line brought bytes that no message begins with, now or before.
+    /// Notifies the machine that the line brought bytes that start no message.
     fn malformed(&mut self)
         ensures { malforms self.old self.new };
 }
@@ -110,14 +110,14 @@ pub trait Machine {
 /// When [`pump`](crate::pump) stops.
 #[derive(Clone, Copy, Drop)]
 pub enum Until {
-    /// The machine rests.
+    /// The machine is at rest.
     Rest,
-    /// A message was written, or the machine rests.
+    /// A message was written, or the machine is at rest.
     Sent,
 }
 
 impl Until {
-    /// Whether the line need not be read at all: a machine that was to rest does so before the first turn.
+    /// Returns whether no read is needed at all because the machine that was to come to rest is at rest.
     pub fn is_there(self, resting: bool) -> bool
         ensures { result ≡ there_at_once self resting }
     {
@@ -127,7 +127,7 @@ impl Until {
         }
     }
 
-    /// Whether the line has come to where it was to go, after a turn.
+    /// Returns whether the condition holds after a turn.
     pub fn is_reached(self, resting: bool, sent: bool) -> bool
         ensures { result ≡ reached self resting sent }
     {
@@ -138,7 +138,7 @@ impl Until {
     }
 }
 
-/// How a line broke. It is then given up: a new line has a new endpoint.
+/// How a line broke. Give it up: a new line needs a new endpoint.
 #[derive(Clone, Copy, Debug, Drop, PartialEq, Eq, Error)]
 pub enum LineFault {
     /// A read failed, or took longer than the device waits.
@@ -150,17 +150,17 @@ pub enum LineFault {
     /// The line ended, with `have` bytes of an unfinished message.
     #[error("the other end closed the connection after {have} bytes of a message")]
     Ended { have: usize },
-    /// All turns were made, and the line had not come to where it was to go.
+    /// All turns were used up before the condition held.
     #[error("gave up: the exchange was not finished within the read limit")]
     Turns,
-    /// No message begins with the bytes up to and with the one at `place`, which is counted from 0 at the first byte of
-    /// the message.
+    /// No message starts with the bytes up to and including the one at `place`, an offset from the start of the
+    /// message.
     #[error("the other end sent an invalid message, refused at {place}: {why}")]
     Malformed { place: usize, why: Why },
-    /// Memory was refused.
+    /// An allocation failed.
     #[error("out of memory")]
     Memory,
-    /// The stream had refused bytes before.
+    /// The stream refused earlier bytes.
     #[error("the other end already sent an invalid message on this connection")]
     Stopped,
 }

@@ -1,4 +1,4 @@
-//! Messages out of pieces of a line.
+//! Assembles messages from pieces of a line.
 //!
 //! `feed_view` and `head` are `#[inline(always)]`: a reader that feeds byte by byte calls both for each byte.
 
@@ -36,7 +36,7 @@ pub enum Fed {
     Refused { place: usize, why: Why },
 }
 
-/// Result of a chunk; the stream lends the message.
+/// The result of feeding a piece with `feed_view`. The stream lends the message.
 #[derive(Clone, Copy, Debug, Drop, PartialEq, Eq)]
 pub enum FedView {
     /// A message ended after the first `taken` bytes of the piece, and `Stream::lent` shows it. The caller feeds the
@@ -44,7 +44,7 @@ pub enum FedView {
     Message { taken: usize },
     /// The whole piece was taken, and no message ended in it.
     More,
-    /// The bytes begin no message, as in `Fed::Refused`.
+    /// The input is invalid, as in `Fed::Refused`.
     Refused { place: usize, why: Why },
 }
 
@@ -116,7 +116,7 @@ impl Model for Stream {
 }
 
 impl Stream {
-    /// A stream at the start of a line, which takes each length in its shortest form.
+    /// Creates a stream for a new connection that accepts only the shortest lengths.
     pub fn new(alloc: Global) -> Stream
         ensures { result ≡ at_start }
     {
@@ -130,7 +130,7 @@ impl Stream {
         Stream::of(alloc, Lengths::Padded)
     }
 
-    /// A stream at the start of a line, which takes such lengths.
+    /// Creates a stream for a new connection that accepts the given forms of length.
     pub fn of(alloc: Global, lengths: Lengths) -> Stream
         ensures { result ≡ start_in (reading_of lengths) }
     {
@@ -167,7 +167,7 @@ impl Stream {
         }
     }
 
-    /// The bytes of the message that is borrowed.
+    /// Returns the bytes of the lent message.
     pub fn lent_bytes(&self) -> Option<&[u8]>
         ensures some { IfSome self.now.lent (λ m. IfSome result (λ bytes. Spells self.now.reading m bytes.now)
             × IsSome result) }
@@ -290,7 +290,7 @@ impl Stream {
         if self.has_message { 0 } else { self.held.len() }
     }
 
-    /// The control bytes of the unfinished message, as far as they have come.
+    /// Returns the control bytes of the unfinished message, as far as they have arrived.
     #[inline(always)]
     pub fn head(&self) -> Head
         ensures { result ≡ head_of self.now.held }

@@ -32,12 +32,12 @@ pub enum Line {
     DayClosed,
 }
 
-/// A message of the terminal, by the few values that it is made of. Its control bytes are given in hexadecimal.
+/// A message of the terminal, with the values that it carries. Each variant gives its control bytes in hexadecimal.
 #[derive(Clone, Copy)]
 pub enum Report {
-    /// 80 00: the till's message was taken.
+    /// 80 00: acknowledges the till's message.
     Ack,
-    /// 84 and the code: it was refused.
+    /// 84 and an error code: rejects it.
     Nack(u8),
     /// 06 0F: the till is registered with the terminal of this number (BMP 29), in the currency (BMP 49) that it
     /// named.

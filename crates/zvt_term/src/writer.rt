@@ -14,7 +14,7 @@ use zvt_bcd::{Amount, Currency, put};
 use zvt_field::bmp::{AMOUNT, CURRENCY, ORIGINAL, RECEIPT, RESULT, TERMINAL, TRACE};
 use zvt_grammar::Scan;
 
-/// The size of a buffer that each report fits in.
+/// Size of a buffer that holds any report.
 pub const MAX_REPORT_LEN: usize = 32;
 
 /// The two bytes of digits of a row's number.
@@ -188,7 +188,7 @@ pub fn put_report(report: &Report, buffer: &mut [u8; MAX_REPORT_LEN]) -> usize
     }
 }
 
-/// The message of the report.
+/// Returns the message of the report.
 pub fn report_message(alloc: Global, report: &Report) -> Result<Apdu, AllocError>
     requires { IsWritable report.now }
     ensures { IfOk result (λ apdu. apdu ≡ message_of_report report.now) }

@@ -12,7 +12,7 @@ use itoa::{Buffer, Integer};
 #[derive(Drop)]
 pub struct Full;
 
-/// Writes one character, an ASCII one.
+/// Writes one ASCII character.
 #[inline(always)]
 pub fn push(buffer: &mut [u8], at: usize, character: u8) -> Result<usize, Full>
     requires { at ≤ length buffer.old }

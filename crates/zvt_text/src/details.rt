@@ -80,7 +80,7 @@ pub(crate) fn control(buffer: &mut [u8], at: usize, control: [u8; 2]) -> Result<
     hexadecimal(buffer, at, control.as_slice())
 }
 
-/// The configuration of a registration.
+/// Returns the configuration byte of a registration.
 pub(crate) fn config(buffer: &mut [u8], at: usize, config: Option<u8>) -> Result<usize, Full>
     requires { at ≤ length buffer.old }
     ensures { Puts result at buffer.old buffer.new (part_text config_text config) }

@@ -1,4 +1,4 @@
-//! The heads of messages.
+//! The first line of a message.
 ghost use Rattle.std.specs.Prelude.{◌≡◌, ◌≢◌, ◌≤◌, length};
 ghost use Rattle.zvt_apdu.specs.Kinds.{kind_of};
 ghost use Rattle.zvt_text.specs.MessageTexts.{detail_text, head_text, kind_name};
@@ -36,7 +36,7 @@ pub(crate) fn head(buffer: &mut [u8], at: usize, message: &ApduView<'_>) -> Resu
     }
 }
 
-/// The name of a kind of message, as each text has it.
+/// Returns the name of a kind of message as every text writes it.
 pub fn kind_name(kind: Kind) -> &'static str
     ensures { result.now ≡ kind_name kind }
 {

@@ -1,4 +1,4 @@
-//! Laws of the texts, each the contract of a function that does nothing.
+//! Laws of the texts, each stated as the contract of an empty function.
 
 ghost use Rattle.zvt_text.specs.Laws.{PasswordsStayHidden, SecretsStayHidden};
 

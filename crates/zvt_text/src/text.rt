@@ -32,7 +32,7 @@ impl Model for Text {
 }
 
 impl Text {
-    /// An empty text.
+    /// Creates an empty text.
     pub fn new(alloc: Global) -> Text
         ensures { result ≡ [] }
     {
@@ -42,7 +42,7 @@ impl Text {
         }
     }
 
-    /// An empty text with room for that many bytes, which ask for no memory.
+    /// Creates an empty text with capacity for `size` bytes.
     pub fn with_capacity(alloc: Global, size: usize) -> Result<Text, AllocError>
         ensures { IfOk result (λ text. text ≡ []) }
     {
@@ -51,7 +51,7 @@ impl Text {
         Ok(Text { buffer, size: 0 })
     }
 
-    /// Its bytes.
+    /// Returns the bytes.
     #[inline(always)]
     pub fn bytes(&self) -> &[u8]
         ensures { result.now ≡ self.now }
@@ -59,7 +59,7 @@ impl Text {
         &self.buffer[..self.size]
     }
 
-    /// How many bytes it has.
+    /// Returns the number of bytes.
     #[inline(always)]
     pub fn size(&self) -> usize
         ensures { result ≡ length self.now }
@@ -67,7 +67,7 @@ impl Text {
         self.size
     }
 
-    /// Takes all of it away.
+    /// Removes the whole text.
     #[inline(always)]
     pub fn clear(&mut self)
         ensures { self.new ≡ [] }
@@ -75,7 +75,7 @@ impl Text {
         self.size = 0;
     }
 
-    /// Writes one character, an ASCII one.
+    /// Writes one ASCII character.
     #[inline(always)]
     pub fn push(&mut self, character: u8) -> Result<(), AllocError>
         ensures { Adds result self.old self.new (character ∷ []) }
@@ -117,7 +117,7 @@ impl Text {
 pub trait Says {
     ghost said: { Self → List ℕ };
 
-    /// Writes it at the start of the buffer, and answers its size.
+    /// Writes it at the start of the buffer and returns its size.
     fn put(&self, buffer: &mut [u8]) -> Result<usize, Full>
         ensures { Puts result 0 buffer.old buffer.new (said self.now) };
 }

@@ -12,7 +12,7 @@ pub fn trailing<'a>(prefix: &[u8], word: &'a [u8]) -> Option<&'a [u8]>
     word.strip_prefix(prefix)
 }
 
-/// The number of at least one and at most `most` decimal digits. A sign is no digit, and zeros may come first.
+/// Parses a number of one to `most` decimal digits. It may have leading zeros but no sign.
 pub fn decimal_number(digits: &[u8], most: usize) -> Option<u64>
     requires { most ≤ 19 }
     ensures number { result ≡ number_in most digits.now }

@@ -135,7 +135,7 @@ pub(crate) fn put_result(buffer: &mut [u8], at: usize, code: u8) -> Result<usize
     }
 }
 
-/// The meaning of a result code, if it has one of its own.
+/// Returns the meaning of a result code, if it has one.
 pub fn meaning(code: u8) -> Option<&'static str>
     ensures { option_map (λ meaning. meaning.now) result ≡ meaning_of code }
 {

@@ -15,7 +15,7 @@ use crate::trees::{BadForest, Body, Tlv};
 /// More bytes than any spelling has.
 const TOO_MANY: usize = 65_536;
 
-/// Why the objects have no spelling, if they have none.
+/// Returns the first reason why the objects have no encoding, if there is one.
 pub fn first_fault(objects: &[Tlv]) -> Option<BadForest>
     ensures { MatchOption result (HasSpelling (objects_of objects.now)) (HasFault (objects_of objects.now)) }
 {

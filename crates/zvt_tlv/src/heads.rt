@@ -14,13 +14,13 @@ use zvt_grammar::{Lengths, Scan};
 pub struct Head {
     pub tag_size: usize,
     pub constructed: bool,
-    /// How many bytes of content follow.
+    /// Number of content bytes that follow.
     pub content: usize,
-    /// How many bytes the tag and the length have together.
+    /// Size of the tag and the length together.
     pub size: usize,
 }
 
-/// Reads a tag, at that depth in a room of that many bytes: its size, and whether it is constructed.
+/// Reads a tag at the given depth, within the bytes of its room. Returns its size and whether it is constructed.
 fn scan_tag(bytes: &[u8], room: usize, depth: usize, lengths: Lengths) -> Scan<(usize, bool)>
     requires some { 0 < room }
     requires filled { room ≢ 1 }
@@ -69,7 +69,7 @@ fn scan_length(
     Scan::More
 }
 
-/// Reads a tag and its length, at that depth in a room of that many bytes.
+/// Reads a tag and its length at the given depth, within the bytes of their room.
 pub fn scan_head(bytes: &[u8], room: usize, depth: usize, lengths: Lengths) -> Scan<Head>
     requires some { 0 < room }
     requires filled { room ≢ 1 }

@@ -1,4 +1,4 @@
-//! Which byte may follow in a tag or a length, and why another may not, byte by byte and without memory.
+//! Decides byte by byte, without memory, whether a tag or a length can continue, and if not, why.
 
 ghost use Rattle.std.specs.Prelude.{◌≡◌, ℕ, ◌+◌, ◌<◌, ◌^◌};
 ghost use Rattle.zvt_grammar.specs.Tests.{fits};
@@ -44,10 +44,10 @@ pub enum LengthNext {
     Done(usize),
 }
 
-/// The greatest depth of an object.
+/// The deepest level of an object.
 const DEEPEST: usize = 6;
 
-/// Whether an item of `size` more bytes ends its level or leaves room for another one, which has two bytes at least.
+/// Whether an item of `size` more bytes ends its level or leaves room for another item, which has at least two bytes.
 #[inline(always)]
 fn fits(size: usize, left: usize) -> bool
     requires { size < 2 ^ 16 }
@@ -56,7 +56,7 @@ fn fits(size: usize, left: usize) -> bool
     left == size || size + 2 <= left
 }
 
-/// Whether a content of that length fits; one byte is no content of a constructed object.
+/// Whether content of this length fits. A single byte cannot be the content of a constructed object.
 #[inline(always)]
 fn content_fits(nests: bool, size: usize, left: usize) -> bool
     requires { size < 2 ^ 16 }
@@ -77,7 +77,8 @@ fn avoids(lengths: Lengths, nests: bool, left: usize, size: usize) -> bool
     }
 }
 
-/// Judges one byte of a tag, of an object at that depth. `left` counts the bytes of the enclosing content after it.
+/// Judges one byte of the tag of an object at the given depth. `left` counts the bytes of the enclosing content after
+/// it.
 #[inline(always)]
 pub fn judge_tag(
     at: TagAt,
@@ -193,7 +194,7 @@ pub fn judge_length(
     }
 }
 
-/// A length that is whole.
+/// Judges a complete length.
 #[inline(always)]
 fn judge_content(size: usize, left: usize, nests: bool) -> Result<LengthNext, Why>
     requires { size < 2 ^ 16 }
@@ -230,7 +231,7 @@ fn judge_first_length_byte(
     }
 }
 
-/// Why no length in that many further bytes can follow, of a form that the shortest reading takes from `least` on.
+/// Returns why no length in this many further bytes can follow. The shortest reading accepts its form from `least` on.
 #[inline(always)]
 fn long_form(lengths: Lengths, nests: bool, left: usize, least: usize, bytes: usize) -> Option<Why>
     requires { bytes + least < 2 ^ 16 }

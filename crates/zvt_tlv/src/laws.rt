@@ -1,4 +1,4 @@
-//! Laws of the grammar, each the contract of a function that does nothing.
+//! Laws of the grammar, each stated as the contract of an empty function.
 
 ghost use Rattle.zvt_tlv.specs.Laws.{EachSizeIsFilled, EachBeginningStands, PositionsAreOne, TestsDecide};
 ghost use Rattle.zvt_tlv.specs.Laws.{EachSizedBeginningStands, SizedPositionsAreOne, SizedTestsDecide, AnswersAreOne};
@@ -6,7 +6,7 @@ ghost use Rattle.zvt_tlv.specs.Laws.{SizedAnswersAreOne, AnswersStay, SizedAnswe
 ghost use Rattle.zvt_tlv.specs.Laws.{RoomsEndThemselves, SizedEndThemselves, SpellingsAreOne, SizedSpellingsAreOne};
 ghost use Rattle.zvt_tlv.specs.Laws.{FaultsAreOne, SpelledIsFaultless};
 
-/// Some objects have exactly that size, for each size but one byte.
+/// For every size except one byte there are objects of exactly that size.
 pub fn each_size_is_filled()
     ensures { EachSizeIsFilled }
 {}
@@ -19,20 +19,21 @@ pub fn tests_decide()
     ensures one { PositionsAreOne }
 {}
 
-/// Of a length and its objects, too, the next byte's tests decide, and each beginning is at one position.
+/// Bytes that begin a length and its objects are at exactly one position, and the tests of that position decide for
+/// each next byte.
 pub fn sized_tests_decide()
     ensures decide { SizedTestsDecide }
     ensures some { EachSizedBeginningStands }
     ensures one { SizedPositionsAreOne }
 {}
 
-/// Whole, more and refused exclude one another, and a refusal has one place and one reason.
+/// The answers whole, more and refused exclude each other, and a refusal has one place and one reason.
 pub fn answers_are_one()
     ensures rooms { AnswersAreOne }
     ensures sized { SizedAnswersAreOne }
 {}
 
-/// Bytes that come later change no answer but more.
+/// Later bytes change no answer except more.
 pub fn answers_stay()
     ensures rooms { AnswersStay }
     ensures sized { SizedAnswersStay }
@@ -45,13 +46,13 @@ pub fn spellings_end_themselves()
     ensures sized { SizedEndThemselves }
 {}
 
-/// In the shortest reading each value has one spelling.
+/// In the shortest reading each value has exactly one encoding.
 pub fn spellings_are_one()
     ensures objects { SpellingsAreOne }
     ensures sized { SizedSpellingsAreOne }
 {}
 
-/// Objects have one fault, or a spelling.
+/// Objects have either an encoding or exactly one fault.
 pub fn faults_are_one()
     ensures faults { FaultsAreOne }
     ensures faultless { SpelledIsFaultless }

@@ -1,4 +1,4 @@
-//! Values of their own from views.
+//! Copies views into owned values.
 
 ghost use Rattle.std.specs.Prelude.{◌≡◌, ◌≢◌, MatchResult};
 ghost use Rattle.zvt_tlv.specs.Checks.{AllParts};
@@ -24,7 +24,7 @@ pub fn owned(alloc: Global, objects: ForestView<'_>) -> Result<Forest, AllocErro
     Ok(forest)
 }
 
-/// The objects of a view, one after another.
+/// Copies the objects of a view one after another.
 fn owned_objects(alloc: Global, objects: ForestView<'_>) -> Result<Vec<Tlv>, AllocError>
     requires { ∥ AllParts objects ∥₁ }
     ensures { MatchResult result (λ made. objects_of made.items ≡ objects.entry) (λ _. objects.entry ≢ none) }

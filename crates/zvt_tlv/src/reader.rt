@@ -15,8 +15,8 @@ use crate::trees::{Body, Forest, Tlv};
 use std::alloc::{AllocError, Global};
 use zvt_grammar::{Lengths, Scan};
 
-/// Reads the objects at that depth whose bytes are exactly the first `room` bytes, each length in its shortest form.
-/// No objects fill a room of a single byte.
+/// Reads the objects at the given depth that fill exactly the first `room` bytes. Each length must have its shortest
+/// form. A room of a single byte cannot be filled.
 pub fn scan(
     alloc: Global,
     bytes: &[u8],
@@ -33,7 +33,7 @@ pub fn scan(
     scan_forest(alloc, bytes, room, depth, Lengths::Shortest)
 }
 
-/// Reads the objects in a room. Lengths may have any form that holds them.
+/// Reads the objects in a room. Lengths may have any form, also a longer one than necessary.
 pub fn scan_loose(
     alloc: Global,
     bytes: &[u8],
@@ -64,7 +64,7 @@ pub fn scan_sized(
     scan_sized_forest(alloc, bytes, room, Lengths::Shortest)
 }
 
-/// Reads a length and its objects. Lengths may have any form that holds them, so `81 00` fills a room of two bytes.
+/// Reads a length and its objects. Lengths may have any form, so `81 00` fills a room of two bytes.
 pub fn scan_sized_loose(
     alloc: Global,
     bytes: &[u8],
@@ -98,7 +98,7 @@ fn scan_forest(
     })
 }
 
-/// Reads a length and its objects, by the lengths that the caller asks for. Some such bytes fit the room.
+/// Reads a length and its objects with the given forms of length. The room must be one that can be filled.
 pub fn scan_sized_forest(
     alloc: Global,
     bytes: &[u8],
@@ -127,7 +127,7 @@ pub fn scan_sized_forest(
     )
 }
 
-/// Reads the objects that fill a room of that many bytes.
+/// Reads the objects that fill the room.
 #[cycle(scan)]
 fn scan_objects(
     alloc: Global,
@@ -161,7 +161,7 @@ fn scan_objects(
     Ok(Scan::Whole(objects))
 }
 
-/// Reads one object, in a room of that many bytes: the object and its size.
+/// Reads one object within its room. Returns the object and its size.
 #[cycle(scan)]
 fn scan_object(
     alloc: Global,

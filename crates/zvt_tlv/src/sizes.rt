@@ -1,4 +1,4 @@
-//! The sizes of spellings.
+//! Sizes of encodings.
 
 ghost use Rattle.std.specs.Prelude.{◌≡◌, ℕ, List, length, ◌+◌, ◌<◌, ◌^◌, nat_lt};
 ghost use Rattle.zvt_grammar.specs.Reading.{shortest};
@@ -9,7 +9,7 @@ ghost use Rattle.zvt_tlv.specs.Trees.{before, objects_of};
 
 use crate::trees::{Body, Forest, Tlv};
 
-/// The size of the forest's spelling, which is at most 65,535 bytes.
+/// Returns the size of the forest's encoding, at most 65,535 bytes.
 pub fn size(forest: &Forest) -> usize
     ensures value { result ≡ size_of forest.now }
     ensures spelling { (bytes : List ℕ) → Spells shortest 1 forest.now bytes → length bytes ≡ result }
@@ -19,7 +19,7 @@ pub fn size(forest: &Forest) -> usize
     objects_size(forest.objects())
 }
 
-/// The size of the shortest length of a content of that many bytes.
+/// Returns the size of the shortest length for content of this size.
 pub fn length_size(content: usize) -> usize
     ensures { result ≡ length_size content }
 {
@@ -32,7 +32,7 @@ pub fn length_size(content: usize) -> usize
     }
 }
 
-/// The size of the objects' spelling.
+/// Returns the size of the objects' encoding.
 #[cycle(sizes)]
 pub fn objects_size(objects: &[Tlv]) -> usize
     requires { size_of (objects_of objects.now) < 2 ^ 16 }

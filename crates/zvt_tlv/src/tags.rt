@@ -5,7 +5,8 @@ ghost use Rattle.zvt_tlv.specs.Grammar.{IsTag, is_constructed};
 
 use std::marker::Model;
 
-/// One to three bytes that name an object and say whether it holds other objects. Contracts see their list.
+/// The one to three bytes that name an object and say whether it holds other objects. In contracts it is the list of
+/// its bytes.
 #[derive(Drop)]
 pub struct Tag {
     bytes: [u8; 3],
@@ -40,7 +41,7 @@ impl Tag {
         }
     }
 
-    /// The tag of bytes that are one.
+    /// Makes a tag of bytes that are one.
     pub(crate) fn of(bytes: &[u8]) -> Tag
         requires { IsTag bytes.now }
         ensures { result ≡ bytes.now }
@@ -62,7 +63,7 @@ impl Tag {
         }
     }
 
-    /// Its bytes.
+    /// Returns the bytes.
     pub fn bytes(&self) -> &[u8]
         ensures value { result.now ≡ self.now }
         ensures tag { IsTag self.now }
@@ -70,7 +71,7 @@ impl Tag {
         &self.bytes[..self.count]
     }
 
-    /// Whether it says that the content is objects: bit 6 of the first byte.
+    /// Returns whether the content is objects: bit 6 of the first byte.
     pub fn constructed(&self) -> bool
         ensures value { result ≡ is_constructed self.now }
         ensures tag { IsTag self.now }
@@ -78,7 +79,7 @@ impl Tag {
         self.bytes[0] / 32 % 2 == 1
     }
 
-    /// How many bytes it has.
+    /// Returns the number of bytes.
     pub(crate) fn size(&self) -> usize
         ensures value { result ≡ length self.now }
         ensures small { result ≤ 3 }

@@ -28,7 +28,7 @@ pub enum Body {
     Cons(Vec<Tlv>),
 }
 
-/// Objects that have a spelling: from depth 1 on, of at most 65,535 bytes. Contracts see their tree.
+/// Objects that have an encoding: from depth 1 on, in at most 65,535 bytes. In contracts a forest is its tree.
 #[derive(Drop)]
 pub struct Forest {
     objects: Vec<Tlv>,
@@ -50,23 +50,23 @@ impl Model for Forest {
     ghost invariant = { λ f. HasSpelling (objects_of f.objects.items) };
 }
 
-/// Why objects have no spelling.
+/// Why objects have no encoding.
 #[derive(Clone, Copy, Debug, Drop, PartialEq, Eq, Error)]
 pub enum BadForest {
-    /// A tag and its body disagree: one says objects, the other holds bytes, or the other way round.
+    /// A tag and its body disagree: one is for objects and the other for bytes.
     #[error("a tag and its content disagree: a constructed tag holds objects, any other holds bytes")]
     Kind,
-    /// More than six objects are in one another, or six do and the innermost is constructed.
+    /// Objects are nested more than six levels deep, or the innermost of six is constructed.
     #[error("the objects are nested too deep: six levels can be encoded")]
     TooDeep,
-    /// The spelling would have more than 65,535 bytes.
+    /// The encoding would have more than 65,535 bytes.
     #[error("the objects need more than 65,535 bytes")]
     TooLarge,
 }
 
 impl Forest {
-    /// The forest of these objects, if they have a spelling; else the list again, and the first of the three reasons
-    /// that holds.
+    /// Returns these objects as a forest if they have an encoding. Otherwise hands the list back with the first reason
+    /// that applies.
     pub fn checked(objects: Vec<Tlv>) -> Result<Forest, (Vec<Tlv>, BadForest)>
         ensures value { IfOk result (λ f. f ≡ objects_of objects.items) }
         ensures exact { IsOk result ↔ HasSpelling (objects_of objects.items) }
@@ -78,7 +78,7 @@ impl Forest {
         }
     }
 
-    /// The forest of objects that have a spelling.
+    /// Makes a forest of objects that have an encoding.
     pub(crate) fn of(objects: Vec<Tlv>) -> Forest
         requires { HasSpelling (objects_of objects.items) }
         ensures { result ≡ objects_of objects.items }
@@ -86,7 +86,7 @@ impl Forest {
         Forest { objects }
     }
 
-    /// Its objects, in order.
+    /// Returns the objects in order.
     pub fn objects(&self) -> &[Tlv]
         ensures list { objects_of result.now ≡ self.now }
         ensures spelled { HasSpelling self.now }

@@ -52,7 +52,7 @@ impl<'a> Model for ForestView<'a> {
 }
 
 impl<'a> ForestView<'a> {
-    /// The view of bytes that spell objects, each length in any form that holds it.
+    /// Returns a view of bytes that encode objects, with lengths in any form.
     pub fn of(bytes: &'a [u8]) -> ForestView<'a>
         requires { ForestBytes bytes.now }
         ensures { (f : Objects) → Spells padded 1 f bytes.now → result ≡ f }
@@ -88,7 +88,7 @@ impl<'a> Iterator for ForestView<'a> {
     }
 }
 
-/// The size of the tag that comes first.
+/// Returns the size of the first tag.
 fn tag_size(bytes: &[u8]) -> usize
     requires { ∥ TagFirst bytes.now ∥₁ }
     ensures value { (tag after : List ℕ) → bytes.now ≡ tag ++ after → IsTag tag → result ≡ length tag }
@@ -115,7 +115,7 @@ pub fn length_first(bytes: &[u8]) -> (usize, usize)
     }
 }
 
-/// The tag and the content of the object that comes first, and what is after it.
+/// Returns the tag and the content of the first object, and the bytes after it.
 fn first_object(bytes: &[u8]) -> (&[u8], &[u8], &[u8])
     requires { ∥ ObjectFirst bytes.now ∥₁ }
     ensures { (tag size content after : List ℕ) → Starts tag size content after bytes.now → (result.0.now ≡ tag)

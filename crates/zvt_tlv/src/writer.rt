@@ -12,7 +12,7 @@ use crate::sizes::{objects_size, size};
 use crate::tags::Tag;
 use crate::trees::{Body, Forest, Tlv};
 
-/// Writes the forest's spelling, in `size` bytes.
+/// Writes the forest's encoding. It takes `size` bytes.
 pub fn write_into(forest: &Forest, out: &mut [u8]) -> usize
     requires { size_of forest.now ≤ length out.old }
     ensures { Writes (Spells shortest 1 forest.now) out.old out.new result }
@@ -38,7 +38,7 @@ fn put(out: &mut [u8], bytes: &[u8]) -> usize
     bytes.len()
 }
 
-/// Writes the shortest length of a content of that many bytes.
+/// Writes the shortest length for content of this size.
 fn put_length(out: &mut [u8], content: usize) -> usize
     requires small { content < 2 ^ 16 }
     requires room { length_size content ≤ length out.old }

@@ -22,7 +22,7 @@ pub enum Scope {
 /// Why a listener could not hear.
 #[derive(Clone, Copy, Debug, Drop, PartialEq, Eq)]
 pub enum ListenerError {
-    /// Memory was refused.
+    /// An allocation failed.
     Memory,
     /// A write to the device failed.
     Write,

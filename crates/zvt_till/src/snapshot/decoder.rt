@@ -27,7 +27,7 @@ pub enum LoadError {
     /// They are not what a till is saved in: cut, altered, of another version, or of a book that no till has.
     #[error("these bytes are not a saved till: they are cut off, altered or of an unknown version")]
     Damaged,
-    /// Memory was refused.
+    /// An allocation failed.
     #[error("out of memory")]
     Memory,
 }

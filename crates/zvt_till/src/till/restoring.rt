@@ -17,7 +17,7 @@ use zvt_bcd::Amount;
 pub enum RestoreError {
     /// There are more than `MAX_BOOK_ENTRIES` of a kind, or a trace number appears twice in the book.
     Impossible,
-    /// Memory was refused.
+    /// An allocation failed.
     Memory,
 }
 
