@@ -43,7 +43,7 @@ pub enum Message {
         status: u8,
         payload: Vec<u8>,
     },
-    /// 06 D1: a line to print.
+    /// 06 D1: a print line.
     PrintLine {
         attribute: u8,
         text: Vec<u8>,

@@ -60,7 +60,7 @@ pub struct ZvtState {
     pub registered: u32,
     /// The order that runs: 0 none, 1 register, 2 pay, 3 reverse, 4 close the day.
     pub running: u32,
-    /// How the order that ended last ended.
+    /// Returns how the last order ended.
     pub last: ZvtOutcome,
 }
 

@@ -84,7 +84,7 @@ pub extern "C" fn zvt_till_connected(alloc: Global, till: &mut ZvtTill) -> u32
     0
 }
 
-/// The connection was lost, and with it a running order.
+/// Notifies the till that the connection was lost. A running order ends with it.
 #[unsafe(no_mangle)]
 pub extern "C" fn zvt_till_lost(alloc: Global, till: &mut ZvtTill, answer: &mut ZvtStep) -> u32
     ensures state { state_of till.new ≡ option_map (λ state. step state Happening.Lost) (state_of till.old) }

@@ -52,7 +52,7 @@ pub enum Report {
         number: u16,
         currency: Option<Currency>,
     },
-    /// 04 0F: what the result code (BMP 27) says.
+    /// 04 0F: a result code (BMP 27).
     Result(u8),
     /// 04 0F: the approval numbered `original` (BMP 37) was taken back, and that is stored under the number.
     TakenBack {
@@ -61,11 +61,11 @@ pub enum Report {
         original: u16,
         currency: Option<Currency>,
     },
-    /// 06 D1: a line to print.
+    /// 06 D1: a print line.
     Line(Line),
     /// 06 0F: the order is done.
     Done,
-    /// 06 1E and the code: the order was given up.
+    /// 06 1E and a code: the order is aborted.
     Aborted(u8),
 }
 

@@ -1,4 +1,4 @@
-//! The terminal on a line, as a machine.
+//! The terminal as a machine on a line.
 ghost use Rattle.std.specs.Prelude.{◌≡◌, true, false};
 
 use crate::terminal::{Input, Terminal};
@@ -7,7 +7,7 @@ use std::alloc::{AllocError, Global};
 use zvt_apdu::ApduView;
 use zvt_stream::{Answers, Machine};
 
-/// A terminal with its verdict on the next authorisations. It serves its line as long as that lasts, and never rests.
+/// A terminal with its verdict on the next authorisations. It serves its line for as long as the line lasts.
 #[derive(Drop)]
 pub struct Served {
     pub terminal: Terminal,
@@ -15,7 +15,7 @@ pub struct Served {
 }
 
 impl Served {
-    /// Decides what the next authorisations come to.
+    /// Sets the verdict on the next authorisations.
     pub fn decide(&mut self, verdict: Verdict)
         ensures terminal { self.new.terminal ≡ self.old.terminal }
         ensures verdict { self.new.verdict ≡ verdict }

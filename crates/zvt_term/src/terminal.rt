@@ -15,7 +15,7 @@ use zvt_bcd::{Amount, Currency};
 use zvt_stream::Answers;
 use zvt_till::CurrencyFact;
 
-/// The rows that the ledger can have at most, since a row's number has four digits.
+/// The largest number of rows in the ledger, since a row's number has four digits.
 pub const MAX_LEDGER_ROWS: usize = 9_999;
 
 /// The code of an order that the terminal does not take now.
@@ -38,20 +38,20 @@ const SYSTEM_ERROR: u8 = 0xFF;
 pub enum Input<'a> {
     /// A message of the till.
     Message(&'a Apdu),
-    /// A message of the till, by a view of its bytes.
+    /// A message of the till, as a view of its bytes.
     View(&'a ApduView<'a>),
     /// The connection was lost.
     Lost,
-    /// What came on the line was no message, and the line is given up.
+    /// The bytes were no message, and the line is given up.
     Malformed,
 }
 
-/// A terminal that accepts the orders of one till, and keeps a ledger of its approvals.
+/// A terminal that accepts the orders of one till and keeps a ledger of its approvals.
 #[derive(Drop)]
 pub struct Terminal {
     tid: u32,
     registered: bool,
-    /// The currency that the last registration named, if it named one.
+    /// The currency that the last registration named, if any.
     currency: Option<Currency>,
     phase: Phase,
     ledger: Vec<Row>,
@@ -77,7 +77,7 @@ impl Terminal {
     ghost use Rattle.zvt_term.specs.Inside.{IsSound};
     ghost use Rattle.zvt_term.specs.Steps.{HearsAsked, IsNext, Steps, row_added};
 
-    /// A terminal of this number, idle, with nobody registered and an empty ledger.
+    /// Creates an idle terminal with this number and an empty ledger, at which no till is registered.
     pub fn new(alloc: Global, tid: u32) -> Terminal
         requires { tid ≤ 99999999 }
         ensures { result ≡ new_terminal tid }

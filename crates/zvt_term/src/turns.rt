@@ -16,13 +16,13 @@ pub enum Verdict {
 pub enum Phase {
     /// No order runs.
     Idle,
-    /// It prints this next, and is done after that.
+    /// It prints this line next, and then completes the order.
     Printing(Line),
-    /// It says next that it is done.
+    /// It sends the completion next.
     Completing,
-    /// It says next that it gave up, with this code.
+    /// It sends an abort with this code next.
     Aborting(u8),
-    /// All is said, and the next answer ends the order.
+    /// It has sent everything, and the next answer ends the order.
     Ending,
 }
 
@@ -30,10 +30,10 @@ pub enum Phase {
 #[derive(Clone, Copy)]
 pub(crate) struct Turn {
     pub registered: bool,
-    /// The currency that it keeps.
+    /// The currency that it stores.
     pub currency: Option<Currency>,
     pub phase: Phase,
-    /// The row that it writes down.
+    /// The row that it adds to the ledger.
     pub row: Option<Row>,
     pub reply: Response,
 }

@@ -101,7 +101,7 @@ impl World {
         }
     }
 
-    /// Gives the till an order. One that it refuses does nothing.
+    /// Gives the till an order. A refused order does nothing.
     fn order(&mut self, alloc: Global, order: &Order) -> Result<(), AllocError>
         ensures { OnOk result (ends_of self.new ≡ orders (ends_of self.old) order.now
             (refusal (facts_of self.old.till.state) order.now)) }

@@ -1,4 +1,4 @@
-//! The messages of the terminal, written without memory.
+//! The messages of the terminal, encoded without allocating.
 ghost use Rattle.std.specs.Prelude.{◌≡◌, ◌+◌, ◌++◌, [], ◌∷◌, ◌<◌, ◌≤◌, ◌^◌, length, codes, IfOk};
 ghost use Rattle.std.specs.Fmt.{decimal};
 ghost use Rattle.zvt_apdu.specs.Message.{print_line};

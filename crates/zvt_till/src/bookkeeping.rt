@@ -24,9 +24,9 @@ use zvt_field::FieldsView;
 #[derive(Drop)]
 pub struct Bookkeeping {
     found: Books,
-    /// The payment that has no end so far.
+    /// The payment that has not ended yet.
     running: Option<OpenPayment>,
-    /// The currency in force, if one is.
+    /// The currency in force, if any.
     currency: Option<Currency>,
 }
 
@@ -93,7 +93,7 @@ impl Bookkeeping {
         }
     }
 
-    /// Notes what the fields of a status say of the payment that runs.
+    /// Records what the fields of a status say about the running payment.
     #[inline(never)]
     fn note(&mut self, fields: &FieldsView<'_>)
         ensures { (log : List Happening) → HasJudged log self.old
@@ -104,7 +104,7 @@ impl Bookkeeping {
         }
     }
 
-    /// The terminal completes what runs.
+    /// The terminal completes the running order.
     #[inline(never)]
     fn complete(&mut self) -> Result<(), AllocError>
         ensures { OnOk result ((log : List Happening) → HasJudged log self.old
@@ -122,7 +122,7 @@ impl Bookkeeping {
         self.take(&Happening::Heard(heard_view(apdu)))
     }
 
-    /// How many payments were completed.
+    /// Returns the number of completed payments.
     #[inline(always)]
     pub fn booked_count(&self) -> usize
         ensures { result ≡ length self.now.books.booked }
@@ -138,7 +138,7 @@ impl Bookkeeping {
         self.found.unclear.len()
     }
 
-    /// The log ends: a payment without an end is unfinished.
+    /// Ends the log. A payment that has not ended is unfinished.
     pub fn close(self) -> Result<Books, AllocError>
         ensures { IfOk result (λ found. (log : List Happening) → HasJudged log self → books_value found ≡ books log) }
     {

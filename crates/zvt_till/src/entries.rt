@@ -8,7 +8,7 @@ use zvt_bcd::{Amount, Trace};
 /// The result code by which a terminal says that it took a payment back before.
 const ALREADY_REVERSED: u8 = 0xB4;
 
-/// What is in doubt about the reversal of a payment.
+/// What is doubtful about the reversal of a payment.
 #[derive(Clone, Copy, Debug, PartialEq, Eq)]
 pub enum Doubt {
     /// Nothing.
@@ -23,19 +23,19 @@ pub enum Doubt {
 #[derive(Clone, Copy, Debug, PartialEq, Eq)]
 pub struct Entry {
     pub amount: Amount,
-    /// The number under which the terminal keeps it, which no other entry has.
+    /// The terminal's number for it. No other entry has this number.
     pub trace: Trace,
     /// The receipt number that the first status named, which a reversal needs.
     pub receipt: Option<[u8; 2]>,
     /// Whether a completed reversal took it back.
     pub reversed: bool,
-    /// What is in doubt about its reversal.
+    /// What is doubtful about its reversal.
     pub doubt: Doubt,
 }
 
 impl Entry {
-    /// Writes down how a reversal of the payment ended. A decline, and a refusal or an abort with another code than B4,
-    /// leaves the entry as it was.
+    /// Records how a reversal of the payment ended. The entry does not change after a decline, or after a refusal or an
+    /// abort with a code other than B4.
     pub(crate) fn end_reversal(&mut self, outcome: &Outcome)
         ensures { self.new ≡ entry_after self.old outcome.now }
     {

@@ -27,17 +27,17 @@ use zvt_stream::{FedView, FeedError, Stream};
 /// An event in a run of a till.
 #[derive(Drop)]
 pub enum Event {
-    /// The line is up. Where it was down, it is a new line.
+    /// The line is up. If it was down, this is a new line.
     Connected,
-    /// The till is asked for this.
+    /// The till is given this order.
     Order(Order),
-    /// These bytes came on the line: any part of it, cut anywhere.
+    /// These bytes arrived on the line, cut anywhere.
     Piece(Vec<u8>),
     /// The connection was lost.
     Lost,
 }
 
-/// A run: what happened, the till after it, and all bytes that the till sent.
+/// The result of a run: the log, the till after it, and all bytes that the till sent.
 #[derive(Drop)]
 pub struct Run {
     pub log: Vec<Happening>,
@@ -139,7 +139,7 @@ impl Run {
         Ok(())
     }
 
-    /// One message of a line that is up.
+    /// A message on a line that is up.
     fn heard(&mut self, heard: &Heard) -> Result<(), AllocError>
         requires tied { IsTied self.old.log.items self.old.till.state self.old.sent.items }
         requires up { line_up self.old.log.items ≡ true }
@@ -154,7 +154,7 @@ impl Run {
         Ok(())
     }
 
-    /// What came on a line that is up is no message.
+    /// Bytes that are no message on a line that is up.
     fn malformed(&mut self) -> Result<(), AllocError>
         requires tied { IsTied self.old.log.items self.old.till.state self.old.sent.items }
         requires up { line_up self.old.log.items ≡ true }

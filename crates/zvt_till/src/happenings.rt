@@ -10,13 +10,13 @@ use zvt_bcd::{Amount, Currency};
 /// An order as it went out.
 #[derive(Clone, Copy, Debug, PartialEq, Eq)]
 pub enum Sent {
-    /// A registration, under the currency that it names, if it names one.
+    /// A registration with the currency that it names, if any.
     Register(Option<Currency>),
     Pay(Amount),
     Reverse(usize),
     CloseDay,
     Cancel,
-    /// An order that no till of this crate sends, as a trace of another maker's till may have it.
+    /// An order that the till of this crate never sends. A trace of another till may contain it.
     Foreign,
 }
 
@@ -26,7 +26,7 @@ pub enum Happening {
     Connected,
     Sent(Sent),
     Heard(Heard),
-    /// What came is no message, and the line is given up.
+    /// The bytes were no message, and the line is given up.
     Malformed,
     Lost,
 }
@@ -57,7 +57,7 @@ pub fn force_after(force: Option<Currency>, happening: &Happening) -> Option<Cur
     }
 }
 
-/// Whether this is a positive answer.
+/// Returns whether this is a positive answer.
 #[inline(always)]
 pub fn is_positive(happening: &Happening) -> bool
     ensures { result ≡ is_positive happening.now }

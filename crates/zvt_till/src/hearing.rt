@@ -48,7 +48,7 @@ fn not_one(count: usize) -> CurrencyFact
     }
 }
 
-/// The currency that the fields name.
+/// Returns the currency that the fields name.
 pub fn currency_in(fields: &Fields) -> CurrencyFact
     ensures { result ≡ currency_in fields.now }
 {
@@ -120,7 +120,7 @@ fn currency_named(single: &Single) -> CurrencyFact
     }
 }
 
-/// The currency that the fields of a view name.
+/// Returns the currency that the fields of a view name.
 pub fn currency_shown(fields: &FieldsView<'_>) -> CurrencyFact
     ensures { result ≡ currency_in fields.now }
 {

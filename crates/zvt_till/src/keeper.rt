@@ -1,4 +1,4 @@
-//! A till that orders are run with: alone, or with a book.
+//! The till that runs orders: a till alone, or one with a book.
 ghost use Rattle.std.specs.Prelude.{◌≡◌, Bool, Result, false};
 ghost use Rattle.zvt_till.specs.Keeping.{Follows};
 ghost use Rattle.zvt_till.specs.View.{TillValue};
@@ -12,59 +12,59 @@ use crate::till::Till;
 use std::alloc::Global;
 use zvt_stream::Machine;
 
-/// Why the book of a till could not be kept.
+/// Why a record could not be added to the book.
 #[derive(Clone, Copy, Debug, PartialEq, Eq)]
 pub enum BookFault {
-    /// There is no room for the records of the order. Nothing was written or sent, and the till is as it was.
+    /// The disk has no room for the records of the order. Nothing was written or sent, and the till is unchanged.
     NoSpace,
-    /// The book could not be written. The till has lost its line, and nothing more is to be sent.
+    /// The book could not be written. The till has lost its line, and nothing more may be sent.
     Failed,
 }
 
-/// Why an order was not taken, so that nothing is to be sent.
+/// Why an order was not accepted. Nothing may be sent.
 #[derive(Clone, Copy, Debug, PartialEq, Eq)]
 pub enum Untaken {
     /// The till refused it. Nothing changed.
     Order(OrderRefusal),
-    /// The till would have taken it, but its book could not be kept.
+    /// The till would have accepted it, but its record could not be added to the book.
     Book(BookFault),
 }
 
-/// A till that orders are run with: alone, or with a book that keeps what happens before anything follows from it.
+/// The till that runs orders: a till alone, or one with a book that records each event before anything follows from it.
 pub trait Keeper: Machine {
-    /// The till, as contracts see it.
+    /// The till in contracts.
     ghost till: { Self → TillValue };
 
     /// Whether the book failed.
     ghost failed: { Self → Bool };
 
-    /// An order was taken with this message, or was not taken.
+    /// An order was accepted with this message, or was not accepted.
     ghost orders: { Self → Order → Result Outgoing Untaken → Self → Type 0 };
 
-    /// A line is up, or the book could not be kept.
+    /// A line is up, or its record could not be added to the book.
     ghost connects: { Self → Result Unit BookFault → Self → Type 0 };
 
-    /// Returns the till, to look at.
+    /// Returns the till.
     fn look(&self) -> &Till
         ensures { result.now ≡ till self.now };
 
-    /// Whether the book failed. The till's line is down then, and stays so.
+    /// Returns whether the book failed. The till's line is then down for good.
     fn has_failed(&self) -> bool
         ensures { result ≡ failed self.now };
 
-    /// Starts an order and returns the message to send. A book has the order's record by then.
+    /// Starts an order and returns the message to send. By then a book contains the order's record.
     fn order(&mut self, alloc: Global, order: Order) -> Result<Outgoing, Untaken>
         ensures { orders self.old order result self.new };
 
-    /// Notes that a line is up. A book has a record by then that an earlier line was lost. Nothing changes where the
-    /// line is up.
+    /// Notifies the till that a line is up. By then a book contains the record that an earlier line was lost. Nothing
+    /// changes if the line was up.
     fn connect(&mut self, alloc: Global) -> Result<(), BookFault>
         ensures { connects self.old result self.new };
 
-    /// What happens to a keeper happens to its till.
+    /// Whatever happens to the keeper happens to its till.
     ghost follows: { Follows orders Self.hears Self.loses Self.malforms Self.is_resting till failed };
 
-    /// A hearing never wants memory: a record that cannot be allocated is a book that failed.
+    /// Hearing a message never fails for lack of memory: a record that cannot be allocated makes the book fail.
     ghost frugal: { Self.wants_memory ≡ false };
 }
 

@@ -1,4 +1,4 @@
-//! Laws of every till and every log. Each is the contract of an empty function.
+//! Laws of every till and every log, each stated as the contract of an empty function.
 ghost use Rattle.zvt_till.specs.Log.{StepsMeetLog};
 ghost use Rattle.zvt_till.specs.TillHistory.{RunsAreLogged, FaultsAreLogged, UnsentAreLogged, OrdersAreLogged};
 ghost use Rattle.zvt_till.specs.Cuttings.{LogsAreOne, CuttingsAgree};
@@ -36,13 +36,13 @@ pub fn entries_stay()
     ensures { EntriesStay }
 {}
 
-/// Events have one log.
+/// Events have exactly one log.
 pub fn logs_are_one()
     ensures { LogsAreOne }
 {}
 
-/// However the bytes of a line are cut into pieces, the log is the same: two pieces are as good as one of all their
-/// bytes.
+/// However the bytes of a line are cut into pieces, the log is the same: two pieces give the log of one piece with all
+/// their bytes.
 pub fn cuttings_agree()
     ensures { CuttingsAgree }
 {}
@@ -53,7 +53,7 @@ pub fn runs_are_logged()
     ensures { RunsAreLogged }
 {}
 
-/// An order whose line broke adds itself, messages of a prefix of the bytes that were read, and the report of the
+/// An order whose line broke extends the log by the order, by messages from a prefix of the bytes read, and by the
 /// fault.
 pub fn faults_are_logged()
     ensures { FaultsAreLogged }
@@ -64,8 +64,8 @@ pub fn unsent_are_logged()
     ensures { UnsentAreLogged }
 {}
 
-/// However its orders went, a till that takes them one after another has the book of a log that goes on from its own,
-/// and the orders of that log are those that were not refused.
+/// However its orders end, a till that runs them one after another has the book of a log that continues its own, and
+/// the orders of that log are those that were not refused.
 pub fn orders_are_logged()
     ensures { OrdersAreLogged }
 {}

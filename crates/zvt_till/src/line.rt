@@ -53,17 +53,17 @@ impl Machine for Till {
     }
 }
 
-/// Why an order did not come to its end.
+/// Why an order did not run to its end.
 #[derive(Clone, Copy, Debug, PartialEq, Eq)]
 pub enum RunFault {
-    /// It was refused. Nothing was sent or read, and the till is as it was.
+    /// The till refused it. Nothing was sent or read, and the till is unchanged.
     Order(OrderRefusal),
-    /// The line broke, which was reported to the till. The till's last outcome is what became of the order. The line is
-    /// given up: a new one has a new stream.
+    /// The line broke, and the till was notified. The till's last outcome tells how the order ended. Give the line up:
+    /// a new one needs a new stream.
     Line(LineFault),
-    /// The till's book could not be kept. After `NoSpace` nothing was sent or read, and the till is as it was. After
-    /// `Failed` nothing was sent from then on, the till has lost its line, and its last outcome is what became of the
-    /// order. A till alone never answers it.
+    /// A record could not be added to the book. After `NoSpace` nothing was sent or read, and the till is unchanged.
+    /// After `Failed` nothing more was sent, the till has lost its line, and its last outcome tells how the order
+    /// ended. A till alone never returns this.
     Book(BookFault),
 }
 
@@ -80,8 +80,8 @@ impl From<Untaken> for RunFault {
     }
 }
 
-/// Gives the till an order and sends its message. Sends nothing if the order is not taken. If the write fails, the till
-/// loses its line and the fault is `Write`.
+/// Gives the till an order and sends its message. Sends nothing if the order is not accepted. If the write fails, the
+/// till loses its line and the fault is `Write`.
 pub fn send_order<W: Sink, K: Keeper>(
     alloc: Global,
     writer: &mut W,

@@ -16,11 +16,11 @@ use crate::used_traces::UsedTraces;
 use std::alloc::{AllocError, Global};
 use zvt_bcd::{Amount, Currency, Trace};
 
-/// A payment that was completed, as a log has it.
+/// A completed payment of a log.
 #[derive(Clone, Copy, Debug, PartialEq, Eq)]
 pub struct Booked {
     pub amount: Amount,
-    /// The number under which the terminal keeps it, which no other row has.
+    /// The terminal's number for it. No other row has this number.
     pub trace: Trace,
     /// The receipt number that the first status named.
     pub receipt: Option<[u8; 2]>,
@@ -33,11 +33,11 @@ pub struct Books {
     pub booked: Vec<Booked>,
     /// The unclear payments, in the order of their orders.
     pub unclear: Vec<(Amount, Cause)>,
-    /// The trace numbers of the payments that were completed.
+    /// The trace numbers of the completed payments.
     pub(crate) used: UsedTraces,
 }
 
-/// A payment without an end so far: whether a positive answer came, and what its statuses say.
+/// A payment that has not ended: whether it had a positive answer, and what its statuses say.
 #[derive(Clone, Copy)]
 pub struct OpenPayment {
     pub amount: Amount,
@@ -76,7 +76,7 @@ fn opened(currency: Option<Currency>, order: &Sent) -> Option<OpenPayment>
 }
 
 impl OpenPayment {
-    /// Notes what one more status says.
+    /// Records what one more status says.
     #[inline(always)]
     pub(crate) fn note(&mut self, status: &StatusFacts)
         ensures amount { self.new.amount ≡ self.old.amount }
@@ -92,7 +92,7 @@ impl OpenPayment {
         self.statuses = note(&Some(Demand::Payment(charge)), self.statuses, status);
     }
 
-    /// Listens to something that does not end it.
+    /// Processes an event that does not end it.
     #[inline(always)]
     fn listen(&mut self, happening: &Happening)
         ensures amount { self.new.amount ≡ self.old.amount }
@@ -110,7 +110,7 @@ impl OpenPayment {
 }
 
 impl Books {
-    /// No rows.
+    /// Creates books without rows.
     pub(crate) fn new(alloc: Global) -> Books
         ensures none { books_value result ≡ books [] }
         ensures traces { KnowsTraces result }
@@ -122,7 +122,7 @@ impl Books {
         }
     }
 
-    /// Writes down what a payment of this amount came to.
+    /// Records how a payment of this amount ended.
     fn write(&mut self, amount: Amount, outcome: &Outcome) -> Result<(), AllocError>
         requires { KnowsTraces self.old }
         ensures written { OnOk result (books_value self.new ≡ written (books_value self.old) amount outcome.now) }
@@ -144,7 +144,7 @@ impl Books {
         Ok(())
     }
 
-    /// Nothing more comes to the payment that runs: without an end it is unfinished.
+    /// Ends the running payment as unfinished.
     pub(crate) fn close(&mut self, running: &Option<OpenPayment>) -> Result<(), AllocError>
         requires { KnowsTraces self.old }
         ensures closed { OnOk result ((log : List Happening) → IsJudged log (books_value self.old) running.now
@@ -157,7 +157,7 @@ impl Books {
         Ok(())
     }
 
-    /// Takes what happened next, under the currency in force before it.
+    /// Processes the next event under the currency in force before it.
     #[inline(always)]
     pub(crate) fn take(
         &mut self,

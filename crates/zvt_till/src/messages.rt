@@ -22,14 +22,14 @@ impl Original {
     ghost use Rattle.std.specs.Prelude.{◌≡◌};
     ghost use Rattle.zvt_till.specs.Statuses.{is_absent, names};
 
-    /// Whether no payment is named.
+    /// Returns whether no payment is named.
     pub fn is_absent(&self) -> bool
         ensures { result ≡ is_absent self.now }
     {
         matches!(self, Original::Absent)
     }
 
-    /// Whether the payment with this trace number is named, and none else.
+    /// Returns whether exactly the payment with this trace number is named.
     pub fn names(&self, trace: Trace) -> bool
         ensures { result ≡ names self.now trace }
     {

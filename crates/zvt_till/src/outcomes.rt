@@ -36,14 +36,14 @@ pub enum Cause {
     Malformed,
     /// It has no end yet. Never in a till.
     Unfinished,
-    /// A status names a currency other than that in force, or more than one.
+    /// A status names a currency other than the one in force, or more than one.
     WrongCurrency,
 }
 
 impl Cause {
     ghost use Rattle.zvt_till.specs.Names.{cause_name, cause_words};
 
-    /// The name of the cause, as it is written in every output.
+    /// Returns the name of the cause as every output writes it.
     pub fn name(self) -> &'static str
         ensures { result.now ≡ cause_name self }
     {
@@ -61,7 +61,7 @@ impl Cause {
         }
     }
 
-    /// Says in words why the order is unclear.
+    /// Returns a sentence that explains why the order is unclear.
     pub fn words(self) -> &'static str
         ensures { result.now ≡ cause_words self }
     {
@@ -102,18 +102,18 @@ impl fmt::Display for Cause {
 #[derive(Clone, Copy, Debug, PartialEq, Eq)]
 pub enum Outcome {
     Registered,
-    /// Booked, under this trace number and with the first status's receipt number.
+    /// Booked under this trace number, with the receipt number of the first status.
     Paid {
         trace: Trace,
         receipt: Option<[u8; 2]>,
     },
     /// The terminal completed the order, but every status declined it. Contains the result code of the first one.
     Declined(u8),
-    /// Not taken up, with this code.
+    /// The terminal refused it with this code.
     Refused(u8),
     /// The terminal aborted the order with this code, and every status before that, if any, was a decline.
     Aborted(u8),
-    /// It may have happened or not. A payment is in the unclear list.
+    /// It may or may not have happened. A payment is then in the list of unclear payments.
     Unclear(Cause),
     Reversed,
     DayClosed,

@@ -9,7 +9,7 @@ pub struct TillSettings {
     pub password: [u8; 3],
     /// The configuration byte of a registration.
     pub config: u8,
-    /// The currency of the till's registrations and payments.
+    /// The currency of its registrations and payments.
     pub currency: Currency,
 }
 

@@ -16,7 +16,7 @@ use zvt_bcd::{Amount, Currency, Trace};
 #[derive(Clone, Copy)]
 pub struct Charge {
     pub amount: Amount,
-    /// The currency in force, if one is.
+    /// The currency in force, if any.
     pub currency: Option<Currency>,
 }
 
@@ -24,7 +24,7 @@ impl Charge {
     ghost use Rattle.std.specs.Prelude.{◌≡◌};
     ghost use Rattle.zvt_till.specs.Statuses.{is_value};
 
-    /// Whether this is the amount that is charged.
+    /// Whether this is the charged amount.
     fn is_amount(&self, named: Option<Amount>) -> bool
         ensures { result ≡ is_value named self.now.amount }
     {
@@ -58,7 +58,7 @@ pub enum Statuses {
     Fault(Cause),
 }
 
-/// The order that runs: whether a positive answer came, and what its statuses say so far.
+/// The running order: whether it had a positive answer, and what its statuses say so far.
 #[derive(Clone, Copy)]
 pub struct Running {
     pub order: Order,
@@ -182,7 +182,7 @@ pub fn demand_of(currency: Option<Currency>, book: &[Entry], order: &Order) -> O
     }
 }
 
-/// The running order after something that does not end it.
+/// Returns the running order after an event that does not end it.
 pub fn listened(demand: &Option<Demand>, running: &Running, happening: &Happening) -> Running
     ensures { result ≡ listened demand.now running.now happening.now }
 {

@@ -19,7 +19,7 @@ use std::alloc::Global;
 use std::marker::Model;
 use zvt_bcd::{Amount, Currency};
 
-/// The rows that the book, and the list of unclear payments, can have at most.
+/// The largest number of entries in the book, and of unclear payments.
 pub const MAX_BOOK_ENTRIES: usize = 10_000;
 
 /// A till: the state of its connection, the order in progress, and its book of payments. It talks to one terminal at
@@ -37,9 +37,9 @@ pub struct Till {
     used: UsedTraces,
     unclear: Vec<(Amount, Cause)>,
     last_outcome: Option<Outcome>,
-    /// What the terminal named of the order that began last.
+    /// The numbers that the terminal named in the last order.
     numbers: Numbers,
-    /// What it named of each unclear payment.
+    /// The numbers that it named in each unclear payment.
     heard: Vec<Numbers>,
 }
 
@@ -65,8 +65,8 @@ impl Till {
     ghost use Rattle.zvt_till.specs.Numbers.{no_numbers, numbers_after, with_status_of};
     ghost use Rattle.zvt_till.specs.Segments.{status_of};
 
-    /// A till whose line is down, with an empty book. The password and the configuration byte go into a
-    /// registration as they are.
+    /// Creates a till with an empty book, whose line is down. The password and the configuration byte are sent in
+    /// registrations as they are.
     pub fn new(alloc: Global, password: [u8; 3], config: u8, currency: Currency) -> Till
         ensures state { result.state ≡ new_till (record { password = password; config = config; currency = currency }) }
         ensures numbers { result.numbers ≡ no_numbers }
@@ -88,7 +88,7 @@ impl Till {
         }
     }
 
-    /// A new till with the default settings: the password 00 00 00, the configuration byte BE and the euro.
+    /// Creates a till with the default settings: the password 00 00 00, the configuration byte BE and the euro.
     pub fn with_defaults(alloc: Global) -> Till
         ensures state { result.state ≡ new_till run_settings }
         ensures numbers { result.numbers ≡ no_numbers }
@@ -98,7 +98,7 @@ impl Till {
         Till::new(alloc, settings.password, settings.config, settings.currency)
     }
 
-    /// The line is up. Nothing changes where it was up before.
+    /// Notifies the till that the line is up. Nothing changes if it already was.
     pub fn connected(&mut self)
         ensures state { self.new.state ≡ step self.old.state Happening.Connected }
         ensures room { KeepsRoom self.old self.new }
@@ -108,21 +108,21 @@ impl Till {
         self.line_up = true;
     }
 
-    /// Whether the line is up.
+    /// Returns whether the line is up.
     pub fn line_up(&self) -> bool
         ensures { result ≡ self.now.state.line_up }
     {
         self.line_up
     }
 
-    /// The password that goes into a registration, a reversal and an end of day.
+    /// Returns the password that is sent in registrations, reversals and ends of day.
     pub fn password(&self) -> [u8; 3]
         ensures { result ≡ self.now.state.settings.password }
     {
         self.password
     }
 
-    /// The configuration byte that goes into a registration.
+    /// Returns the configuration byte that is sent in registrations.
     pub fn config(&self) -> u8
         ensures { result ≡ self.now.state.settings.config }
     {
@@ -136,7 +136,7 @@ impl Till {
         self.currency
     }
 
-    /// The payments that were booked, in the order of their completions.
+    /// Returns the booked payments in the order of their completion.
     pub fn book(&self) -> &[Entry]
         ensures rows { result.now ≡ self.now.state.book }
         ensures most { length result.now ≤ MAX_BOOK_ENTRIES }
@@ -162,7 +162,7 @@ impl Till {
         self.heard.as_slice()
     }
 
-    /// How many entries of the book have an unclear reversal: their `doubt` is `Unclear`.
+    /// Returns the number of entries with an unclear reversal, whose `doubt` is `Unclear`.
     pub fn unclear_reversals(&self) -> usize
         ensures { result ≡ length (unclear_reversals self.now.state.book) }
     {
@@ -191,7 +191,7 @@ impl Till {
         total
     }
 
-    /// The order that runs, if one does.
+    /// Returns the running order, if any.
     pub fn running(&self) -> Option<Order>
         ensures { result ≡ option_map (λ running. running.order) self.now.state.running }
     {
@@ -201,14 +201,14 @@ impl Till {
         }
     }
 
-    /// Whether the till is registered on its line.
+    /// Returns whether the till is registered on its line.
     pub fn registered(&self) -> bool
         ensures { result ≡ self.now.state.registered }
     {
         self.registered
     }
 
-    /// How the order that ended last ended.
+    /// Returns how the last order ended.
     pub fn last_outcome(&self) -> Option<Outcome>
         ensures { result ≡ self.now.state.last_outcome }
     {
@@ -222,7 +222,7 @@ impl Till {
         self.numbers
     }
 
-    /// Ends the running order, and writes down what it came to.
+    /// Ends the running order and records its outcome.
     fn finish(&mut self, order: &Order, outcome: &Outcome)
         requires ends { CanEnd order.now (length self.old.state.book) (length self.old.state.unclear) self.old.spare }
         requires books { CanBook outcome.now self.old.state.book }
@@ -241,7 +241,7 @@ impl Till {
         }
     }
 
-    /// Writes down what a payment came to that runs no more.
+    /// Records the outcome of a payment that has ended.
     fn end_payment(&mut self, amount: Amount, outcome: &Outcome)
         requires ended { self.old.state.running ≡ None }
         requires room { CanEnd (Order.Pay amount) (length self.old.state.book) (length self.old.state.unclear)
@@ -271,7 +271,7 @@ impl Till {
         }
     }
 
-    /// What the running order makes of this, and how it ended by it, if it did.
+    /// Passes the event to the running order. Returns the outcome if the order ended.
     fn meet(&mut self, happening: &Happening) -> Option<Outcome>
         ensures state { self.new.state ≡ meet self.old.state happening.now }
         ensures room { KeepsRoom self.old self.new }
@@ -315,7 +315,7 @@ impl Till {
         }
     }
 
-    /// The line is down, and nobody is registered on it.
+    /// Takes the line down and ends the registration.
     fn line_down(&mut self)
         ensures state { self.new.state ≡ line_down self.old.state }
         ensures room { self.new.spare ≡ self.old.spare }
@@ -326,7 +326,7 @@ impl Till {
         self.registered = false;
     }
 
-    /// The connection was lost, and with it a running order.
+    /// Notifies the till that the connection was lost. A running order ends with it.
     pub fn lost(&mut self) -> Option<Outcome>
         ensures state { self.new.state ≡ step self.old.state Happening.Lost }
         ensures room { KeepsRoom self.old self.new }

@@ -1,4 +1,4 @@
-//! The trace numbers that are used.
+//! The trace numbers in use.
 ghost use Rattle.std.specs.Prelude.{◌≡◌, ◌||◌, ℕ, true, false, nat_eq, OnOk, OnErr};
 
 use std::alloc::{AllocError, Global};
@@ -8,8 +8,8 @@ use zvt_bcd::Trace;
 /// The words that hold a bit for each number from 0 to 999,999.
 const WORDS: usize = 15_625;
 
-/// Which trace numbers some row has: a set that takes its 125,000 bytes at once, so that a number can be
-/// looked up and inserted in a time that does not depend on how many it has.
+/// The set of trace numbers in use. It allocates its 125,000 bytes at once, so looking a number up and inserting one
+/// take constant time.
 #[derive(Drop)]
 pub struct UsedTraces {
     /// A number is bit `number % 64` of word `number / 64`. Without capacity there are no words.
@@ -27,7 +27,7 @@ impl Model for UsedTraces {
 impl UsedTraces {
     ghost use Rattle.zvt_till.specs.UsedTraces.{has_capacity, has};
 
-    /// No numbers, and no capacity for any.
+    /// Creates an empty set without capacity.
     pub fn new(alloc: Global) -> UsedTraces
         ensures { (number : ℕ) → has result number ≡ false }
     {
@@ -36,14 +36,14 @@ impl UsedTraces {
         }
     }
 
-    /// Whether any number can be inserted without more memory.
+    /// Returns whether any number can be inserted without allocating.
     pub fn has_capacity(&self) -> bool
         ensures { result ≡ has_capacity self.now }
     {
         WORDS <= self.words.len()
     }
 
-    /// Sees to it that any number can be inserted without more memory.
+    /// Reserves memory so that any number can be inserted without allocating.
     pub fn reserve_for(&mut self) -> Result<(), AllocError>
         ensures room { OnOk result (has_capacity self.new ≡ true) }
         ensures has { OnOk result ((number : ℕ) → has self.new number ≡ has self.old number) }
@@ -56,7 +56,7 @@ impl UsedTraces {
         Ok(())
     }
 
-    /// Whether the number is used.
+    /// Returns whether the number is in use.
     pub fn contains(&self, trace: Trace) -> bool
         ensures { result ≡ has self.now trace }
     {
@@ -67,7 +67,7 @@ impl UsedTraces {
         }
     }
 
-    /// The number is used from now on.
+    /// Inserts the number.
     pub fn insert(&mut self, trace: Trace)
         requires { has_capacity self.old ≡ true }
         ensures room { has_capacity self.new ≡ true }

@@ -21,10 +21,11 @@ use std::alloc::Global;
 use thiserror::Error;
 use zvt_bcd::{Amount, Currency};
 
-/// Why no till was made of bytes.
+/// Why saved bytes could not be restored.
 #[derive(Clone, Copy, Debug, Drop, PartialEq, Eq, Error)]
 pub enum LoadError {
-    /// They are not what a till is saved in: cut, altered, of another version, or of a book that no till has.
+    /// The bytes are not a saved till: they are cut off, altered, of another version, or contain a book that no till
+    /// can have.
     #[error("these bytes are not a saved till: they are cut off, altered or of an unknown version")]
     Damaged,
     /// An allocation failed.

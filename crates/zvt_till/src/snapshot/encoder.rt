@@ -149,9 +149,9 @@ fn put_paid(bytes: &mut Vec<u8>, trace: Trace, receipt: Option<[u8; 2]>) -> Resu
 /// The parts of a till that the loss of its connection changes.
 #[derive(Clone, Copy)]
 struct Settled {
-    /// The payment that is unclear then besides those that are.
+    /// The payment that becomes unclear besides those that already are.
     left: Option<Amount>,
-    /// The place of the entry whose last reversal is unclear then.
+    /// The index of the entry whose last reversal becomes unclear.
     doubted: Option<usize>,
     /// The last outcome.
     last: Option<Outcome>,
@@ -312,8 +312,8 @@ fn put_sums(bytes: &mut Vec<u8>) -> Result<(), AllocError>
     put_number(bytes, 4, second)
 }
 
-/// The bytes of the till after its connection was lost, in this layout. The first layout says nothing of what the
-/// reversals leave open.
+/// Saves the till in this layout as it would be after losing its connection. The first layout does not record doubtful
+/// reversals.
 pub fn save_in(alloc: Global, layout: Layout, till: &Till) -> Result<Vec<u8>, AllocError>
     ensures bytes { IfOk result (λ bytes. bytes.items ≡ saved_in layout (step till.now.state Happening.Lost)) }
     ensures kept { OnOk result (IsKept (step till.now.state Happening.Lost)) }

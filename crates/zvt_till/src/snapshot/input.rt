@@ -14,7 +14,7 @@ use crate::snapshot::layouts::Layout;
 use crate::{Cause, Doubt, Entry, Outcome};
 use zvt_bcd::{Amount, Trace, is_digits, number};
 
-/// The number that these digits spell.
+/// Returns the number in these digits.
 pub fn read_number(bytes: &[u8]) -> Option<u64>
     requires { length bytes.now ≤ 9 }
     ensures value { (n : ℕ) → n < 100 ^ length bytes.now → bytes.now ≡ digits (length bytes.now) n → result ≡ Some n }
@@ -109,7 +109,7 @@ fn read_doubt(layout: Layout, bytes: &[u8]) -> Option<Doubt>
     }
 }
 
-/// The row of the book in the bytes of one.
+/// Reads a row of the book.
 pub fn read_entry(layout: Layout, row: &[u8]) -> Option<Entry>
     requires { length row.now ≡ entry_size layout }
     ensures value { (entry : Entry) → HasRowOf layout entry → row.now ≡ entry_bytes layout entry → result ≡ Some entry }
@@ -129,7 +129,7 @@ pub fn read_entry(layout: Layout, row: &[u8]) -> Option<Entry>
     })
 }
 
-/// The unclear payment in 7 bytes.
+/// Reads an unclear payment from 7 bytes.
 pub fn read_unclear(row: &[u8]) -> Option<(Amount, Cause)>
     requires { length row.now ≡ 7 }
     ensures { (pair : ℕ × Cause) → IsUnclear pair → row.now ≡ unclear_bytes pair → result ≡ Some pair }
@@ -161,7 +161,7 @@ fn outcome_of(kind: u8, code: u8, trace: Trace, receipt: Option<[u8; 2]>) -> Opt
     Some(Some(outcome))
 }
 
-/// The outcome in 8 bytes, or none.
+/// Reads an outcome, or its absence, from 8 bytes.
 pub fn read_outcome(row: &[u8]) -> Option<Option<Outcome>>
     requires { length row.now ≡ 8 }
     ensures { (outcome : Option Outcome) → IsOutcome outcome → row.now ≡ outcome_bytes outcome → result ≡ Some outcome }

@@ -2,16 +2,16 @@
 ghost use Rattle.std.specs.Prelude.{◌≡◌, ℕ, Some, slice_get};
 ghost use Rattle.zvt_till.specs.SnapshotEncoded.{entry_size, version};
 
-/// How a till lies in its bytes.
+/// The layout of a till's saved bytes.
 #[derive(Clone, Copy)]
 pub enum Layout {
-    /// A row of the book has 13 bytes, and no doubt.
+    /// A row of the book has 13 bytes, without its doubt.
     First,
-    /// A row of the book has 14 bytes, and its doubt is the last.
+    /// A row of the book has 14 bytes. The last one is its doubt.
     Second,
 }
 
-/// The byte that names the layout.
+/// Returns the byte that names the layout.
 pub fn version(layout: Layout) -> u8
     ensures { result ≡ version layout }
 {
@@ -21,7 +21,7 @@ pub fn version(layout: Layout) -> u8
     }
 }
 
-/// How many bytes a row of the book has.
+/// Returns the size of a row of the book in bytes.
 pub fn entry_size(layout: Layout) -> usize
     ensures { result ≡ entry_size layout }
 {

@@ -5,7 +5,7 @@ ghost use Rattle.zvt_till.specs.SnapshotSums.{sums_of};
 /// One more than the greatest sum that four bytes of digits hold.
 const SUMS: u64 = 100_000_000;
 
-/// The sum of the bytes, and the sum of the sums so far.
+/// Returns the sum of the bytes, and the sum of all partial sums.
 pub fn sums_of(bytes: &[u8]) -> (u64, u64)
     ensures sums { result ≡ sums_of bytes.now }
     ensures first { result.0 < SUMS }

@@ -1,4 +1,4 @@
-//! The capacity that a till has for the payments to come.
+//! A till's capacity for further payments.
 ghost use Rattle.std.specs.Prelude.{◌≡◌, ◌<◌, ◌≤◌, OnOk, OnErr};
 
 use super::{MAX_BOOK_ENTRIES, Till};

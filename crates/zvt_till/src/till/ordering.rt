@@ -1,4 +1,4 @@
-//! Which orders a till takes.
+//! Decides which orders a till accepts.
 ghost use Rattle.std.specs.Prelude.{◌≡◌, ◌≤◌, length, IfOk, IfErr, OnOk, OnErr, slice_get};
 
 use super::{MAX_BOOK_ENTRIES, Till};
@@ -15,7 +15,7 @@ impl Till {
     ghost use Rattle.zvt_till.specs.Till.{accept, facts_of};
     ghost use Rattle.zvt_till.specs.View.{IsRefusedAs, CanEnd};
 
-    /// Why a Cancel is not sent, if so.
+    /// Returns why a cancel cannot be sent, if it cannot.
     fn cancel_refusal(&self) -> Option<OrderRefusal>
         ensures { result ≡ cancel_refusal (facts_of self.now.state).awaited }
     {
@@ -25,7 +25,7 @@ impl Till {
         }
     }
 
-    /// Why there is no capacity for one more payment, if so.
+    /// Returns why there is no capacity for one more payment, if there is none.
     fn capacity_refusal(&self) -> Option<OrderRefusal>
         ensures { result ≡ capacity_refusal (facts_of self.now.state) }
     {
@@ -36,7 +36,7 @@ impl Till {
         }
     }
 
-    /// The receipt number by which this entry is taken back, or why it is not.
+    /// Returns the receipt number for reversing this entry, or why it cannot be reversed.
     fn receipt_at(&self, entry: usize) -> Result<[u8; 2], OrderRefusal>
         ensures ok { IfOk result (λ receipt. (row_refusal (slice_get self.now.state.book entry) ≡ None)
             × (receipt_at (slice_get self.now.state.book entry) ≡ Some receipt)) }
@@ -52,7 +52,7 @@ impl Till {
         }
     }
 
-    /// Why the order is not sent, by the line and the running order alone.
+    /// Returns why the line or the running order prevents this order, if they do.
     fn line_refusal(&self, order: &Order) -> Option<OrderRefusal>
         ensures { result ≡ line_refusal (facts_of self.now.state) order.now }
     {
@@ -72,7 +72,7 @@ impl Till {
         None
     }
 
-    /// The message that the order sends, or why it is not sent, out of memory left aside.
+    /// Returns the message that the order sends, or why it cannot be sent. It does not look at memory.
     fn message_of(&self, order: &Order) -> Result<Outgoing, OrderRefusal>
         ensures ok { IfOk result (λ message. (refusal (facts_of self.now.state) order.now ≡ None)
             × (message_of self.now.state.settings self.now.state.book order.now ≡ Some message)) }
@@ -106,7 +106,7 @@ impl Till {
         Ok(Outgoing { brief })
     }
 
-    /// Starts an order that [`prepare`](Till::prepare) took: it runs, and its message is sent.
+    /// Starts an order that [`prepare`](Till::prepare) accepted. Its message has to be sent.
     pub fn begin(&mut self, order: Order)
         requires { CanEnd order (length self.old.state.book) (length self.old.state.unclear) self.old.spare }
         ensures state { self.new.state ≡ accept self.old.state order }

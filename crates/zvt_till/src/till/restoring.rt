@@ -1,4 +1,4 @@
-//! A till that goes on with rows that were written down.
+//! Restores a till from recorded rows.
 ghost use Rattle.std.specs.Prelude.{◌≡◌, length, replicate, IfOk, IfErr, OnOk};
 ghost use Rattle.zvt_till.specs.UsedTraces.{AreTracesOf};
 ghost use Rattle.zvt_till.specs.Restoring.{OnceBelow};
@@ -12,10 +12,10 @@ use crate::used_traces::UsedTraces;
 use std::alloc::Global;
 use zvt_bcd::Amount;
 
-/// Why no till has rows.
+/// Why rows cannot be restored.
 #[derive(Clone, Copy, Debug, PartialEq, Eq)]
 pub enum RestoreError {
-    /// There are more than `MAX_BOOK_ENTRIES` of a kind, or a trace number appears twice in the book.
+    /// There are more than `MAX_BOOK_ENTRIES` rows of a kind, or a trace number appears twice in the book.
     Impossible,
     /// An allocation failed.
     Memory,
@@ -45,9 +45,9 @@ impl Till {
     ghost use Rattle.zvt_till.specs.Numbers.{no_numbers};
     ghost use Rattle.zvt_till.specs.Till.{step};
 
-    /// A till with the settings of this one, whose line is down, with these payments booked and these unclear, and with
-    /// this as its last outcome; what the terminal named of its orders is not known. Err where no till has these rows,
-    /// or memory was refused.
+    /// Creates a till with the settings of this one, whose line is down, with these booked and unclear payments and
+    /// this last outcome. The numbers that the terminal named are unknown. Fails if no till can have these rows, or if
+    /// an allocation fails.
     pub fn restored(
         &self,
         alloc: Global,
@@ -87,8 +87,8 @@ impl Till {
         }
     }
 
-    /// Of every till: what the loss of its line leaves are rows that a till can have, so `restored` never finds them
-    /// impossible. It does nothing, and its contract is this law.
+    /// A law about every till: the rows after the loss of its line can be restored, so `restored` never calls them
+    /// impossible.
     pub fn can_be_restored(&self)
         ensures { CanStand (step self.now.state Happening.Lost).book (step self.now.state Happening.Lost).unclear }
     {
