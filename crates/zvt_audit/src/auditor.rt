@@ -1,4 +1,4 @@
-//! The books of the events of a trace.
+//! Derives the books from the events of a trace.
 use crate::currencies::NamedCurrency;
 use crate::ends::{Ends, can_end};
 use crate::happened::ordered;
@@ -52,7 +52,7 @@ impl Auditor {
     ghost use Rattle.zvt_trace.specs.TraceEvent.{on};
     ghost use Rattle.zvt_trace.specs.declared.direction.Direction.TheVariants.{FromTill, FromTerminal};
 
-    /// Hears a message of the till. Most acknowledge one of the terminal, and leave at once.
+    /// Hears a message of the till. Most are acknowledgements and return at once.
     #[inline(always)]
     fn hear_till(&mut self, line: u64, apdu: &ApduView<'_>) -> Result<(), AllocError>
         ensures { OnOk result (Becomes self.old (on line (trace_event.message FromTill apdu.now)) self.new) }
@@ -102,7 +102,7 @@ impl Auditor {
         self.ends.notice(&self.books, line)
     }
 
-    /// The connection is lost, and the next one is up.
+    /// The connection is lost, and a new one is up.
     #[inline(never)]
     fn lose(&mut self, line: u64) -> Result<(), AllocError>
         ensures { OnOk result (BecomesBy self.old (Lost ∷ Connected ∷ []) line self.new) }

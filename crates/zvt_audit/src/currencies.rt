@@ -1,4 +1,4 @@
-//! Which currency the till's registrations name.
+//! The currency that the till's registrations name.
 ghost use Rattle.std.specs.Prelude.{◌≡◌};
 ghost use Rattle.zvt_audit.specs.Currencies.{agreed, chosen, named_after};
 ghost use Rattle.zvt_audit.specs.declared.currencies.NamedCurrency.TheVariants.{Absent};
@@ -8,23 +8,23 @@ use zvt_bcd::Currency;
 /// The currencies of the till's registrations.
 #[derive(Clone, Copy)]
 pub(crate) enum NamedCurrency {
-    /// None names a currency.
+    /// No registration names a currency.
     Absent,
-    /// All that name a currency name this.
+    /// All registrations that name a currency name this one.
     Single(Currency),
-    /// Two name different ones.
+    /// Two registrations name different currencies.
     Mixed,
 }
 
 impl NamedCurrency {
-    /// No registration was heard.
+    /// Starts before the first registration.
     pub(crate) fn none() -> NamedCurrency
         ensures { result ≡ Absent }
     {
         NamedCurrency::Absent
     }
 
-    /// Notices a message of the till by the currency that it names, if it names one.
+    /// Records the currency that a message of the till names, if any.
     pub(crate) fn notice(&mut self, named: Option<Currency>)
         ensures { self.new ≡ named_after self.old named }
     {
@@ -33,7 +33,7 @@ impl NamedCurrency {
         }
     }
 
-    /// What it becomes by a registration that names this currency.
+    /// Returns the state after a registration that names this currency.
     fn with(&self, currency: Currency) -> NamedCurrency
         ensures { result ≡ chosen self.now currency }
     {
@@ -50,7 +50,7 @@ impl NamedCurrency {
         }
     }
 
-    /// The currency that all name which name one, where there is such a one.
+    /// Returns the currency, if all registrations that name one agree.
     pub(crate) fn agreed(&self) -> Option<Currency>
         ensures { result ≡ agreed self.now }
     {

@@ -16,7 +16,7 @@ pub(crate) struct Ends {
 }
 
 impl Ends {
-    /// No payment has ended.
+    /// Starts before any payment has ended.
     pub(crate) fn none(alloc: Global) -> Ends
         ensures { (result.booked.items ≡ []) × (result.unclear.items ≡ []) }
     {
@@ -26,7 +26,7 @@ impl Ends {
         }
     }
 
-    /// Notices what ended at this line, given the books before and after it.
+    /// Records what ended at this line, given the books after it.
     #[inline(never)]
     pub(crate) fn notice(&mut self, books: &Bookkeeping, line: u64) -> Result<(), AllocError>
         ensures { OnOk result (lines_of self.new ≡ with_ends (lines_of self.old) books.now line) }

@@ -1,4 +1,4 @@
-//! The books of a trace that comes piece by piece, as from a pipe or a file that grows.
+//! The books of a trace that arrives in pieces, as from a pipe or a growing file.
 ghost use Rattle.std.specs.Prelude.{◌≡◌, ◌<◌, ◌≤◌, ◌++◌, [], ℕ, List, length, Err, IfOk, OnOk, false, true};
 ghost use Rattle.std.specs.Io.KnownBytes.{Consumes};
 ghost use Rattle.zvt_grammar.specs.Lengths.{reading_of};
@@ -18,7 +18,7 @@ use zvt_trace::{Scope, TraceFault, Walker, read_chunk};
 /// How many bytes are read at once.
 const CHUNK: usize = 65_536;
 
-/// Writes the books of a trace, as [`audit_trace`] does, once the trace has come to its end.
+/// Writes the books of a trace at its end, as [`audit_trace`] does.
 ///
 /// The trace may have any length; a line has at most as many bytes as a trace in memory. Writes nothing if a line
 /// can't be read or is too long, or if a read or an allocation fails.
@@ -60,7 +60,7 @@ fn hear_all<R: Source>(alloc: Global, lengths: Lengths, reader: &mut R) -> Resul
     Err(TraceFault::TooLong)
 }
 
-/// An audit of a trace that comes turn by turn: at each turn it hears a chunk.
+/// An audit of a trace that arrives in chunks.
 #[derive(Drop)]
 pub struct Audit {
     auditor: Auditor,
@@ -68,7 +68,7 @@ pub struct Audit {
 }
 
 impl Audit {
-    /// An audit of a till that is connected, which has heard nothing else. Its streams take such lengths.
+    /// Starts the audit of a connected till. Its streams accept the given forms of length.
     pub fn new(alloc: Global, lengths: Lengths) -> Result<Audit, AllocError>
         ensures heard { IfOk result (λ audit. HasAudited (reading_of lengths) [] audit) }
         ensures ready { IfOk result IsAuditing }
@@ -80,7 +80,7 @@ impl Audit {
         })
     }
 
-    /// Hears all that the lines say which end in this chunk. After a fault the audit is of no use.
+    /// Processes the lines that end in this chunk. After a fault the audit must not be used again.
     pub fn feed(&mut self, chunk: &[u8]) -> Result<(), TraceFault>
         requires ready { IsAuditing self.old }
         requires few { length chunk.now ≤ limit }
@@ -91,7 +91,7 @@ impl Audit {
         self.walker.feed(&mut self.auditor, chunk)
     }
 
-    /// Writes the books of all that was heard, in this form, and what a last line without a line feed says.
+    /// Processes a last line without a line feed and writes the books in this form.
     pub fn finish<W: Sink>(
         self,
         alloc: Global,

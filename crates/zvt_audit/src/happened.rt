@@ -1,4 +1,4 @@
-//! The orders that a till gives.
+//! The orders in the messages of a till.
 ghost use Rattle.std.specs.Prelude.{◌≡◌, Some};
 ghost use Rattle.zvt_apdu.specs.Message.{authorisation};
 ghost use Rattle.zvt_audit.specs.Happened.{ordered};

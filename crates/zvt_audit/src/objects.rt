@@ -1,4 +1,4 @@
-//! The books of a trace as JSON objects, one a line.
+//! The books of a trace as JSON objects, one per line.
 ghost use Rattle.std.specs.Prelude.{◌≡◌, ◌++◌, OnOk};
 ghost use Rattle.hex.specs.Hex.{encode_upper};
 ghost use Rattle.json.specs.Print.{escape};

@@ -1,4 +1,4 @@
-//! Which sides of the line sent a till's orders.
+//! Records which sides of the line sent orders.
 ghost use Rattle.std.specs.Prelude.{◌≡◌, false, not, ◌&&◌};
 ghost use Rattle.zvt_audit.specs.Orders.{is_order, noticed};
 ghost use Rattle.zvt_trace.specs.TraceEvent as trace_event;
@@ -14,7 +14,7 @@ pub(crate) struct Orders {
 }
 
 impl Orders {
-    /// None was sent.
+    /// Starts before any order.
     pub(crate) fn none() -> Orders
         ensures { (result.till ≡ false) × (result.terminal ≡ false) }
     {
@@ -24,7 +24,7 @@ impl Orders {
         }
     }
 
-    /// Notices a message.
+    /// Records a message.
     pub(crate) fn notice(&mut self, from: Direction, apdu: &ApduView<'_>)
         ensures { self.new ≡ noticed self.old (trace_event.message from apdu.now) }
     {
@@ -42,7 +42,7 @@ impl Orders {
         }
     }
 
-    /// Whether orders came from where the terminal is said to be, and none from where the till is.
+    /// Returns whether orders came only from the side that is marked as the terminal's.
     pub(crate) fn are_swapped(&self) -> bool
         ensures { result ≡ (not self.now.till && self.now.terminal) }
     {

@@ -1,4 +1,4 @@
-//! The sum of what several files come to.
+//! The sum over several files.
 ghost use Rattle.std.specs.Prelude.{◌≡◌, ◌+◌, ◌++◌, ◌^◌, ◌<◌, OnOk};
 ghost use Rattle.zvt_audit.specs.Sums.{sum_in, sum_json, sum_text};
 
@@ -11,9 +11,9 @@ use zvt_text::Text;
 pub struct Sum {
     /// The sum of their totals, in the smallest unit of the currency.
     total: u128,
-    /// How many files were read to their end.
+    /// The number of files that were read to their end.
     audited: usize,
-    /// How many there are.
+    /// The number of files.
     files: usize,
 }
 
@@ -29,7 +29,7 @@ impl Sum {
         }
     }
 
-    /// One more file was read, which has this total.
+    /// Adds the total of one more file.
     pub fn add(&mut self, total: u128)
         ensures total { self.old.total + total < 2 ^ 128 → self.new.total ≡ self.old.total + total }
         ensures audited { self.old.audited + 1 < 2 ^ 64 → self.new.audited ≡ self.old.audited + 1 }

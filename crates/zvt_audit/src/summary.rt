@@ -27,9 +27,9 @@ pub struct AuditSummary {
     pub tally: Tally,
     /// The sum of the payments that were completed, in the smallest unit of the currency.
     pub total: u128,
-    /// How many payments it is not known of whether they happened.
+    /// The number of payments whose outcome is unknown.
     pub unclear: u64,
-    /// Orders, which a till sends, came from where the terminal is said to be, and none from where the till is.
+    /// Whether orders came only from the side that is marked as the terminal's.
     pub swapped: bool,
 }
 

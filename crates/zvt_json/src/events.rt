@@ -1,4 +1,4 @@
-//! The JSON of events that are no messages.
+//! The JSON of events other than messages.
 ghost use Rattle.std.specs.Prelude.{◌≤◌, length};
 ghost use Rattle.zvt_text.specs.Writing.{Puts};
 ghost use Rattle.zvt_json.specs.Texts.{lost_text, reason_text, refused_text, resumed_text, side_text, stopped_text};

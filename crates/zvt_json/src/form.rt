@@ -5,6 +5,6 @@
 pub enum Form {
     /// Lines of text, for people.
     Text,
-    /// A JSON object a line. The file docs/JSON.md has their members.
+    /// One JSON object per line. docs/JSON.md describes their members.
     Json,
 }

@@ -1,4 +1,4 @@
-//! The JSON line of an event, all of it or nothing.
+//! The JSON line of an event, written completely or not at all.
 ghost use Rattle.std.specs.Prelude.{◌≡◌, ◌++◌, ◌∷◌, [], ℕ, List, length, IfOk, OnErr, OnOk};
 ghost use Rattle.zvt_grammar.specs.Lengths.{reading_of};
 ghost use Rattle.zvt_grammar.specs.Reading.{shortest};

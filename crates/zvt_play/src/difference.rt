@@ -5,14 +5,14 @@ use zvt_grammar::Why;
 /// Why a step could not be played.
 #[derive(Clone, Copy, Drop, PartialEq, Eq)]
 pub enum Difference {
-    /// Another message came, which the stream lends. Before it came the first `at` bytes of the step.
+    /// Another message came, which the stream lends, after the first `at` bytes of the step.
     Other { at: usize },
-    /// So many bytes more came than the steps before await.
+    /// This many bytes came beyond those that the earlier steps await.
     Surplus { count: usize },
     /// The other side closed the connection, after `have` bytes of a message.
     Closed { have: usize },
-    /// No message begins with the bytes that came, up to and with the one at `place`, which is counted from 0 at the
-    /// first byte of the message.
+    /// No message starts with the received bytes up to and including the one at `place`, an offset from the start of
+    /// the message.
     Malformed { place: usize, why: Why },
     /// A read failed, or took longer than the device waits.
     Read,

@@ -18,7 +18,7 @@ use zvt_trace::{Direction, TraceLineError, spelled_bytes};
 /// Why a line can't be played.
 #[derive(Clone, Copy, Debug, PartialEq, Eq, Error)]
 pub enum ScriptLineError {
-    /// It is no line of a trace.
+    /// It is not a line of a trace.
     #[error("{0}")]
     Trace(TraceLineError),
     /// It begins like a mark, but is not a valid one.
@@ -27,7 +27,7 @@ pub enum ScriptLineError {
     /// It is a mark with a name that cannot be used here.
     #[error("{0}")]
     Name(NameFault),
-    /// It is a line of the other side, and no message begins with its bytes up to and with the one at `at`, which is
+    /// It is a line of the other side, and no message starts with its bytes up to and including the one at `at`,
     /// counted from 0.
     #[error("invalid at byte {at} ({why}): no message starts like this. Give a valid message or prefix, or leave the line empty after '<' or '>' to accept any message")]
     NoMessage { at: usize, why: Why },

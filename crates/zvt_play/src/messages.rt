@@ -1,4 +1,4 @@
-//! Messages that come, and what a line demands of them.
+//! Received messages, and how a line is compared with them.
 ghost use Rattle.std.specs.Prelude.{IfErr, MatchOption, OnOk};
 ghost use Rattle.zvt_play.specs.Playing.{AreApart, Differs, Fills, Hears, IsReady, Leaves, NextMessage, NoMessage};
 ghost use Rattle.zvt_play.specs.Playing.{NoMore};

@@ -16,10 +16,10 @@ pub enum NameFault {
     /// A `bind` or `same` does not come after a line of the other side.
     #[error("there is no message to look at: put this mark right after a line of the other side")]
     NoMessage,
-    /// A `bind` has a name that is bound before.
+    /// A `bind` has a name that is already bound.
     #[error("the name is bound before: take another, of n0 to n99")]
     Bound,
-    /// No `bind` before has the name.
+    /// No earlier `bind` has the name.
     #[error("the name is not bound before: write e.g. '#~ bind 87 n1' after the line whose message has the number")]
     Unbound,
     /// The name has a number of another size than the field.

@@ -70,7 +70,7 @@ pub struct Names {
 }
 
 impl Names {
-    /// No name has a number.
+    /// Starts without any name.
     pub fn new() -> Names
         ensures { result ≡ unused }
     {
@@ -80,7 +80,7 @@ impl Names {
         }
     }
 
-    /// The number of a name.
+    /// Returns the number of a name.
     pub(crate) fn named(&self, name: u8) -> Option<Number>
         ensures { result ≡ named self.now name }
     {
@@ -142,14 +142,14 @@ impl Names {
         Err(Difference::Other { at: 0 })
     }
 
-    /// The next own line is to have the number of a name.
+    /// Makes the next own line carry the number of a name.
     pub(crate) fn prepare(&mut self, name: u8)
         ensures { self.new ≡ prepared name self.old }
     {
         self.next = self.named(name);
     }
 
-    /// The number that the next own line is to have, once.
+    /// Returns the number that the next own line carries, once.
     pub(crate) fn take(&mut self) -> Option<Number>
         ensures next { result ≡ self.old.next }
         ensures left { self.new ≡ used self.old }

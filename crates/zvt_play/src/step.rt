@@ -5,7 +5,7 @@ use crate::numbers::NumberField;
 /// A step of the player: what it does for a line of a trace.
 #[derive(Drop)]
 pub enum Action {
-    /// Sends these bytes, by one write.
+    /// Sends these bytes in one write.
     Send(Vec<u8>),
     /// Hears messages that begin with these bytes. Where there are none, it hears one message, whatever it is.
     Await(Vec<u8>),

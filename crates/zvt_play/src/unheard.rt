@@ -46,7 +46,7 @@ impl Unheard {
         self.to - self.from
     }
 
-    /// Takes the first bytes away.
+    /// Removes the first bytes.
     pub(crate) fn drop_first(&mut self, count: usize)
         requires { count ≤ length (unheard_in self.old) }
         ensures { unheard_in self.new ≡ drop count (unheard_in self.old) }
@@ -54,14 +54,14 @@ impl Unheard {
         self.from += count;
     }
 
-    /// Takes all bytes away.
+    /// Removes all bytes.
     pub(crate) fn clear(&mut self)
         ensures { unheard_in self.new ≡ [] }
     {
         self.from = self.to;
     }
 
-    /// Reads once in place of what there was, and answers how many bytes came: 0 at the end.
+    /// Replaces the bytes by one read and returns their number: 0 at the end.
     pub(crate) fn refill<R: Source>(&mut self, reader: &mut R) -> Result<usize, Failed>
         ensures read { MatchResult result
             (λ count. Consumes (R.remaining reader.old) (R.remaining reader.new) (unheard_in self.new)

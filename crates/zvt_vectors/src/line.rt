@@ -16,7 +16,7 @@ use zvt_trace::{TraceLineError, spelled_bytes};
 pub(crate) enum VectorLine<'a> {
     /// Nothing.
     Comment,
-    /// A reader that is given these bytes is to answer that.
+    /// Bytes, and the answer expected from a reader.
     Vector { bytes: Vec<u8>, claim: &'a [u8] },
 }
 
