@@ -184,10 +184,15 @@ static class TillCheck {
 
         var status = new Memory();
         var texts = new StringBuilder();
-        till = Registered(new Settings { Book = Environment.GetEnvironmentVariable("ZVT_BOOK"), Heard = text => texts.Append(text) }, status);
+        var kept = new Settings { Book = Environment.GetEnvironmentVariable("ZVT_BOOK"), Heard = text => texts.Append(text) };
+        till = Registered(kept, status);
         status.Says(Ack + "04FF010A" + Approved + Done);
-        Tells("heard", () => till.Pay(1234));
+        Tells("heard", () => till.Pay(1234, default(CancellationToken), "A-1009"));
         Console.Write(texts);
+        Noted(till);
+        till.Dispose();
+        till = new Till(kept);
+        Noted(till);
         till.Dispose();
 
         var third = new Memory();
@@ -204,6 +209,8 @@ static class TillCheck {
         Console.WriteLine($"unclear [{string.Join(", ", till.Unclear)}], line closed {third.IsClosed.ToString().ToLower()}");
         till.Dispose();
     }
+
+    static void Noted(Till till) { Console.WriteLine($"noted: {till.Book[0].Reference}, {till.Book[0].At.Length}"); }
 
     /// <summary>Plays the tills, orders and pieces of a file, and says what comes of them.</summary>
     static void Play(string file) {

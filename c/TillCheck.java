@@ -174,10 +174,15 @@ public final class TillCheck {
 
         Memory status = new Memory();
         StringBuilder texts = new StringBuilder();
-        till[0] = registered(settings().book(Paths.get(System.getenv("ZVT_BOOK"))).heard(texts::append), status);
+        Zvt.Settings kept = settings().book(Paths.get(System.getenv("ZVT_BOOK"))).heard(texts::append);
+        till[0] = registered(kept, status);
         status.says(ACK + "04FF010A" + APPROVED + DONE);
-        tells("heard", () -> till[0].pay(1234));
+        tells("heard", () -> till[0].pay(1234, null, "A-1009"));
         System.out.print(texts);
+        noted(till[0]);
+        till[0].close();
+        till[0] = new Zvt.Till(kept);
+        noted(till[0]);
         till[0].close();
 
         Memory third = new Memory();
@@ -192,6 +197,11 @@ public final class TillCheck {
         tells("silent", () -> till[0].pay(1234));
         System.out.println("unclear " + till[0].unclear() + ", line closed " + third.isClosed);
         till[0].close();
+    }
+
+    private static void noted(Zvt.Till till) {
+        Zvt.Entry entry = till.book().get(0);
+        System.out.println("noted: " + entry.reference + ", " + entry.at.length());
     }
 
     private static void order(Zvt.Till till) {

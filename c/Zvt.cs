@@ -104,8 +104,14 @@ namespace Zvt {
         /// <summary>The cause of an unclear payment or reversal, otherwise null.</summary>
         public Cause? Cause { get; }
         public Doubt Doubt { get; }
+        /// <summary>When the payment was ordered, such as 2026-11-28T09:14:03Z, if the till's book has it, otherwise null.</summary>
+        public string At { get; }
+        /// <summary>The caller's reference, if the till's book has it, otherwise null.</summary>
+        public string Reference { get; }
 
-        internal Entry(Native.Entry from, bool booked) {
+        internal Entry(Native.Entry from, bool booked, IReadOnlyDictionary<string, string> note) {
+            if (note.TryGetValue("at", out var at)) At = at;
+            if (note.TryGetValue("ref", out var reference)) Reference = reference;
             Amount = (long)from.amount;
             if (booked || from.trace != 0) Trace = (int)from.trace;
             if (from.has_receipt == 1) Receipt = (int)from.receipt;
@@ -552,12 +558,38 @@ namespace Zvt {
 
         Entry[] Entries(ulong count, bool booked) {
             var entries = new Entry[count];
+            var notes = Notes(booked ? "booked" : "unclear");
             for (int place = 0; place < entries.Length; place++) {
                 Native.Entry entry;
                 Check(booked ? Native.zvt_till_entry(handle, (UIntPtr)place, out entry) : Native.zvt_till_unclear(handle, (UIntPtr)place, out entry));
-                entries[place] = new Entry(entry, booked);
+                entries[place] = new Entry(entry, booked, place < notes.Count ? notes[place] : new Dictionary<string, string>());
             }
             return entries;
+        }
+
+        /// <summary>The times and references that the book has of the payments of this kind.</summary>
+        List<Dictionary<string, string>> Notes(string kind) {
+            var notes = new List<Dictionary<string, string>>();
+            foreach (var line in NoteLines().Split('\n')) {
+                var words = line.Split(' ');
+                if (words[0] != kind) continue;
+                var note = new Dictionary<string, string>();
+                for (int at = 1; at < words.Length; at += 2) note[words[at]] = words[at + 1];
+                notes.Add(note);
+            }
+            return notes;
+        }
+
+        /// <summary>The lines of zvt_record_notes for the till's book.</summary>
+        string NoteLines() {
+            byte[] text = journal == null ? new byte[0] : journal.Records(), room = new byte[0];
+            while (text.Length > 0) {
+                Native.zvt_record_notes(handle, text, Native.Size(text), room, Native.Size(room), out var answer);
+                Check(answer.status);
+                if ((int)answer.size == room.Length) break;
+                room = new byte[answer.size];
+            }
+            return Encoding.ASCII.GetString(room);
         }
 
         /// <summary>The indices of the booked payments whose last reversal is unclear. Reverse them again.</summary>
@@ -734,6 +766,17 @@ namespace Zvt {
             Done(Native.fdatasync(file), what);
         }
 
+        /// <summary>Returns the text of the records, with those of this process.</summary>
+        public byte[] Records() {
+            var text = new MemoryStream();
+            var room = new byte[1 << 16];
+            for (long size = 1; size > 0 && text.Length < gate; text.Write(room, 0, (int)size)) {
+                var wanted = (UIntPtr)(ulong)Math.Min((long)room.Length, gate - text.Length);
+                size = Done((long)Native.pread(file, room, wanted, text.Length), "read");
+            }
+            return text.ToArray();
+        }
+
         /// <summary>Takes no record from now on.</summary>
         public void GiveUp() { failed = true; }
 
@@ -809,6 +852,8 @@ namespace Zvt {
             UIntPtr atLength, byte[] reference, UIntPtr referenceLength, [Out] byte[] room, UIntPtr length, out Answer answer);
         [DllImport(Library)] public static extern UIntPtr zvt_record_heard(byte[] bytes, UIntPtr length, [Out] byte[] room, UIntPtr roomLength, out Answer answer);
         [DllImport(Library)] public static extern void zvt_record_lost([Out] byte[] room, UIntPtr length, out Answer answer);
+        [DllImport(Library)] public static extern void zvt_record_notes(TillHandle till, byte[] text, UIntPtr length, [Out] byte[] room,
+            UIntPtr roomLength, out Answer answer);
 
         // Numbers of Linux.
         public const int O_WRONLY = 1, O_RDWR = 2, O_CREAT = 0x40, O_EXCL = 0x80, O_APPEND = 0x400, O_CLOEXEC = 0x80000;

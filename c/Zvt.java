@@ -19,8 +19,10 @@ import java.time.Instant;
 import java.time.temporal.ChronoUnit;
 import java.util.ArrayList;
 import java.util.Arrays;
+import java.util.HashMap;
 import java.util.List;
 import java.util.Locale;
+import java.util.Map;
 import java.util.function.BooleanSupplier;
 import java.util.function.Consumer;
 
@@ -159,8 +161,12 @@ public final class Zvt {
         /** The cause of an unclear payment or reversal, otherwise null. */
         public final Cause cause;
         public final Doubt doubt;
+        /** When the payment was ordered, such as 2026-11-28T09:14:03Z, and the caller's reference, each only if the till's book has it. */
+        public final String at, reference;
 
-        Entry(EntryNumbers from, boolean booked) {
+        Entry(EntryNumbers from, boolean booked, Map<String, String> note) {
+            at = note.get("at");
+            reference = note.get("ref");
             amount = from.amount;
             trace = booked || from.trace != 0 ? Integer.valueOf(from.trace) : null;
             receipt = from.has_receipt == 1 ? from.receipt : null;
@@ -692,13 +698,46 @@ public final class Zvt {
 
         private List<Entry> entries(long count, boolean booked) {
             List<Entry> entries = new ArrayList<>();
-            for (long place = 0; place < count; place++) {
+            List<Map<String, String>> notes = notes(booked ? "booked" : "unclear");
+            for (int place = 0; place < count; place++) {
                 EntryNumbers entry = new EntryNumbers();
                 NativeLong at = new NativeLong(place);
                 check(booked ? calls.zvt_till_entry(handle, at, entry) : calls.zvt_till_unclear(handle, at, entry));
-                entries.add(new Entry(entry, booked));
+                entries.add(new Entry(entry, booked, place < notes.size() ? notes.get(place) : new HashMap<>()));
             }
             return entries;
+        }
+
+        /** The times and references that the book has of the payments of this kind. */
+        private List<Map<String, String>> notes(String kind) {
+            List<Map<String, String>> notes = new ArrayList<>();
+            for (String line : noteLines().split("\n")) {
+                String[] words = line.split(" ");
+                if (!words[0].equals(kind)) {
+                    continue;
+                }
+                Map<String, String> note = new HashMap<>();
+                for (int at = 1; at < words.length; at += 2) {
+                    note.put(words[at], words[at + 1]);
+                }
+                notes.add(note);
+            }
+            return notes;
+        }
+
+        /** The lines of zvt_record_notes for the till's book. */
+        private String noteLines() {
+            byte[] text = book == null ? new byte[0] : book.records(), room = new byte[0];
+            while (text.length > 0) {
+                Answer answer = new Answer();
+                calls.zvt_record_notes(handle, text, new NativeLong(text.length), room, new NativeLong(room.length), answer);
+                check(answer.status);
+                if (answer.size == room.length) {
+                    break;
+                }
+                room = new byte[(int) answer.size];
+            }
+            return new String(room, StandardCharsets.US_ASCII);
         }
 
         /** The indices of the booked payments whose last reversal is unclear. Reverse them again. */
@@ -906,6 +945,21 @@ public final class Zvt {
             POSIX.fdatasync(file);
         }
 
+        /** Returns the text of the records, with those of this process. */
+        byte[] records() {
+            byte[] text = new byte[(int) gate];
+            for (int read = 0; read < text.length; ) {
+                byte[] room = new byte[text.length - read];
+                int size = POSIX.pread(file, room, new NativeLong(room.length), read).intValue();
+                if (size == 0) {
+                    return Arrays.copyOf(text, read);
+                }
+                System.arraycopy(room, 0, text, read, size);
+                read += size;
+            }
+            return text;
+        }
+
         void giveUp() {
             failed = true;
         }
@@ -961,6 +1015,7 @@ public final class Zvt {
             NativeLong referenceLength, byte[] room, NativeLong length, Answer answer);
         NativeLong zvt_record_heard(byte[] bytes, NativeLong length, byte[] room, NativeLong roomLength, Answer answer);
         void zvt_record_lost(byte[] room, NativeLong length, Answer answer);
+        void zvt_record_notes(Pointer till, byte[] text, NativeLong length, byte[] room, NativeLong roomLength, Answer answer);
     }
 
     // The structs of zvt.h under their names. JNA requires them to be public.

@@ -23,7 +23,7 @@ REGISTER = checked("!\n") + checked(f"# register at {AT}\n> 060006000000BE0978\n
 PAY = checked(f"# pay 1234 at {AT}\n> 06010A04000000001234490978\n")
 APPROVAL = checked(f"< {APPROVED}\n> 800000\n")
 PAYMENT = PAY + ACKNOWLEDGED + APPROVAL + COMPLETION
-BOOKED, UNCLEAR = zvt.Entry(1234, 17, 5), zvt.Entry(1234, cause=zvt.Cause.LINE)
+BOOKED, UNCLEAR = zvt.Entry(1234, 17, 5, at=AT), zvt.Entry(1234, cause=zvt.Cause.LINE, at=AT)
 
 
 class Shop:
@@ -92,6 +92,25 @@ def a_reference_is_in_the_book():
         till.pay(1234, reference='"A\\1009~')
         named = checked(f"# pay 1234 at {AT} ref \"A\\1009~\n> 06010A04000000001234490978\n")
         assert shop.reads() == OPENING + REGISTER + named + PAYMENT.removeprefix(PAY) + "\n", shop.reads()
+        assert till.book() == [BOOKED._replace(reference='"A\\1009~')], till.book()
+
+
+def each_payment_has_its_time_and_its_reference():
+    unnoted = checked("# pay 1234\n> 06010A04000000001234490978\n")
+    named = checked("# pay 1234 ref B-7\n> 06010A04000000001234490978\n")
+    both = checked(f"# pay 1234 at {AT} ref C\n> 06010A04000000001234490978\n")
+    before, booked = OPENING + REGISTER, PAYMENT.removeprefix(PAY)
+    assert is_recovered(before + named + booked, [BOOKED._replace(at=None, reference="B-7")], [])
+    text = before + unnoted + REGISTER + named + booked + both + REGISTER
+    shop, terminal = Shop(text), Terminal()
+    with shop.till_at(terminal) as till:
+        assert till.unclear() == [UNCLEAR._replace(at=None), UNCLEAR._replace(reference="C")], till.unclear()
+        assert till.book() == [BOOKED._replace(at=None, reference="B-7")], till.book()
+        # a payment of this process, whose rows come after those of the file
+        terminal.says(PAID.replace("000017", "000018"))
+        till.pay(1234, reference="D")
+        assert till.book()[1] == BOOKED._replace(trace=18, reference="D"), till.book()
+        assert len(till.unclear()) == 2
 
 
 def a_book_outlives_its_till():
@@ -315,8 +334,10 @@ def a_book_that_c_wrote_is_read():
     with open(sys.argv[2], encoding="ascii", newline="") as file:
         shop = Shop(file.read())
     with shop.till() as till:
-        assert till.book() == [zvt.Entry(1234, 1), zvt.Entry(1234, 2)] and till.journal.cut == b"", till.book()
-        assert till.unclear() == [zvt.Entry(500, cause=zvt.Cause.LINE)] * 2 and till.state().total == 2468
+        rows = [entry._replace(at=None) for entry in till.book() + till.unclear() if entry.at is not None]
+        unclear = zvt.Entry(500, cause=zvt.Cause.LINE, reference="A-1009")
+        assert rows == [zvt.Entry(1234, 1, reference="A-1009"), zvt.Entry(1234, 2, reference="A-1009"), unclear, unclear], rows
+        assert till.journal.cut == b"" and till.state().total == 2468
 
 
 def a_till_with_a_book_takes_no_save():

@@ -29,6 +29,8 @@ static void show_journal(const uint8_t *registered, size_t length) {
     again.recover(journal);
     for (const zvt_entry &entry : again.unclear())
         std::printf("unclear %" PRIu64 " for cause %u\n", entry.amount, entry.cause);
+    for (const zvt::Note &note : again.notes(journal).unclear)
+        std::printf("ordered at %s under %s\n", note.at.c_str(), note.reference.c_str());
     std::string damaged = journal;
     damaged.replace(damaged.find("# pay 1234"), 10, "# pay 1235");
     for (const std::string &text : {journal + "< 8\n", damaged}) {

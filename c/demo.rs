@@ -68,6 +68,7 @@ fn show_journal() -> Result<(), Refused> {
     journal.extend(record_order(Order::Pay(1234), &sent, &note("2026-11-28T09:14:03Z", Some("A-1009")))?);
     print!("{}", String::from_utf8_lossy(&journal));
     println!("{:?}", Till::recover(123456, 0xBE, 978, &journal).map(|mut till| till.unclear()));
+    println!("{:?}", till.notes(&journal));
     println!("{:?}", Till::recover(123456, 0xBE, 756, &journal).err());
     let damaged = String::from_utf8_lossy(&journal).replace("# pay 1234", "# pay 1235");
     println!("{:?}", Till::recover(123456, 0xBE, 978, damaged.as_bytes()).err());

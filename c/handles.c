@@ -38,6 +38,8 @@ static void closed(zvt_till *till) {
     CHECK(answer.status == ZVT_CLOSED && answer.size == 0);
     zvt_till_recover(till, (const uint8_t *)"", 0, &answer);
     CHECK(answer.status == ZVT_CLOSED);
+    zvt_record_notes(till, (const uint8_t *)"", 0, saved, sizeof saved, &answer);
+    CHECK(answer.status == ZVT_CLOSED && answer.size == 0);
     CHECK(zvt_till_load(till, ended, sizeof ended) == ZVT_REFUSED);
     zvt_till_free(till);
     CHECK(till->full == 0);

@@ -71,6 +71,19 @@ static void run(zvt_till *till, uint32_t order, uint64_t number, const uint8_t *
     }
 }
 
+/* Shows the reference of each payment in the book. Its line has the time, too: "booked at 2026-11-28T09:14:03Z ref A-1009". */
+static void show_notes(zvt_till *till, const uint8_t *text, size_t size) {
+    static char lines[1 << 16];
+    zvt_answer answer;
+    zvt_record_notes(till, text, size, (uint8_t *)lines, sizeof lines - 1, &answer);
+    if (answer.status || answer.size >= sizeof lines) exit(1);
+    lines[answer.size] = 0;
+    for (char *line = strtok(lines, "\n"); line; line = strtok(NULL, "\n")) {
+        const char *reference = strstr(line, " ref ");
+        printf("%.*s under %s\n", (int)strcspn(line, " "), line, reference ? reference + 5 : "no reference");
+    }
+}
+
 int main(int count, char **words) {
     static const uint8_t done[] = {0x80, 0, 0, 0x06, 0x0F, 0};
     static uint8_t text[1 << 20];
@@ -89,6 +102,7 @@ int main(int count, char **words) {
             printf("no book: status %u, reason %u at %" PRIu64 "\n", answer.status, answer.reason, answer.place);
             return 3;
         }
+        show_notes(&till, text, size);
     }
     zvt_till_state(&till, &state);
     printf("booked %" PRIu64 ", unclear %" PRIu64 ", total %" PRIu64 "\n", state.booked, state.unclear, state.total);

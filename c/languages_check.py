@@ -47,7 +47,8 @@ ARGUMENTS = ["password: argument: {password} is a number from 0 to 999999, and n
              "offline: refused: the line is down"]
 CLOSED = [f"closed {call}: use: the till is closed" for call in (
     "register", "pay", "reverse", "close day", "book", "unclear", "unclear reversals", "total", "registered", "last", "save", "load", "connect")]
-# What a callback is told of a registration and of a payment, whose book is kept.
+# What a callback is told of a registration and of a payment, whose book is kept; and its reference and the length of its time,
+# which the till and one that goes on from its book give.
 HEARD = """heard: paid, trace 000017, receipt 0005
 Ack
 Completion
@@ -58,7 +59,9 @@ Status
   04 amount 1234
   0B trace 000017
   87 receipt 0005
-Completion""".splitlines()
+Completion
+noted: A-1009, 20
+noted: A-1009, 20""".splitlines()
 USES = ["raises: {raised}: no paper", "after: paid, trace 000017, receipt 0005, lines 2, sent " + 4 * ACK, "goes on: day closed",
         "within: use: a callback can't give its till an order{within}", "after: paid, trace 000017, receipt 0005, booked 1",
         *HEARD, "cancels: aborted, code 6C (abort by time-out or abort key)", "sent 06B000" + ACK,

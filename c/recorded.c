@@ -137,6 +137,24 @@ int main(void) {
     if (a.status || a.size || a.place || a.reason || !is_state(&t, 1, 1, 0)) return 23;
     if (zvt_till_entry(&t, 0, &e) || e.amount != 1234 || e.trace != 17 || e.receipt != 5 || !e.reversed || e.doubt) return 24;
     if (zvt_till_unclear(&t, 0, &e) || e.amount != 999999999999 || e.cause != ZVT_LINE || e.trace != 19 || e.receipt != 7 || !e.has_receipt) return 25;
+    /* the times and references of its payments: with each allocation failing, and with a byte of room too few, before they are */
+    const char *notes = "booked\nunclear at 2026-11-28T09:14:03Z ref A-1009\n";
+    for (long fail = 0; fail < 400; fail++) {
+        room[0] = 0xEE; left = fail;
+        zvt_record_notes(&t, (const uint8_t *)journal, length, room, sizeof room, &a);
+        left = -1;
+        if (a.status == ZVT_OK) break;
+        if (a.status != ZVT_NO_MEMORY || a.size || room[0] != 0xEE) return 28;
+        wants++;
+    }
+    if (a.status || a.size != strlen(notes) || memcmp(room, notes, a.size)) return 28;
+    room[0] = 0xEE;
+    zvt_record_notes(&t, (const uint8_t *)journal, length, room, strlen(notes) - 1, &a);
+    if (a.status || a.size != strlen(notes) || room[0] != 0xEE) return 28;
+    zvt_record_notes(&t, (const uint8_t *)journal, length - 2, room, sizeof room, &a);
+    if (a.status != ZVT_REFUSED || a.reason != ZVT_WRONG_CHECK || a.size || room[0] != 0xEE) return 28;
+    zvt_record_notes(&other, (const uint8_t *)journal, length, room, sizeof room, &a);
+    if (a.status != ZVT_CLOSED || a.size || room[0] != 0xEE || !is_state(&t, 1, 1, 0)) return 29;
     /* it has the password of its settings, which no record has */
     zvt_step step; uint8_t out[ZVT_ROOM];
     if (zvt_till_order(&t, ZVT_REGISTER, 0, out, sizeof out, &step) != ZVT_OFFLINE || zvt_till_connected(&t)) return 26;

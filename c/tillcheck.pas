@@ -41,6 +41,7 @@ type
     procedure Raises(const Line: TBytes);
     procedure Orders(const Line: TBytes);
     function Cancels: Boolean;
+    procedure Noted;
     function Call(const Name: string): string;
     procedure Tells(const Name: string);
     procedure Layouts;
@@ -156,6 +157,11 @@ begin
   Result := True;
 end;
 
+procedure TCheck.Noted;
+begin
+  Say('noted: ' + Till.Book[0].Reference + ', ' + IntToStr(Length(Till.Book[0].At)));
+end;
+
 function TCheck.Call(const Name: string): string;
 var
   Settings: TZvtSettings;
@@ -170,8 +176,9 @@ begin
   else if Name = 'place' then Till.Reverse(-1)
   else if Name = 'offline' then Till.Pay(1)
   else if Name = 'goes on' then Result := Till.CloseDay.ToString
+  else if Name = 'heard' then Result := Till.Pay(1234, nil, 'A-1009').ToString
   else if Name = 'cancels' then Result := Till.Pay(1234, Cancels).ToString
-  else if (Name = 'raises') or (Name = 'within') or (Name = 'heard') or (Name = 'silent') then Result := Till.Pay(1234).ToString
+  else if (Name = 'raises') or (Name = 'within') or (Name = 'silent') then Result := Till.Pay(1234).ToString
   else TZvtTill.Create(Settings).Free;
 end;
 
@@ -254,6 +261,10 @@ begin
   Memory.Says(Ack + '04FF010A' + Approved + Done);
   Tells('heard');
   Write(Texts);
+  Noted;
+  FreeAndNil(Till);
+  Till := TZvtTill.Create(ZvtSettings(GetEnvironmentVariable('ZVT_BOOK')));
+  Noted;
 
   Registers(nil);
   Memory.Silent := True;

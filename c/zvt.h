@@ -205,6 +205,14 @@ enum { ZVT_WRONG_OPENING = 1, ZVT_WRONG_LINE, ZVT_WRONG_RECORD, ZVT_WRONG_CHECK 
  *                       damaged it */
 void zvt_till_recover(zvt_till *till, const uint8_t *text, size_t length, zvt_answer *answer);
 
+/* Writes the times and references of a journal's payments, one line for each: first those booked by the till that
+ * zvt_till_recover makes of this text, in the order of zvt_till_entry, then the unclear ones, in the order of zvt_till_unclear.
+ * Such lines are "booked at 2026-11-28T09:14:03Z ref A-1009" and "unclear"; the words after the first are those that
+ * zvt_record_order put into the record of the payment's order. The text may also be that of a journal that a till is writing at
+ * the moment: its payments come first then. The answer has the size of the lines in `size`; if the room is too small, nothing is
+ * written. The handle supplies the settings and does not change. The status is that of zvt_till_recover. */
+void zvt_record_notes(zvt_till *till, const uint8_t *text, size_t length, uint8_t *room, size_t room_length, zvt_answer *answer);
+
 /* Names of numbers, as the program `zvt` prints them (ASCII, no final zero). Each call returns the size of the name; if the
  * room is too small, nothing is written. 0: the number has no name. */
 size_t zvt_reason_name(uint32_t reason, uint8_t *room, size_t room_length);   /* ZVT_NOT_SHORTEST .. ZVT_LENGTH_DIGIT */

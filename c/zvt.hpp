@@ -3,6 +3,7 @@
 #define ZVT_HPP
 #include "zvt.h"
 #include <ctime>
+#include <sstream>
 #include <stdexcept>
 #include <string>
 #include <utility>
@@ -104,6 +105,11 @@ public:
     const uint64_t place;
 };
 
+/* The notes of a till's payments, in the order of Till::book and Till::unclear. */
+struct Notes {
+    std::vector<Note> booked, unclear;
+};
+
 /* A till. You can move it but not copy it. Only one thread at a time may use it. */
 class Till {
 public:
@@ -122,6 +128,29 @@ public:
         zvt_till_recover(&handle, reinterpret_cast<const uint8_t *>(text.data()), text.size(), &answer);
         if (answer.status == ZVT_REFUSED) throw BadJournal(answer);
         check(answer.status);
+    }
+    /* The times and references of the payments in the text of a journal, with the settings of this till. */
+    Notes notes(const std::string &text) {
+        const auto *bytes = reinterpret_cast<const uint8_t *>(text.data());
+        std::string lines;
+        zvt_answer answer{};
+        do {
+            lines.resize(answer.size);
+            zvt_record_notes(&handle, bytes, text.size(), reinterpret_cast<uint8_t *>(lines.data()), lines.size(), &answer);
+            if (answer.status == ZVT_REFUSED) throw BadJournal(answer);
+            check(answer.status);
+        } while (answer.size != lines.size());
+        Notes notes;
+        std::istringstream all(lines);
+        for (std::string line; std::getline(all, line);) {
+            std::istringstream words(line);
+            std::string kind, key, word;
+            Note note;
+            words >> kind;
+            while (words >> key >> word) (key == "at" ? note.at : note.reference) = word;
+            (kind == "booked" ? notes.booked : notes.unclear).push_back(std::move(note));
+        }
+        return notes;
     }
     Till(Till &&other) noexcept : handle(std::exchange(other.handle, zvt_till{})), line(std::move(other.line)) {}
     Till &operator=(Till &&other) noexcept {

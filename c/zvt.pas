@@ -63,6 +63,8 @@ type
     { The cause of an unclear payment or reversal. }
     Cause: TZvtCause;
     Doubt: TZvtDoubt;
+    { When the payment was ordered, such as 2026-11-28T09:14:03Z, and the caller's reference, each empty unless the till's book has it. }
+    At, Reference: AnsiString;
     function ToString: string;
   end;
 
@@ -182,6 +184,8 @@ type
     procedure Append(const Bytes: TBytes; Size: Integer);
     { Refuses records from now on. }
     procedure GiveUp;
+    { The text of the records, with those of this process. }
+    function Records: TBytes;
     { The records that the file had when it was opened. }
     property Text: TBytes read FText;
   end;
@@ -219,6 +223,8 @@ type
     procedure Tell(const Message: TBytes);
     function State: TZvtState;
     function Entries(Count: UInt64; Booked: Boolean): TZvtEntries;
+    procedure AddNotes(var Entries: TZvtEntries; const Kind: AnsiString);
+    function NoteLines: AnsiString;
     function LastOutcome: TZvtOutcome;
     function IsRegistered: Boolean;
     function SumOfBook: Int64;
@@ -323,6 +329,8 @@ procedure zvt_record_order(Order: Cardinal; Number: UInt64; Sent: PByte; SentLen
 function zvt_record_heard(Bytes: PByte; Length: NativeUInt; Room: PByte; RoomLength: NativeUInt; var Answer: TZvtAnswer): NativeUInt;
   cdecl; external Library_;
 procedure zvt_record_lost(Room: PByte; Length: NativeUInt; var Answer: TZvtAnswer); cdecl; external Library_;
+procedure zvt_record_notes(var Till: TZvtHandle; Text: PByte; Length: NativeUInt; Room: PByte; RoomLength: NativeUInt;
+  var Answer: TZvtAnswer); cdecl; external Library_;
 
 function posix_open(Path: PAnsiChar; Flags: Integer; Mode: Cardinal): Integer; cdecl; external C name 'open';
 function posix_close(AFile: Integer): Integer; cdecl; external C name 'close';
@@ -949,6 +957,59 @@ begin
     if Booked then Check(zvt_till_entry(FHandle, Place, Entry)) else Check(zvt_till_unclear(FHandle, Place, Entry));
     Result[Place] := EntryOf(Entry, Booked);
   end;
+  if Booked then AddNotes(Result, 'booked') else AddNotes(Result, 'unclear');
+end;
+
+{ The text up to the first of these characters, which it takes off the text with that character. }
+function NextPart(var Text: AnsiString; Ending: AnsiChar): AnsiString;
+var
+  Size: Integer;
+begin
+  Size := Pos(Ending, Text);
+  if Size = 0 then Size := Length(Text) + 1;
+  Result := Copy(Text, 1, Size - 1);
+  Delete(Text, 1, Size);
+end;
+
+{ Adds the times and references that the book has of the payments of this kind. }
+procedure TZvtTill.AddNotes(var Entries: TZvtEntries; const Kind: AnsiString);
+var
+  Lines, Line, Key: AnsiString;
+  Place: Integer;
+begin
+  Place := 0;
+  Lines := NoteLines;
+  while (Lines <> '') and (Place < Length(Entries)) do
+  begin
+    Line := NextPart(Lines, #10);
+    if NextPart(Line, ' ') <> Kind then Continue;
+    while Line <> '' do
+    begin
+      Key := NextPart(Line, ' ');
+      if Key = 'at' then Entries[Place].At := NextPart(Line, ' ') else Entries[Place].Reference := NextPart(Line, ' ');
+    end;
+    Inc(Place);
+  end;
+end;
+
+{ The lines of zvt_record_notes for the till's book. }
+function TZvtTill.NoteLines: AnsiString;
+var
+  Held, Room: TBytes;
+  Answer: TZvtAnswer;
+begin
+  Result := '';
+  if FJournal = nil then Exit;
+  Held := FJournal.Records;
+  Room := nil;
+  while Length(Held) > 0 do
+  begin
+    zvt_record_notes(FHandle, First(Held), Length(Held), First(Room), Length(Room), Answer);
+    Check(Answer.Status);
+    if Answer.Size = UInt64(Length(Room)) then Break;
+    SetLength(Room, Answer.Size);
+  end;
+  SetString(Result, PAnsiChar(First(Room)), Length(Room));
 end;
 
 function TZvtTill.Book: TZvtEntries;
@@ -1061,6 +1122,19 @@ begin
     Size := Done(pread(FFile, First(Room), Length(Room), Length(Result)), 'open');
     Result := Concat(Result, Copy(Room, 0, Size));
   until Size = 0;
+end;
+
+function TZvtJournal.Records: TBytes;
+var
+  Room: TBytes;
+  Size: Int64;
+begin
+  Result := nil;
+  SetLength(Room, FGate);
+  repeat
+    Size := Done(pread(FFile, First(Room), FGate - Length(Result), Length(Result)), 'read');
+    Result := Concat(Result, Copy(Room, 0, Size));
+  until (Size = 0) or (Length(Result) = FGate);
 end;
 
 { Returns the size of the complete lines before the first empty one, if a book may have these bytes. }

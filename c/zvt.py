@@ -113,6 +113,8 @@ class Entry(NamedTuple):
     reversed: bool = False           # a completed reversal took it back
     cause: Optional[Cause] = None    # why the payment is unclear, or its last reversal
     doubt: Optional[Doubt] = None    # what the reversals of a booked payment leave open
+    at: Optional[str] = None         # of a till with a book: when the payment was ordered, as 2026-11-28T09:14:03Z, in UTC
+    reference: Optional[str] = None  # of a till with a book: the caller's reference
 
     def __str__(self):
         text = f"{self.amount}" + numbers(self.trace, self.receipt)
@@ -210,10 +212,11 @@ _TYPES = {
                          c.c_size_t, c.c_void_p],
     "zvt_record_heard": [c.c_char_p, c.c_size_t, c.c_void_p, c.c_size_t, c.c_void_p],
     "zvt_record_lost": [c.c_void_p, c.c_size_t, c.c_void_p],
+    "zvt_record_notes": [c.c_void_p, c.c_char_p, c.c_size_t, c.c_void_p, c.c_size_t, c.c_void_p],
 }
 # What the calls answer that answer no status.
 _RESULTS = {name: None for name in ("zvt_scan", "zvt_till_free", "zvt_till_save", "zvt_till_recover", "zvt_record_opening",
-                                    "zvt_record_order", "zvt_record_lost")}
+                                    "zvt_record_order", "zvt_record_lost", "zvt_record_notes")}
 _RESULTS |= {name: c.c_size_t for name in ("zvt_record_heard", "zvt_result_name", "zvt_text", "zvt_version")}
 
 
@@ -620,11 +623,32 @@ class Till:
 
     def book(self):
         """Returns the booked payments."""
-        return [self._entry("entry", place) for place in range(self.state().booked)]
+        return self._noted("booked", [self._entry("entry", place) for place in range(self.state().booked)])
 
     def unclear(self):
         """Returns the unclear payments: the terminal may have booked them or not."""
-        return [self._entry("unclear", place) for place in range(self.state().unclear)]
+        return self._noted("unclear", [self._entry("unclear", place) for place in range(self.state().unclear)])
+
+    def _noted(self, kind, entries):
+        """Returns the entries with the times and references that the book has."""
+        lines = [line.split(" ") for line in self._note_lines()]
+        notes = [dict(zip(words[1::2], words[2::2])) for words in lines if words[0] == kind]
+        notes += [{}] * (len(entries) - len(notes))
+        return [entry._replace(at=note.get("at"), reference=note.get("ref")) for entry, note in zip(entries, notes)]
+
+    def _note_lines(self):
+        """Returns the lines of zvt_record_notes for the till's book."""
+        text = b"" if self.journal is None else self.journal.records()
+        if not text:
+            return []
+        answer, room = _Answer(), c.create_string_buffer(0)
+        while True:
+            self._library.zvt_record_notes(c.byref(self._handle), text, len(text), room, len(room), c.byref(answer))
+            if answer.status:
+                raise Refused(answer.status)
+            if answer.size <= len(room):
+                return room.raw[:answer.size].decode("ascii").splitlines()
+            room = c.create_string_buffer(answer.size)
 
     def unclear_reversals(self):
         """Returns the booked payments whose last reversal is unclear, each with its index in the book. Reverse them again."""

@@ -123,6 +123,7 @@ unsafe extern "C" {
     );
     fn zvt_record_heard(bytes: *const u8, length: usize, room: *mut u8, room_length: usize, answer: *mut Answer) -> usize;
     fn zvt_record_lost(room: *mut u8, room_length: usize, answer: *mut Answer);
+    fn zvt_record_notes(till: *mut Handle, text: *const u8, length: usize, room: *mut u8, room_length: usize, answer: *mut Answer);
 }
 
 const REFUSED: u32 = 2;
@@ -409,13 +410,22 @@ impl Till {
         let mut till = Till::new(password, config, currency).map_err(NoTill::Refused)?;
         let mut answer = Answer::default();
         unsafe { zvt_till_recover(&mut till.handle, text.as_ptr(), text.len(), &mut answer) };
-        match (answer.status, answer.reason) {
-            (0, _) => Ok(till),
-            (REFUSED, 1) => Err(NoTill::Opening),
-            (REFUSED, 2) => Err(NoTill::Line(answer.place as usize)),
-            (REFUSED, 3) => Err(NoTill::Record(answer.place as usize)),
-            (REFUSED, 4) => Err(NoTill::Check(answer.place as usize)),
-            (status, _) => Err(NoTill::Refused(Refused::of(status))),
+        no_till(&answer)?;
+        Ok(till)
+    }
+
+    /// Returns the times and references of the payments in the text of a journal, with the settings of this till.
+    pub fn notes(&mut self, text: &[u8]) -> Result<Notes, NoTill> {
+        let mut lines = Vec::new();
+        loop {
+            let mut answer = Answer::default();
+            let (room, length) = (lines.as_mut_ptr(), lines.len());
+            unsafe { zvt_record_notes(&mut self.handle, text.as_ptr(), text.len(), room, length, &mut answer) };
+            no_till(&answer)?;
+            if answer.size as usize == lines.len() {
+                return Ok(Notes::of(&String::from_utf8_lossy(&lines)));
+            }
+            lines.resize(answer.size as usize, 0);
         }
     }
 
@@ -526,6 +536,17 @@ pub enum NoTill {
     Refused(Refused),
 }
 
+fn no_till(answer: &Answer) -> Result<(), NoTill> {
+    match (answer.status, answer.reason) {
+        (0, _) => Ok(()),
+        (REFUSED, 1) => Err(NoTill::Opening),
+        (REFUSED, 2) => Err(NoTill::Line(answer.place as usize)),
+        (REFUSED, 3) => Err(NoTill::Record(answer.place as usize)),
+        (REFUSED, 4) => Err(NoTill::Check(answer.place as usize)),
+        (status, _) => Err(NoTill::Refused(Refused::of(status))),
+    }
+}
+
 /// Returns the text that a call writes to a buffer.
 fn record(write: impl Fn(*mut u8, usize, *mut Answer)) -> Result<Vec<u8>, Refused> {
     let (mut room, mut answer) = (vec![0; RECORD_ROOM], Answer::default());
@@ -555,6 +576,29 @@ impl Note {
     pub fn now(reference: Option<&str>) -> Note {
         let seconds = SystemTime::now().duration_since(UNIX_EPOCH).map_or(0, |since| since.as_secs());
         Note { at: Some(utc(seconds)), reference: reference.map(str::to_owned) }
+    }
+}
+
+/// The notes of a till's payments, in the order of [`Till::book`] and [`Till::unclear`].
+#[derive(Clone, Debug, Default, PartialEq, Eq)]
+pub struct Notes {
+    pub booked: Vec<Note>,
+    pub unclear: Vec<Note>,
+}
+
+impl Notes {
+    /// Reads the lines of `zvt_record_notes`.
+    fn of(lines: &str) -> Notes {
+        let mut notes = Notes::default();
+        for line in lines.lines() {
+            let (mut words, mut note) = (line.split(' '), Note::default());
+            let rows = if words.next() == Some("booked") { &mut notes.booked } else { &mut notes.unclear };
+            while let (Some(key), Some(word)) = (words.next(), words.next()) {
+                *(if key == "at" { &mut note.at } else { &mut note.reference }) = Some(word.to_owned());
+            }
+            rows.push(note);
+        }
+        notes
     }
 }
 

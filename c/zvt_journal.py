@@ -57,6 +57,14 @@ class Journal:
             raise
         self._gate += len(record)
 
+    def records(self):
+        """Returns the text of the records, with those of this process, or no text if the journal is closed."""
+        text, piece = b"", True
+        while self._file is not None and piece:
+            piece = os.pread(self._file, self._gate - len(text), len(text))
+            text += piece
+        return text
+
     def give_up(self):
         """Takes no record from now on."""
         self._failed = True

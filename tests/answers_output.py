@@ -92,8 +92,14 @@ def hold_vectors(chance):
 
 # ---- the book of a till
 
+def noted(note):
+    """The members of a note, which is ` at`, ` ref` or both, each with its word."""
+    words = note.split(" ")[1:]
+    return dict(zip(words[::2], words[1::2]))
+
+
 def entry_object(currency, number, entry):
-    booked = {"amount": entry.amount, "currency": currency, "number": number, "trace": entry.trace}
+    booked = {"amount": entry.amount, "currency": currency, "number": number, "trace": entry.trace, **noted(entry.note)}
     if entry.receipt is not None:
         booked["receipt"] = entry.receipt.hex().upper()
     if entry.reversed:
@@ -109,9 +115,9 @@ def book_objects(book):
     currency = f"{book.currency:04}"
     for number, entry in enumerate(book.entries, 1):
         yield entry_object(currency, number, entry)
-    for (amount, cause), (trace, receipt) in zip(book.unclear, book.heard):
+    for (amount, cause), (trace, receipt), note in zip(book.unclear, book.heard, book.notes):
         receipt = None if receipt is None else receipt.hex().upper()
-        members = {"amount": amount, "cause": cause, "currency": currency, "receipt": receipt, "trace": trace}
+        members = {"amount": amount, "cause": cause, "currency": currency, "receipt": receipt, "trace": trace, **noted(note)}
         yield {"unclear": {name: member for name, member in members.items() if member is not None}}
     yield {"currency": currency, "total": book.total()}
 

@@ -209,8 +209,11 @@ def noted(of):
     of.registered()
     of.note = " at 2026-11-28T09:15:00Z ref A-1009"
     of.paid(10, 1)
-    of.note = " ref " + 40 * "~"
+    of.note = ' ref "\\' + 38 * "~"
     of.approved(20, 2)
+    of.again()
+    of.note = " at 2026-11-28T09:20:41Z"
+    of.approved(30, 4)
     of.again()
     of.note = " ref at"
     of.reversing(1, 1)
@@ -251,7 +254,7 @@ BOOKS = {
               [(2, "NoStatus"), (3, "AmountDiffers"), (5, "NoTrace"), (6, "TraceUsed"), (7, "WrongCurrency"), (8, "Conflict"),
                (9, "Conflict")], 22),
     remarked: ([(10, 1, None)], [(20, "Line")], 10),
-    noted: ([(10, 1, "reversed")], [(20, "Line")], 0),
+    noted: ([(10, 1, "reversed")], [(20, "Line"), (30, "Line")], 0),
     padded: ([(1234, 17, None)], [], 1234),
 }
 

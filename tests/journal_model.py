@@ -97,10 +97,12 @@ def number_of(content):
 
 @dataclasses.dataclass
 class Entry:
-    """A booked payment. `doubt` is what its reversals leave open: nothing, a cause, or that the terminal said B4."""
+    """A booked payment. `doubt` is what its reversals leave open: nothing, a cause, or that the terminal said B4. `note` is what
+    the record of the order says behind the order: its time and its reference."""
     amount: int
     trace: int
     receipt: object  # two bytes, or none
+    note: str = ""
     reversed: bool = False
     doubt: object = None
 
@@ -111,6 +113,7 @@ class Book:
     entries: list = dataclasses.field(default_factory=list)
     unclear: list = dataclasses.field(default_factory=list)  # an amount and a cause each
     heard: list = dataclasses.field(default_factory=list)  # of each unclear payment: the trace number and the receipt number
+    notes: list = dataclasses.field(default_factory=list)  # of each unclear payment
 
     def total(self):
         return sum(entry.amount for entry in self.entries if not entry.reversed)
@@ -124,10 +127,10 @@ class Book:
 
 
 class Order:
-    """An order that runs: its kind, its number, and what was heard of it."""
+    """An order that runs: its kind, its number, its note, and what was heard of it."""
 
-    def __init__(self, kind, number=None):
-        self.kind, self.number, self.statuses = kind, number, []
+    def __init__(self, kind, number, note):
+        self.kind, self.number, self.note, self.statuses = kind, number, note, []
 
 
 def cause_of(statuses, amount, currency, original):
@@ -167,19 +170,21 @@ class Reader:
         if line == b"!":
             self.ends("lost")
         elif line[:1] == b"#":
-            self.comment(NOTE.sub(b"", line)[1:].split())
+            self.comment(line)
         elif line[:1] in (b"<", b">"):
             piece = bytes.fromhex(line[1:].decode("ascii"))
             (self.heard if line[:1] == b"<" else self.sent)(piece)
         else:
             raise NoJournal(f"this is no line of a journal: {line}")
 
-    def comment(self, words):
+    def comment(self, line):
+        order = NOTE.sub(b"", line)
+        words, note = order[1:].split(), line[len(order):].decode()
         kinds = {b"register": 0, b"pay": 1, b"reverse": 1, b"close": 0, b"cancel": 0}
         if not words or kinds.get(words[0]) != len(words) - 1:
             raise NoJournal(f"this comment is no order: {words}")
         number = int(words[1]) if len(words) == 2 else None
-        self.announced = Order(words[0].decode(), number)
+        self.announced = Order(words[0].decode(), number, note)
 
     def sent(self, apdu):
         """A message of the till: an order's, which its line before has announced, or an answer."""
@@ -246,10 +251,11 @@ class Reader:
             elif trace in [entry.trace for entry in self.book.entries]:
                 cause = "TraceUsed"
         if cause is None:
-            self.book.entries.append(Entry(order.number, trace, receipt))
+            self.book.entries.append(Entry(order.number, trace, receipt, order.note))
         else:
             self.book.unclear.append((order.number, cause))
             self.book.heard.append(last_named(order))
+            self.book.notes.append(order.note)
 
     def end_reversal(self, order, how):
         entry = self.book.entries[order.number - 1]
@@ -405,8 +411,9 @@ def text_of(book):
         mark = {None: "", "B4": " taken back"}.get(entry.doubt, f" reversal unclear {entry.doubt}")
         mark = " reversed" + mark if entry.reversed else mark
         receipt = "-" if entry.receipt is None else entry.receipt.hex().upper()
-        lines.append(f"booked {entry.amount} trace {entry.trace:06} receipt {receipt}{mark}")
-    lines += [f"unclear {amount} {cause}{heard_text(*heard)}" for (amount, cause), heard in zip(book.unclear, book.heard)]
+        lines.append(f"booked {entry.amount} trace {entry.trace:06} receipt {receipt}{mark}{entry.note}")
+    rows = zip(book.unclear, book.heard, book.notes)
+    lines += [f"unclear {amount} {cause}{heard_text(*heard)}{note}" for (amount, cause), heard, note in rows]
     return "\n".join(lines + [f"total {book.total()}"])
 
 

@@ -57,6 +57,7 @@ NO_LINES = [
     {"from": "till", "line": 4, "truncated": {"after": 0}}, {"from": "till", "line": 4, "resumed": 2}, {"file": 1, "line": 1, "lost": True},
     {"booked": {"amount": 0, "trace": 1}}, {"booked": {"amount": 1, "line": 0, "trace": 1}}, {"booked": {"amount": 0, "line": 1, "trace": 1}},
     {"unclear": {"amount": 1, "cause": "Lost"}}, {"unclear": {"amount": 1, "cause": "Line", "line": 0}}, {"total": -1}, {"bad": -1, "messages": 1, "total": 1},
+    {"booked": {"amount": 1, "ref": "A 1", "trace": 1}}, {"booked": {"amount": 1, "at": "2026-11-28", "trace": 1}}, {"unclear": {"amount": 1, "cause": "Line", "ref": ""}},
     {"bad": 0, "currency": "978", "messages": 1, "total": 1}, {"bad": 0, "currency": None, "messages": 1, "total": 1},
 ]
 check, counts, validated = Checks(), {"traces": 0, "lines": 0}, []

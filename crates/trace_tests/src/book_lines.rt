@@ -1,33 +1,34 @@
 //! A till's book as text and as JSON lines, each worked out by hand.
 use crate::assertions::assert_equal;
-use std::alloc::Global;
+use std::alloc::{AllocError, Global};
 use std::process::Abort;
 use std::test::Fail;
 use zvt_bcd::{Amount, Trace};
 use zvt_io::Over;
 use zvt_json::Form;
+use zvt_kept::{Note, Recovered};
 use zvt_session::{EndFault, write_book};
 use zvt_till::{CurrencyFact, Heard, Order, Original, StatusFacts, Till};
 
 const WORDS: &str = r#"booked 1000 trace 000001 receipt 0001
-booked 200 trace 000002 receipt 0012 reversed
-booked 30 trace 000003 receipt 0003 reversal unclear Line
+booked 200 trace 000002 receipt 0012 reversed at 2026-11-28T09:14:03Z ref A-1009
+booked 30 trace 000003 receipt 0003 reversal unclear Line ref "\
 booked 4 trace 000004 receipt -
 booked 800 trace 000005 receipt 9999 taken back
-unclear 500 NoStatus
-unclear 600 Line trace 000007 receipt 0014
+unclear 500 NoStatus at 2026-11-28T10:00:00Z
+unclear 600 Line trace 000007 receipt 0014 at 2026-11-28T10:01:00Z ref B-7
 unclear 700 Line receipt 0015
 total 1834
 "#;
 
 const OBJECTS: &str =
     r#"{"booked":{"amount":1000,"currency":"0978","number":1,"receipt":"0001","trace":1}}
-{"booked":{"amount":200,"currency":"0978","number":2,"receipt":"0012","reversed":true,"trace":2}}
-{"booked":{"amount":30,"currency":"0978","number":3,"receipt":"0003","reversal_unclear":"Line","trace":3}}
+{"booked":{"amount":200,"at":"2026-11-28T09:14:03Z","currency":"0978","number":2,"receipt":"0012","ref":"A-1009","reversed":true,"trace":2}}
+{"booked":{"amount":30,"currency":"0978","number":3,"receipt":"0003","ref":"\"\\","reversal_unclear":"Line","trace":3}}
 {"booked":{"amount":4,"currency":"0978","number":4,"trace":4}}
 {"booked":{"amount":800,"currency":"0978","number":5,"receipt":"9999","taken_back":true,"trace":5}}
-{"unclear":{"amount":500,"cause":"NoStatus","currency":"0978"}}
-{"unclear":{"amount":600,"cause":"Line","currency":"0978","receipt":"0014","trace":7}}
+{"unclear":{"amount":500,"at":"2026-11-28T10:00:00Z","cause":"NoStatus","currency":"0978"}}
+{"unclear":{"amount":600,"at":"2026-11-28T10:01:00Z","cause":"Line","currency":"0978","receipt":"0014","ref":"B-7","trace":7}}
 {"unclear":{"amount":700,"cause":"Line","currency":"0978","receipt":"0015"}}
 {"currency":"0978","total":1834}
 "#;
@@ -103,28 +104,59 @@ fn booked_till(rt: &impl Abort, alloc: Global) -> Till {
     till
 }
 
-fn written(alloc: Global, form: Form, till: &Till) -> Result<Vec<u8>, EndFault> {
+/// The note with this time and this reference, of which an empty one is left out.
+fn note(rt: &impl Abort, at: &str, reference: &str) -> Note {
+    let at = Some(at.as_bytes()).filter(|at| !at.is_empty());
+    let reference = Some(reference.as_bytes()).filter(|reference| !reference.is_empty());
+    Note::new(at, reference).expect(rt, "a note")
+}
+
+/// The till of [`booked_till`] and the notes of its payments, of which the last ones have none.
+fn booked(rt: &impl Abort, alloc: Global) -> Result<Recovered, AllocError> {
+    let booked = vec![in alloc;
+        note(rt, "", ""),
+        note(rt, "2026-11-28T09:14:03Z", "A-1009"),
+        note(rt, "", "\"\\"),
+    ]?;
+    let unclear = vec![in alloc;
+        note(rt, "2026-11-28T10:00:00Z", ""),
+        note(rt, "2026-11-28T10:01:00Z", "B-7"),
+        note(rt, "", ""),
+    ]?;
+    let till = booked_till(rt, alloc);
+    Ok(Recovered {
+        till,
+        booked,
+        unclear,
+    })
+}
+
+fn written(alloc: Global, form: Form, recovered: &Recovered) -> Result<Vec<u8>, EndFault> {
     let mut writer = Over::new(Vec::new(alloc));
-    write_book(alloc, form, till, &mut writer)?;
+    write_book(alloc, form, recovered, &mut writer)?;
     Ok(writer.inner)
 }
 
 #[test]
 fn a_book_is_written_in_both_forms(rt: HostRuntime) -> Result<(), Fail> {
-    let till = booked_till(&rt, rt.alloc());
-    let words = written(rt.alloc(), Form::Text, &till)?;
+    let recovered = booked(&rt, rt.alloc())?;
+    let words = written(rt.alloc(), Form::Text, &recovered)?;
     assert_equal(&rt, &words.as_slice(), &WORDS.as_bytes());
-    let objects = written(rt.alloc(), Form::Json, &till)?;
+    let objects = written(rt.alloc(), Form::Json, &recovered)?;
     assert_equal(&rt, &objects.as_slice(), &OBJECTS.as_bytes());
     Ok(())
 }
 
 #[test]
 fn a_new_till_has_an_empty_book(rt: HostRuntime) -> Result<(), Fail> {
-    let till = Till::with_defaults(rt.alloc());
-    let words = written(rt.alloc(), Form::Text, &till)?;
+    let recovered = Recovered {
+        till: Till::with_defaults(rt.alloc()),
+        booked: Vec::new(rt.alloc()),
+        unclear: Vec::new(rt.alloc()),
+    };
+    let words = written(rt.alloc(), Form::Text, &recovered)?;
     assert_equal(&rt, &words.as_slice(), &b"total 0\n".as_slice());
-    let objects = written(rt.alloc(), Form::Json, &till)?;
+    let objects = written(rt.alloc(), Form::Json, &recovered)?;
     assert_equal(
         &rt,
         &objects.as_slice(),

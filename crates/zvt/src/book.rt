@@ -13,8 +13,8 @@ use zvt_io::Over;
 use zvt_till::Till;
 use zvt_tool::statuses::{DONE, MEMORY, WORDS, of_device, of_file_error, of_recovery};
 use zvt_tool::{
-    EndFault, FileDevice, FileFailure, Form, JournalFileError, KeptTill, Opened, RecoveryError,
-    Sum, TillSettings, next_line, open_file, read_book, recover, write_book, write_records,
+    EndFault, FileDevice, FileFailure, Form, JournalFileError, KeptTill, Opened, Recovered,
+    RecoveryError, Sum, TillSettings, next_line, open_file, read_book, recover, write_book, write_records,
 };
 
 /// What is reported of a book in another currency than the till's, or of no book.
@@ -123,20 +123,20 @@ fn show_one(
             Err(error) => return unread(rt, path, &error),
         }
     };
-    let till = match till_of(rt, text.as_slice()) {
-        Ok(till) => till,
+    let recovered = match recovered_from(rt, text.as_slice()) {
+        Ok(recovered) => recovered,
         Err(error) => return unrecovered(rt, path, error),
     };
     let Ok(output) = input.output(rt.alloc(), form, io::writer(rt)) else {
         return finish_run(rt, false, Err(EndFault::Memory));
     };
     let mut writer = Over::new(output);
-    let answer = match write_book(rt.alloc(), form, &till, &mut writer) {
+    let answer = match write_book(rt.alloc(), form, &recovered, &mut writer) {
         Err(EndFault::Write) if writer.inner.out_of_memory => Err(EndFault::Memory),
         answer => answer,
     };
     match &answer {
-        Ok(()) => listing.add(currency_of(text.as_slice()), till.total()),
+        Ok(()) => listing.add(currency_of(text.as_slice()), recovered.till.total()),
         Err(EndFault::Write) => listing.is_output_lost = true,
         Err(_) => {}
     }
@@ -161,7 +161,7 @@ fn records_of(rt: &HostRuntime, path: &str) -> io::Result<u8> {
         Ok(text) => text,
         Err(error) => return unread(rt, path, &error),
     };
-    if let Err(error) = till_of(rt, text.as_slice()) {
+    if let Err(error) = recovered_from(rt, text.as_slice()) {
         return unrecovered(rt, path, error);
     }
     let mut writer = Over::new(Output::new(io::writer(rt)));
@@ -182,10 +182,15 @@ fn report_left(rt: &HostRuntime, path: &str, records: usize) -> io::Result<()> {
     Ok(())
 }
 
-/// The till of these records. Its currency is that of the book. A book without a record is that of a new till.
-fn till_of(rt: &HostRuntime, text: &[u8]) -> Result<Till, RecoveryError> {
+/// The till of these records, with the notes of its payments. Its currency is that of the book. A book without a record
+/// is that of a new till.
+fn recovered_from(rt: &HostRuntime, text: &[u8]) -> Result<Recovered, RecoveryError> {
     if text.is_empty() {
-        return Ok(Till::with_defaults(rt.alloc()));
+        return Ok(Recovered {
+            till: Till::with_defaults(rt.alloc()),
+            booked: Vec::new(rt.alloc()),
+            unclear: Vec::new(rt.alloc()),
+        });
     }
     let Some(currency) = currency_of(text) else {
         return Err(RecoveryError::Opening);
@@ -194,8 +199,7 @@ fn till_of(rt: &HostRuntime, text: &[u8]) -> Result<Till, RecoveryError> {
         currency,
         ..TillSettings::default()
     };
-    let recovered = recover(rt.alloc(), &settings, text)?;
-    Ok(recovered.till)
+    recover(rt.alloc(), &settings, text)
 }
 
 /// The currency that the first line of a book names. [`recover`] checks that line.

@@ -5,6 +5,7 @@ mod answer;
 mod codec;
 mod handle;
 mod names;
+mod notes;
 mod numbers;
 mod raw_box;
 mod raw_handle;

@@ -128,7 +128,7 @@ fn put(bytes: &[u8], buffer: &mut [u8]) -> usize
 }
 
 /// Hands out a text that was written, where it fits, and says its size; or says that memory was refused.
-fn hand_out(written: Result<(), AllocError>, text: &Text, buffer: &mut [u8]) -> ZvtAnswer
+pub(crate) fn hand_out(written: Result<(), AllocError>, text: &Text, buffer: &mut [u8]) -> ZvtAnswer
     ensures { MatchResult written (λ _. (result ≡ sized result.size) × Written text.now result.size buffer.old
         buffer.new) (λ _. (buffer.new ≡ buffer.old) × (result ≡ bare 3)) }
 {

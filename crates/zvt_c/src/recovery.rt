@@ -47,7 +47,7 @@ fn recover_end(alloc: Global, end: &mut Session, text: &[u8]) -> ZvtAnswer
 }
 
 /// What a till is set to.
-fn settings(till: &Till) -> TillSettings
+pub(crate) fn settings(till: &Till) -> TillSettings
     ensures { settings_of result ≡ till.now.state.settings }
 {
     TillSettings {
@@ -58,7 +58,7 @@ fn settings(till: &Till) -> TillSettings
 }
 
 /// Why there is no till, in numbers.
-fn unrecovered(why: RecoveryError) -> ZvtAnswer
+pub(crate) fn unrecovered(why: RecoveryError) -> ZvtAnswer
     ensures { result ≡ refused_as why }
 {
     let (reason, place) = match why {

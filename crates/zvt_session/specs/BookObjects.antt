@@ -1,5 +1,5 @@
 -- A till's book as JSON. The members of an object come in the order of their names.
-use Rattle.std.specs.Prelude.{◌≡◌, ℕ, Bool, true, false, List, [], ◌∷◌, ◌++◌, Option, Some, None, codes, slice_get, refl}
+use Rattle.std.specs.Prelude.{◌≡◌, ℕ, ◌+◌, Bool, true, false, List, [], ◌∷◌, ◌++◌, Option, Some, None, codes, slice_get, refl}
 use Rattle.std.specs.Fmt.{decimal, digits}
 use Rattle.std.specs.List.{enumerate_from, flat_map}
 use Rattle.hex.specs.Hex.{encode_upper, encode_with}
@@ -12,13 +12,14 @@ use Rattle.zvt_text.specs.MessageTexts.{four_digits}
 use Rattle.zvt_till.specs.Marks.{total}
 use Rattle.zvt_till.specs.Names.{cause_name}
 use Rattle.zvt_till.specs.Numbers.{no_numbers}
-use Rattle.zvt_till.specs.View.{TillValue}
 use Rattle.zvt_till.specs.declared.entries.Doubt.{Doubt}
 use Rattle.zvt_till.specs.declared.entries.Doubt.TheVariants.{No, Unclear, TakenBack}
 use Rattle.zvt_till.specs.declared.entries.Entry.{Entry}
 use Rattle.zvt_till.specs.declared.numbers.Numbers.{Numbers}
 use Rattle.zvt_till.specs.declared.outcomes.Cause.{Cause}
 use Rattle.zvt_till.specs.declared.outcomes.Cause.TheVariants.{NoStatus}
+use Rattle.zvt_kept.specs.Notes.{at_in, reference_in}
+use Rattle.zvt_kept.specs.declared.recovery.Recovered.{Recovered}
 use Rattle.zvt_session.specs.Books.{book_text}
 
 -- the receipt number, where the payment has one, and what comes after it
@@ -34,6 +35,24 @@ with_currency currency later = member (codes "currency") (string (four_digits cu
 abbrev pub with_trace : Option ℕ → Members → Members
 with_trace None later = later
 with_trace (Some trace) later = member (codes "trace") (count_value trace) later
+
+abbrev pub with_moment : Option (List ℕ) → Members → Members
+with_moment None later = later
+with_moment (Some moment) later = member (codes "at") (string moment) later
+
+-- the time of the order, where its record has one, and what comes after it
+abbrev pub with_time : (note : Option (List ℕ)) → Members → Members
+with_time None later = later
+with_time (Some note) later = with_moment (at_in note) later
+
+abbrev pub with_word : Option (List ℕ) → Members → Members
+with_word None later = later
+with_word (Some word) later = member (codes "ref") (string word) later
+
+-- the reference of the order, where its record has one, and what comes after it
+abbrev pub with_reference : (note : Option (List ℕ)) → Members → Members
+with_reference None later = later
+with_reference (Some note) later = with_word (reference_in note) later
 
 -- the cause of a last reversal that is unclear, and what comes after it
 abbrev pub with_unclear_reversal : Doubt → Members → Members
@@ -56,94 +75,106 @@ with_taken_back TakenBack later = member (codes "taken_back") (boolean true) lat
 abbrev pub with_reversals : Bool → Doubt → Members → Members
 with_reversals reversed doubt later = with_unclear_reversal doubt (with_reversed reversed (with_taken_back doubt later))
 
-abbrev pub payment_value : (currency number : ℕ) → Entry → Data
-payment_value currency number entry =
-    object (member (codes "amount") (count_value entry.amount) (with_currency currency (member (codes "number") (count_value number)
-    (with_receipt entry.receipt (with_reversals entry.reversed entry.doubt (with_trace (Some entry.trace) no_members))))))
+-- the currency and the number of an entry, and what comes after them
+abbrev pub with_number : (currency number : ℕ) → Members → Members
+with_number currency number later = with_currency currency (member (codes "number") (count_value number) later)
 
--- an entry, and its number in the book, by which it is reversed
-abbrev pub entry_value : (currency number : ℕ) → Entry → Data
-entry_value currency number entry = object (member (codes "booked") (payment_value currency number entry) no_members)
+abbrev pub payment_value : (currency number : ℕ) → Entry → (note : Option (List ℕ)) → Data
+payment_value currency number entry note =
+    object (member (codes "amount") (count_value entry.amount) (with_time note (with_number currency number
+    (with_receipt entry.receipt (with_reference note (with_reversals entry.reversed entry.doubt (with_trace (Some entry.trace) no_members)))))))
 
--- what was heard of a payment, and what comes after it
-abbrev pub with_heard : Option Numbers → Members → Members
-with_heard None later = later
-with_heard (Some numbers) later = with_receipt numbers.receipt (with_trace numbers.trace later)
+-- an entry, its number in the book, by which it is reversed, and its note
+abbrev pub entry_value : (currency number : ℕ) → Entry → (note : Option (List ℕ)) → Data
+entry_value currency number entry note = object (member (codes "booked") (payment_value currency number entry note) no_members)
 
-abbrev pub doubt_value : (currency : ℕ) → ℕ × Cause → Option Numbers → Data
-doubt_value currency row heard =
-    object (member (codes "amount") (count_value row.0) (member (codes "cause") (string (cause_name row.1)) (with_currency currency (with_heard heard no_members))))
+-- what was heard of a payment and its reference, and what comes after them
+abbrev pub with_heard : Option Numbers → (note : Option (List ℕ)) → Members → Members
+with_heard None note later = with_reference note later
+with_heard (Some numbers) note later = with_receipt numbers.receipt (with_reference note (with_trace numbers.trace later))
 
--- a payment of which it is not known whether it happened
-abbrev pub unclear_value : (currency : ℕ) → ℕ × Cause → Option Numbers → Data
-unclear_value currency row heard = object (member (codes "unclear") (doubt_value currency row heard) no_members)
+-- why a payment is unclear, the currency, and what comes after them
+abbrev pub with_cause : Cause → (currency : ℕ) → Members → Members
+with_cause cause currency later = member (codes "cause") (string (cause_name cause)) (with_currency currency later)
 
--- the entries, numbered from 1
-abbrev pub entries_json : (currency : ℕ) → List Entry → List ℕ
-entries_json currency book = flat_map (λ entry. line_text (entry_value currency entry.0 entry.1)) (enumerate_from 1 book)
+abbrev pub doubt_value : (currency : ℕ) → ℕ × Cause → Option Numbers → (note : Option (List ℕ)) → Data
+doubt_value currency row heard note =
+    object (member (codes "amount") (count_value row.0) (with_time note (with_cause row.1 currency (with_heard heard note no_members))))
 
--- what was heard of a payment stands at its place
-abbrev pub unclears_json : (currency : ℕ) → List (ℕ × Cause) → (heard : List Numbers) → List ℕ
-unclears_json currency unclear heard = flat_map (λ it. line_text (unclear_value currency it.1 (slice_get heard it.0))) (enumerate_from 0 unclear)
+-- a payment of which it is not known whether it happened, and its note
+abbrev pub unclear_value : (currency : ℕ) → ℕ × Cause → Option Numbers → (note : Option (List ℕ)) → Data
+unclear_value currency row heard note = object (member (codes "unclear") (doubt_value currency row heard note) no_members)
+
+-- the entries, numbered from 1; the note of each stands at its place
+abbrev pub entries_json : (currency : ℕ) → List Entry → (notes : List (List ℕ)) → List ℕ
+entries_json currency book notes = flat_map (λ it. line_text (entry_value currency (it.0 + 1) it.1 (slice_get notes it.0))) (enumerate_from 0 book)
+
+-- what was heard of a payment stands at its place, and so does its note
+abbrev pub unclears_json : (currency : ℕ) → List (ℕ × Cause) → (heard : List Numbers) → (notes : List (List ℕ)) → List ℕ
+unclears_json currency unclear heard notes =
+    flat_map (λ it. line_text (unclear_value currency it.1 (slice_get heard it.0) (slice_get notes it.0))) (enumerate_from 0 unclear)
 
 abbrev pub sum_value : (currency total : ℕ) → Data
 sum_value currency total = object (with_currency currency (member (codes "total") (count_value total) no_members))
 
 -- a line for each entry, for each payment of which it is not known whether it happened, and for the sum of the entries that
 -- were not reversed
-abbrev pub book_json : TillValue → List ℕ
-book_json till =
+abbrev pub book_json : Recovered → List ℕ
+book_json recovered =
+    let till = recovered.till in
     let s = till.state in
-    entries_json s.settings.currency s.book ++ unclears_json s.settings.currency s.unclear till.heard ++ line_text (sum_value s.settings.currency (total s.book))
+    entries_json s.settings.currency s.book recovered.booked.items
+    ++ unclears_json s.settings.currency s.unclear till.heard recovered.unclear.items
+    ++ line_text (sum_value s.settings.currency (total s.book))
 
 -- the book in that form
-abbrev pub book_lines : Form → TillValue → List ℕ
-book_lines Text till = book_text till
-book_lines Json till = book_json till
+abbrev pub book_lines : Form → Recovered → List ℕ
+book_lines Text recovered = book_text recovered
+book_lines Json recovered = book_json recovered
 
 -- ---- rows worked by hand
 
 abbrev entry_of : Option (List ℕ) → Bool → Doubt → Entry
 entry_of receipt reversed doubt = record { amount = 1000; trace = 1; receipt = receipt; reversed = reversed; doubt = doubt }
 
-no_reversal : line_text (entry_value 978 1 (entry_of (Some (0x00 ∷ 0x01 ∷ [])) false No)) ≡ codes "{\"booked\":{\"amount\":1000,\"currency\":\"0978\",\"number\":1,\"receipt\":\"0001\",\"trace\":1}}\n"
+no_reversal : line_text (entry_value 978 1 (entry_of (Some (0x00 ∷ 0x01 ∷ [])) false No) None) ≡ codes "{\"booked\":{\"amount\":1000,\"currency\":\"0978\",\"number\":1,\"receipt\":\"0001\",\"trace\":1}}\n"
 unfolding digits escape_byte encode_with
 no_reversal = refl
 
-no_receipt : line_text (entry_value 978 1 (entry_of None false No)) ≡ codes "{\"booked\":{\"amount\":1000,\"currency\":\"0978\",\"number\":1,\"trace\":1}}\n"
+no_receipt : line_text (entry_value 978 1 (entry_of None false No) None) ≡ codes "{\"booked\":{\"amount\":1000,\"currency\":\"0978\",\"number\":1,\"trace\":1}}\n"
 unfolding digits escape_byte
 no_receipt = refl
 
-was_reversed : line_text (entry_value 978 1 (entry_of None true No)) ≡ codes "{\"booked\":{\"amount\":1000,\"currency\":\"0978\",\"number\":1,\"reversed\":true,\"trace\":1}}\n"
+was_reversed : line_text (entry_value 978 1 (entry_of None true No) None) ≡ codes "{\"booked\":{\"amount\":1000,\"currency\":\"0978\",\"number\":1,\"reversed\":true,\"trace\":1}}\n"
 unfolding digits escape_byte
 was_reversed = refl
 
-an_unclear_reversal : line_text (entry_value 978 1 (entry_of None false (Unclear NoStatus))) ≡ codes "{\"booked\":{\"amount\":1000,\"currency\":\"0978\",\"number\":1,\"reversal_unclear\":\"NoStatus\",\"trace\":1}}\n"
+an_unclear_reversal : line_text (entry_value 978 1 (entry_of None false (Unclear NoStatus)) None) ≡ codes "{\"booked\":{\"amount\":1000,\"currency\":\"0978\",\"number\":1,\"reversal_unclear\":\"NoStatus\",\"trace\":1}}\n"
 unfolding digits escape_byte
 an_unclear_reversal = refl
 
-was_taken_back : line_text (entry_value 978 1 (entry_of None false TakenBack)) ≡ codes "{\"booked\":{\"amount\":1000,\"currency\":\"0978\",\"number\":1,\"taken_back\":true,\"trace\":1}}\n"
+was_taken_back : line_text (entry_value 978 1 (entry_of None false TakenBack) None) ≡ codes "{\"booked\":{\"amount\":1000,\"currency\":\"0978\",\"number\":1,\"taken_back\":true,\"trace\":1}}\n"
 unfolding digits escape_byte
 was_taken_back = refl
 
 -- a reversal was completed, and a later one is unclear
-another_reversal : line_text (entry_value 978 1 (entry_of None true (Unclear NoStatus))) ≡ codes "{\"booked\":{\"amount\":1000,\"currency\":\"0978\",\"number\":1,\"reversal_unclear\":\"NoStatus\",\"reversed\":true,\"trace\":1}}\n"
+another_reversal : line_text (entry_value 978 1 (entry_of None true (Unclear NoStatus)) None) ≡ codes "{\"booked\":{\"amount\":1000,\"currency\":\"0978\",\"number\":1,\"reversal_unclear\":\"NoStatus\",\"reversed\":true,\"trace\":1}}\n"
 unfolding digits escape_byte
 another_reversal = refl
 
-an_unclear_payment : line_text (unclear_value 978 (500, NoStatus) (Some no_numbers)) ≡ codes "{\"unclear\":{\"amount\":500,\"cause\":\"NoStatus\",\"currency\":\"0978\"}}\n"
+an_unclear_payment : line_text (unclear_value 978 (500, NoStatus) (Some no_numbers) None) ≡ codes "{\"unclear\":{\"amount\":500,\"cause\":\"NoStatus\",\"currency\":\"0978\"}}\n"
 unfolding digits escape_byte
 an_unclear_payment = refl
 
 abbrev heard_of : Option ℕ → Option (List ℕ) → Numbers
 heard_of trace receipt = record { trace = trace; receipt = receipt }
 
-approval_heard : line_text (unclear_value 978 (500, NoStatus) (Some (heard_of (Some 7) (Some (0x00 ∷ 0x12 ∷ [])))))
+approval_heard : line_text (unclear_value 978 (500, NoStatus) (Some (heard_of (Some 7) (Some (0x00 ∷ 0x12 ∷ [])))) None)
     ≡ codes "{\"unclear\":{\"amount\":500,\"cause\":\"NoStatus\",\"currency\":\"0978\",\"receipt\":\"0012\",\"trace\":7}}\n"
 unfolding digits escape_byte encode_with
 approval_heard = refl
 
-trace_heard : line_text (unclear_value 978 (500, NoStatus) (Some (heard_of (Some 7) None)))
+trace_heard : line_text (unclear_value 978 (500, NoStatus) (Some (heard_of (Some 7) None)) None)
     ≡ codes "{\"unclear\":{\"amount\":500,\"cause\":\"NoStatus\",\"currency\":\"0978\",\"trace\":7}}\n"
 unfolding digits escape_byte
 trace_heard = refl
@@ -152,9 +183,20 @@ nothing_booked : line_text (sum_value 756 0) ≡ codes "{\"currency\":\"0756\",\
 unfolding digits escape_byte
 nothing_booked = refl
 
-two_entries : entries_json 978 (entry_of None false No ∷ entry_of None false No ∷ []) ≡ codes "{\"booked\":{\"amount\":1000,\"currency\":\"0978\",\"number\":1,\"trace\":1}}\n{\"booked\":{\"amount\":1000,\"currency\":\"0978\",\"number\":2,\"trace\":1}}\n"
+two_entries : entries_json 978 (entry_of None false No ∷ entry_of None false No ∷ []) [] ≡ codes "{\"booked\":{\"amount\":1000,\"currency\":\"0978\",\"number\":1,\"trace\":1}}\n{\"booked\":{\"amount\":1000,\"currency\":\"0978\",\"number\":2,\"trace\":1}}\n"
 unfolding digits escape_byte
 two_entries = refl
+
+-- a time and a reference, in which JSON escapes a quotation mark
+noted : line_text (entry_value 978 1 (entry_of (Some (0x00 ∷ 0x01 ∷ [])) true No) (Some (codes " at 2026-11-28T09:14:03Z ref A\"9")))
+    ≡ codes "{\"booked\":{\"amount\":1000,\"at\":\"2026-11-28T09:14:03Z\",\"currency\":\"0978\",\"number\":1,\"receipt\":\"0001\",\"ref\":\"A\\\"9\",\"reversed\":true,\"trace\":1}}\n"
+unfolding digits escape_byte encode_with
+noted = refl
+
+noted_unclear : line_text (unclear_value 978 (500, NoStatus) (Some (heard_of (Some 7) None)) (Some (codes " ref A-9")))
+    ≡ codes "{\"unclear\":{\"amount\":500,\"cause\":\"NoStatus\",\"currency\":\"0978\",\"ref\":\"A-9\",\"trace\":7}}\n"
+unfolding digits escape_byte
+noted_unclear = refl
 
 -- ---- the same texts, as they are written
 
@@ -186,24 +228,44 @@ abbrev pub trace_part : Option ℕ → List ℕ
 trace_part None = []
 trace_part (Some trace) = codes ",\"trace\":" ++ decimal trace
 
-abbrev pub heard_part : Option Numbers → List ℕ
-heard_part None = []
-heard_part (Some numbers) = receipt_part numbers.receipt ++ trace_part numbers.trace
+abbrev pub moment_part : Option (List ℕ) → List ℕ
+moment_part None = []
+moment_part (Some moment) = codes ",\"at\":\"" ++ escape moment ++ 34 ∷ []
 
--- up to the number
-abbrev pub number_part : (currency amount number : ℕ) → List ℕ
-number_part currency amount number = codes "{\"booked\":{\"amount\":" ++ decimal amount ++ 44 ∷ currency_part currency ++ codes ",\"number\":" ++ decimal number
+abbrev pub time_part : (note : Option (List ℕ)) → List ℕ
+time_part None = []
+time_part (Some note) = moment_part (at_in note)
 
-unfoldable pub entry_json : (currency number : ℕ) → Entry → List ℕ
-entry_json currency number entry =
-    number_part currency entry.amount number ++ receipt_part entry.receipt ++ reversals_part entry.reversed entry.doubt ++ trace_part (Some entry.trace) ++ codes "}}\n"
+abbrev pub word_part : Option (List ℕ) → List ℕ
+word_part None = []
+word_part (Some word) = codes ",\"ref\":\"" ++ escape word ++ 34 ∷ []
 
--- up to the currency
-abbrev pub cause_part : ℕ × Cause → List ℕ
-cause_part row = codes "{\"unclear\":{\"amount\":" ++ decimal row.0 ++ codes ",\"cause\":\"" ++ cause_name row.1 ++ codes "\","
+abbrev pub reference_part : (note : Option (List ℕ)) → List ℕ
+reference_part None = []
+reference_part (Some note) = word_part (reference_in note)
 
-unfoldable pub unclear_json : (currency : ℕ) → ℕ × Cause → Option Numbers → List ℕ
-unclear_json currency row heard = cause_part row ++ currency_part currency ++ heard_part heard ++ codes "}}\n"
+abbrev pub heard_part : Option Numbers → (note : Option (List ℕ)) → List ℕ
+heard_part None note = reference_part note
+heard_part (Some numbers) note = receipt_part numbers.receipt ++ reference_part note ++ trace_part numbers.trace
+
+-- a line up to its amount
+abbrev pub amount_part : (kind : List ℕ) → (amount : ℕ) → List ℕ
+amount_part kind amount = kind ++ decimal amount
+
+abbrev pub number_part : (currency number : ℕ) → List ℕ
+number_part currency number = 44 ∷ currency_part currency ++ codes ",\"number\":" ++ decimal number
+
+unfoldable pub entry_json : (currency number : ℕ) → Entry → (note : Option (List ℕ)) → List ℕ
+entry_json currency number entry note =
+    amount_part (codes "{\"booked\":{\"amount\":") entry.amount ++ time_part note ++ number_part currency number ++ receipt_part entry.receipt
+    ++ reference_part note ++ reversals_part entry.reversed entry.doubt ++ trace_part (Some entry.trace) ++ codes "}}\n"
+
+abbrev pub cause_part : Cause → (currency : ℕ) → List ℕ
+cause_part cause currency = codes ",\"cause\":\"" ++ cause_name cause ++ codes "\"," ++ currency_part currency
+
+unfoldable pub unclear_json : (currency : ℕ) → ℕ × Cause → Option Numbers → (note : Option (List ℕ)) → List ℕ
+unclear_json currency row heard note =
+    amount_part (codes "{\"unclear\":{\"amount\":") row.0 ++ time_part note ++ cause_part row.1 currency ++ heard_part heard note ++ codes "}}\n"
 
 unfoldable pub sum_json : (currency total : ℕ) → List ℕ
 sum_json currency total = 123 ∷ currency_part currency ++ codes ",\"total\":" ++ decimal total ++ codes "}\n"

@@ -5,12 +5,12 @@ use Rattle.std.specs.List.{enumerate_from, flat_map}
 use Rattle.zvt_text.specs.Numbers.{numbers_text}
 use Rattle.zvt_till.specs.Marks.{total}
 use Rattle.zvt_till.specs.Names.{cause_name}
-use Rattle.zvt_till.specs.View.{TillValue}
 use Rattle.zvt_till.specs.declared.entries.Doubt.{Doubt}
 use Rattle.zvt_till.specs.declared.entries.Doubt.TheVariants.{No, Unclear, TakenBack}
 use Rattle.zvt_till.specs.declared.entries.Entry.{Entry}
 use Rattle.zvt_till.specs.declared.numbers.Numbers.{Numbers}
 use Rattle.zvt_till.specs.declared.outcomes.Cause.{Cause}
+use Rattle.zvt_kept.specs.declared.recovery.Recovered.{Recovered}
 use Rattle.zvt_session.specs.Notes.{named_text}
 use Rattle.zvt_session.specs.Outcomes.{total_text}
 
@@ -32,24 +32,33 @@ doubt_text TakenBack = codes " taken back"
 abbrev pub booked_text : Entry → List ℕ
 booked_text entry = codes "booked " ++ decimal entry.amount ++ 32 ∷ numbers_text entry.trace entry.receipt
 
-abbrev pub entry_text : Entry → List ℕ
-entry_text entry = booked_text entry ++ reversed_text entry.reversed ++ doubt_text entry.doubt ++ 10 ∷ []
+-- the time and the reference of its order, where its record has them
+abbrev pub noted_text : (note : Option (List ℕ)) → List ℕ
+noted_text None = []
+noted_text (Some note) = note
+
+abbrev pub entry_text : Entry → (note : Option (List ℕ)) → List ℕ
+entry_text entry note = booked_text entry ++ reversed_text entry.reversed ++ doubt_text entry.doubt ++ noted_text note ++ 10 ∷ []
 
 -- what was heard of a payment
 abbrev pub heard_words : Option Numbers → List ℕ
 heard_words None = []
 heard_words (Some numbers) = named_text numbers.trace numbers.receipt
 
-abbrev pub unclear_text : ℕ × Cause → Option Numbers → List ℕ
-unclear_text row heard = codes "unclear " ++ decimal row.0 ++ 32 ∷ cause_name row.1 ++ heard_words heard ++ 10 ∷ []
+abbrev pub unclear_text : ℕ × Cause → Option Numbers → (note : Option (List ℕ)) → List ℕ
+unclear_text row heard note = codes "unclear " ++ decimal row.0 ++ 32 ∷ cause_name row.1 ++ heard_words heard ++ noted_text note ++ 10 ∷ []
 
-abbrev pub entries_text : List Entry → List ℕ
-entries_text book = flat_map entry_text book
+-- the note of an entry stands at its place
+abbrev pub entries_text : List Entry → (notes : List (List ℕ)) → List ℕ
+entries_text book notes = flat_map (λ it. entry_text it.1 (slice_get notes it.0)) (enumerate_from 0 book)
 
--- what was heard of a payment stands at its place
-abbrev pub unclears_text : List (ℕ × Cause) → (heard : List Numbers) → List ℕ
-unclears_text unclear heard = flat_map (λ it. unclear_text it.1 (slice_get heard it.0)) (enumerate_from 0 unclear)
+-- what was heard of a payment stands at its place, and so does its note
+abbrev pub unclears_text : List (ℕ × Cause) → (heard : List Numbers) → (notes : List (List ℕ)) → List ℕ
+unclears_text unclear heard notes = flat_map (λ it. unclear_text it.1 (slice_get heard it.0) (slice_get notes it.0)) (enumerate_from 0 unclear)
 
 -- the entries, the payments of which it is not known whether they happened, and the sum of the entries that were not reversed
-abbrev pub book_text : TillValue → List ℕ
-book_text till = entries_text till.state.book ++ unclears_text till.state.unclear till.heard ++ total_text (total till.state.book)
+abbrev pub book_text : Recovered → List ℕ
+book_text recovered =
+    let till = recovered.till in
+    entries_text till.state.book recovered.booked.items ++ unclears_text till.state.unclear till.heard recovered.unclear.items
+    ++ total_text (total till.state.book)

@@ -1,52 +1,68 @@
 //! A till's book as JSON objects, one a line.
-ghost use Rattle.std.specs.Prelude.{◌≡◌, ◌∷◌, ◌++◌, OnOk};
+ghost use Rattle.std.specs.Prelude.{◌≡◌, ◌∷◌, ◌++◌, OnOk, option_map};
 ghost use Rattle.hex.specs.Hex.{encode_upper};
 ghost use Rattle.json.specs.Print.{escape};
 ghost use Rattle.zvt_json.specs.Strings.{line_text};
 ghost use Rattle.zvt_text.specs.Writing.{Adds};
-ghost use Rattle.zvt_session.specs.BookObjects.{book_json, cause_part, currency_part, entries_json, entry_json};
-ghost use Rattle.zvt_session.specs.BookObjects.{entry_value, heard_part, number_part, receipt_part, reversals_part};
-ghost use Rattle.zvt_session.specs.BookObjects.{reversed_part, sum_json, sum_value, taken_back_part, trace_part};
-ghost use Rattle.zvt_session.specs.BookObjects.{unclear_json, unclear_reversal_part, unclear_value, unclears_json};
+ghost use Rattle.zvt_session.specs.BookObjects.{amount_part, book_json, cause_part, currency_part, entries_json};
+ghost use Rattle.zvt_session.specs.BookObjects.{entry_json, entry_value, heard_part, moment_part, number_part};
+ghost use Rattle.zvt_session.specs.BookObjects.{receipt_part, reference_part, reversals_part, reversed_part, sum_json};
+ghost use Rattle.zvt_session.specs.BookObjects.{sum_value, taken_back_part, time_part, trace_part, unclear_json};
+ghost use Rattle.zvt_session.specs.BookObjects.{unclear_reversal_part, unclear_value, unclears_json, word_part};
 
-use crate::books::heard_at;
+use crate::books::{heard_at, note_at};
+use crate::quoted::say_escaped;
 use std::alloc::AllocError;
 use zvt_bcd::{Amount, Currency, Trace};
+use zvt_kept::{Note, Recovered};
 use zvt_text::Text;
-use zvt_till::{Cause, Doubt, Entry, Numbers, Till};
+use zvt_till::{Cause, Doubt, Entry, Numbers};
 
 /// An object for each entry with its number and what became of its reversals, then for each unclear payment with what
-/// was heard of it, and at last for the sum of the entries that were not reversed.
-pub(crate) fn say_objects(text: &mut Text, till: &Till) -> Result<(), AllocError>
-    ensures { OnOk result (text.new ≡ text.old ++ book_json till.now) }
+/// was heard of it, and at last for the sum of the entries that were not reversed. Those of payments have their notes.
+pub(crate) fn say_objects(text: &mut Text, recovered: &Recovered) -> Result<(), AllocError>
+    ensures { OnOk result (text.new ≡ text.old ++ book_json recovered.now) }
 {
+    let till = &recovered.till;
     let currency = till.currency();
-    say_entries(text, currency, till.book())?;
-    say_unclear(text, currency, till.unclear(), till.heard())?;
+    say_entries(text, currency, till.book(), recovered.booked.as_slice())?;
+    say_unclear(
+        text,
+        currency,
+        till.unclear(),
+        till.heard(),
+        recovered.unclear.as_slice(),
+    )?;
     say_sum(text, currency, till.total())
 }
 
-/// The lines of these entries, numbered from 1.
-fn say_entries(text: &mut Text, currency: Currency, book: &[Entry]) -> Result<(), AllocError>
-    ensures { OnOk result (text.new ≡ text.old ++ entries_json currency book.now) }
+/// The lines of these entries, numbered from 1, each with its note.
+fn say_entries(
+    text: &mut Text,
+    currency: Currency,
+    book: &[Entry],
+    notes: &[Note],
+) -> Result<(), AllocError>
+    ensures { OnOk result (text.new ≡ text.old ++ entries_json currency book.now notes.now) }
 {
     for (at, entry) in book.iter().enumerate() {
-        say_entry(text, currency, at + 1, entry)?;
+        say_entry(text, currency, at + 1, entry, note_at(notes, at))?;
     }
     Ok(())
 }
 
-/// The lines of these unclear payments, each with what was heard of it.
+/// The lines of these unclear payments, each with what was heard of it, and with its note.
 fn say_unclear(
     text: &mut Text,
     currency: Currency,
     unclear: &[(Amount, Cause)],
     heard: &[Numbers],
+    notes: &[Note],
 ) -> Result<(), AllocError>
-    ensures { OnOk result (text.new ≡ text.old ++ unclears_json currency unclear.now heard.now) }
+    ensures { OnOk result (text.new ≡ text.old ++ unclears_json currency unclear.now heard.now notes.now) }
 {
     for (at, row) in unclear.iter().enumerate() {
-        say_unclear_row(text, currency, row, heard_at(heard, at))?;
+        say_unclear_row(text, currency, row, heard_at(heard, at), note_at(notes, at))?;
     }
     Ok(())
 }
@@ -58,10 +74,12 @@ fn say_entry(
     currency: Currency,
     number: usize,
     entry: &Entry,
+    note: Option<&Note>,
 ) -> Result<(), AllocError>
-    ensures { OnOk result (text.new ≡ text.old ++ line_text (entry_value currency number entry.now)) }
+    ensures { OnOk result (text.new ≡ text.old ++ line_text (entry_value currency number entry.now
+        (option_map (λ words. words.now) note.entry))) }
 {
-    write_entry(text, currency, number, entry)
+    write_entry(text, currency, number, entry, note)
 }
 
 /// The line of an unclear payment.
@@ -71,10 +89,12 @@ fn say_unclear_row(
     currency: Currency,
     row: &(Amount, Cause),
     heard: Option<Numbers>,
+    note: Option<&Note>,
 ) -> Result<(), AllocError>
-    ensures { OnOk result (text.new ≡ text.old ++ line_text (unclear_value currency row.now heard)) }
+    ensures { OnOk result (text.new ≡ text.old ++ line_text (unclear_value currency row.now heard
+        (option_map (λ words. words.now) note.entry))) }
 {
-    write_unclear(text, currency, row, heard)
+    write_unclear(text, currency, row, heard, note)
 }
 
 /// The line of the sum.
@@ -92,27 +112,77 @@ fn write_entry(
     currency: Currency,
     number: usize,
     entry: &Entry,
+    note: Option<&Note>,
 ) -> Result<(), AllocError>
-    ensures { OnOk result (text.new ≡ text.old ++ entry_json currency number entry.now) }
+    ensures { OnOk result (text.new ≡ text.old ++ entry_json currency number entry.now
+        (option_map (λ words. words.now) note.entry)) }
 {
-    say_number(text, currency, entry.amount, number)?;
+    say_amount(text, b"{\"booked\":{\"amount\":", entry.amount)?;
+    say_time(text, note)?;
+    say_number(text, currency, number)?;
     say_receipt(text, entry.receipt)?;
+    say_reference(text, note)?;
     say_reversals(text, entry.reversed, entry.doubt)?;
     say_trace(text, Some(entry.trace))?;
     text.word(b"}}\n")
 }
 
-/// The line of an entry up to its number.
-fn say_number(
-    text: &mut Text,
-    currency: Currency,
-    amount: Amount,
-    number: usize,
-) -> Result<(), AllocError>
-    ensures { OnOk result (text.new ≡ text.old ++ number_part currency amount number) }
+/// A line of this kind up to its amount.
+fn say_amount(text: &mut Text, kind: &[u8], amount: Amount) -> Result<(), AllocError>
+    ensures { OnOk result (text.new ≡ text.old ++ amount_part kind.now amount) }
 {
-    text.word(b"{\"booked\":{\"amount\":")?;
-    text.number(amount.get())?;
+    text.word(kind)?;
+    text.number(amount.get())
+}
+
+/// The time of the order, where its record has one.
+fn say_time(text: &mut Text, note: Option<&Note>) -> Result<(), AllocError>
+    ensures { OnOk result (text.new ≡ text.old ++ time_part (option_map (λ words. words.now) note.entry)) }
+{
+    match note {
+        Some(note) => say_moment(text, note.at()),
+        None => Ok(()),
+    }
+}
+
+/// A time, if there is one.
+fn say_moment(text: &mut Text, moment: Option<&[u8]>) -> Result<(), AllocError>
+    ensures { OnOk result (text.new ≡ text.old ++ moment_part (option_map (λ moment. moment.now) moment.entry)) }
+{
+    let Some(moment) = moment else {
+        return Ok(());
+    };
+    text.word(b",\"at\":\"")?;
+    say_escaped(text, moment)?;
+    text.push(b'"')
+}
+
+/// The reference of the order, where its record has one.
+fn say_reference(text: &mut Text, note: Option<&Note>) -> Result<(), AllocError>
+    ensures { OnOk result (text.new ≡ text.old ++ reference_part (option_map (λ words. words.now) note.entry)) }
+{
+    match note {
+        Some(note) => say_word(text, note.reference()),
+        None => Ok(()),
+    }
+}
+
+/// A reference, if there is one.
+fn say_word(text: &mut Text, word: Option<&[u8]>) -> Result<(), AllocError>
+    ensures { OnOk result (text.new ≡ text.old ++ word_part (option_map (λ word. word.now) word.entry)) }
+{
+    let Some(word) = word else {
+        return Ok(());
+    };
+    text.word(b",\"ref\":\"")?;
+    say_escaped(text, word)?;
+    text.push(b'"')
+}
+
+/// The currency and the number of an entry.
+fn say_number(text: &mut Text, currency: Currency, number: usize) -> Result<(), AllocError>
+    ensures { OnOk result (text.new ≡ text.old ++ number_part currency number) }
+{
     text.push(b',')?;
     say_currency(text, currency)?;
     text.word(b",\"number\":")?;
@@ -206,35 +276,38 @@ fn write_unclear(
     currency: Currency,
     row: &(Amount, Cause),
     heard: Option<Numbers>,
+    note: Option<&Note>,
 ) -> Result<(), AllocError>
-    ensures { OnOk result (text.new ≡ text.old ++ unclear_json currency row.now heard) }
+    ensures { OnOk result (text.new ≡ text.old ++ unclear_json currency row.now heard
+        (option_map (λ words. words.now) note.entry)) }
 {
-    say_cause(text, row)?;
-    say_currency(text, currency)?;
-    say_heard(text, heard)?;
+    let (amount, cause) = row;
+    say_amount(text, b"{\"unclear\":{\"amount\":", *amount)?;
+    say_time(text, note)?;
+    say_cause(text, *cause, currency)?;
+    say_heard(text, heard, note)?;
     text.word(b"}}\n")
 }
 
-/// The line of an unclear payment up to its currency.
-fn say_cause(text: &mut Text, row: &(Amount, Cause)) -> Result<(), AllocError>
-    ensures { OnOk result (text.new ≡ text.old ++ cause_part row.now) }
+/// Why a payment is unclear, and the currency.
+fn say_cause(text: &mut Text, cause: Cause, currency: Currency) -> Result<(), AllocError>
+    ensures { OnOk result (text.new ≡ text.old ++ cause_part cause currency) }
 {
-    let (amount, cause) = row;
-    text.word(b"{\"unclear\":{\"amount\":")?;
-    text.number(amount.get())?;
     text.word(b",\"cause\":\"")?;
     text.word(cause.name().as_bytes())?;
-    text.word(b"\",")
+    text.word(b"\",")?;
+    say_currency(text, currency)
 }
 
-/// What was heard of an unclear payment, if anything was.
-fn say_heard(text: &mut Text, heard: Option<Numbers>) -> Result<(), AllocError>
-    ensures { OnOk result (text.new ≡ text.old ++ heard_part heard) }
+/// What was heard of an unclear payment, if anything was, and the reference of its order.
+fn say_heard(text: &mut Text, heard: Option<Numbers>, note: Option<&Note>) -> Result<(), AllocError>
+    ensures { OnOk result (text.new ≡ text.old ++ heard_part heard (option_map (λ words. words.now) note.entry)) }
 {
     let Some(numbers) = heard else {
-        return Ok(());
+        return say_reference(text, note);
     };
     say_receipt(text, numbers.receipt)?;
+    say_reference(text, note)?;
     say_trace(text, numbers.trace)
 }
 

@@ -15,6 +15,7 @@ mod objects;
 mod order_notes;
 mod outcomes;
 mod plans;
+mod quoted;
 mod reversals;
 mod service;
 mod settings;

@@ -42,7 +42,7 @@ pub use zvt_show::diagnostics::{hint_on, write_notes};
 pub use zvt_grammar::Lengths;
 pub use zvt_journal::{FileDevice, FileFailure, JournalFileError, Opened, open_file, read_book};
 pub use zvt_json::Form;
-pub use zvt_kept::{KeptTill, RecoveryError, recover};
+pub use zvt_kept::{KeptTill, Recovered, RecoveryError, recover};
 pub use zvt_session::{
     EndFault, Ends, NetFault, Planned, StepOptions, config_of, currency_of, password_of, plan,
     result_code, write_book, write_records,
