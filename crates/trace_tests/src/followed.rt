@@ -4,8 +4,7 @@ use std::alloc::Global;
 use std::test::Fail;
 use zvt_grammar::Lengths;
 use zvt_io::{Failed, GhostCount, Over, Source};
-use zvt_show::{Follower, Style};
-use zvt_tool::follow_trace;
+use zvt_show::{Follower, Style, follow_trace};
 use zvt_trace::{Scope, TraceFault};
 
 /// How many bytes are written after each of three pieces, and all of them.

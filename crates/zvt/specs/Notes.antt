@@ -5,10 +5,10 @@ use Rattle.zvt_trace.specs.declared.fault.TraceFault.{TraceFault}
 use Rattle.zvt_trace.specs.declared.fault.TraceFault.TheVariants as fault
 use Rattle.zvt_trace.specs.declared.listener.Scope.{Scope}
 use Rattle.zvt_trace.specs.declared.listener.Scope.TheVariants.{WholeLine}
-use Rattle.zvt_tool.specs.Commands.{text_scope}
-use Rattle.zvt_tool.specs.declared.command.TraceCommand.{TraceCommand}
-use Rattle.zvt_tool.specs.declared.command.TraceWork.{TraceWork}
-use Rattle.zvt_tool.specs.declared.command.TraceWork.TheVariants.{Render, Audit, Vectors}
+use Rattle.zvt_tool.specs.TraceCommands.{text_scope}
+use Rattle.zvt_tool.specs.declared.trace_command.TraceCommand.{TraceCommand}
+use Rattle.zvt_tool.specs.declared.trace_command.TraceWork.{TraceWork}
+use Rattle.zvt_tool.specs.declared.trace_command.TraceWork.TheVariants.{Render, Audit, Vectors}
 
 abbrev pub scope_by : TraceWork → (resync : Bool) → Option Scope
 scope_by (Render style) resync = Some (text_scope resync)

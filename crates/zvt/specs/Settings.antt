@@ -1,13 +1,15 @@
 -- The settings of a till and the verdict of a terminal, from the arguments.
-use Rattle.std.specs.Prelude.{◌≡◌, ◌⊎◌, ℕ, List, Option, Some, None, option_map}
+use Rattle.std.specs.Prelude.{◌≡◌, ◌⊎◌, ℕ, List, Option, Some, None, is_some, option_map}
 use Rattle.std.specs.Borrow.{Bor}
 use Rattle.zvt_till.specs.Events.{run_settings}
 use Rattle.zvt_term.specs.declared.turns.Verdict.{Verdict}
 use Rattle.zvt_term.specs.declared.turns.Verdict.TheVariants.{Approve, Decline}
+use Rattle.zvt_tcp.specs.declared.options.TillRun.{TillRun}
+use Rattle.zvt_tool.specs.Options.{form_by, lengths_by}
 use Rattle.zvt_session.specs.Settings.{config_of, currency_of, password_of}
 use Rattle.zvt_session.specs.Words.{code_in}
 use Rattle.zvt_till.specs.declared.settings.TillSettings.{TillSettings}
-use Rattle.zvt_cli.specs.declared.choice.TillOptions.{TillOptions}
+use Rattle.zvt_tool.specs.declared.till_options.TillOptions.{TillOptions}
 
 -- what a word names, or the default where there is no word
 abbrev pub named : {A : Type 0} → (default : A) → (List ℕ → Option A) → Option (Bor (List ℕ)) → Option A
@@ -32,3 +34,13 @@ AreSettings options None = (password_named options ≡ None) ⊎ ((config_named 
 abbrev pub verdict_named : Option (Bor (List ℕ)) → Option Verdict
 verdict_named None = Some Approve
 verdict_named (Some word) = option_map Decline (code_in word.now)
+
+-- each option of a till that its run has a part in
+pub record RunsAsAsked (options : TillOptions) (run : TillRun) : Type 0 where
+  pub host : run.host.now ≡ options.host.now
+  pub port : run.port ≡ options.port
+  pub seconds : run.seconds ≡ options.timeout
+  pub lengths : run.lengths ≡ lengths_by options.loose
+  pub show : is_some run.show ≡ options.show
+  pub form : run.options.form ≡ form_by options.json
+  pub check : run.options.check ≡ options.check

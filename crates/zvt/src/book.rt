@@ -2,20 +2,23 @@
 ghost use Rattle.zvt_journal.specs.Files.{file_may_leave, file_seen};
 ghost use Rattle.zvt_journal.specs.Text.{IsSettled};
 
+use crate::exit::Exit;
 use crate::finish::finish_run;
 use crate::inputs::{Input, write_sum};
 use crate::output::Output;
 use crate::reports::{report, report_on};
 use std::io::ErrorKind;
 use std::{fs, io, str};
+use zvt_audit::Sum;
 use zvt_bcd::Currency;
 use zvt_io::Over;
-use zvt_till::Till;
+use zvt_journal::{FileDevice, FileFailure, JournalFileError, Opened, open_file, read_book};
+use zvt_json::Form;
+use zvt_kept::{KeptTill, Recovered, RecoveryError, recover};
+use zvt_session::{EndFault, write_book, write_records};
+use zvt_till::{Till, TillSettings};
 use zvt_tool::statuses::{DONE, MEMORY, WORDS, of_device, of_file_error, of_recovery};
-use zvt_tool::{
-    EndFault, FileDevice, FileFailure, Form, JournalFileError, KeptTill, Opened, Recovered,
-    RecoveryError, Sum, TillSettings, next_line, open_file, read_book, recover, write_book, write_records,
-};
+use zvt_trace::next_line;
 
 /// What is reported of a book in another currency than the till's, or of no book.
 const OTHER_BOOK: &str =
@@ -224,10 +227,10 @@ pub fn open(
     rt: &HostRuntime,
     path: &str,
     settings: &TillSettings,
-) -> io::Result<Result<KeptTill<FileDevice>, u8>> {
+) -> Result<KeptTill<FileDevice>, Exit> {
     let opened = match open_file(rt.alloc(), path.as_bytes()).answer {
         Ok(opened) => opened,
-        Err(error) => return Ok(Err(unopened(rt, path, &error)?)),
+        Err(error) => return Err(Exit::Status(unopened(rt, path, &error)?)),
     };
     report_opening(rt, path, &opened)?;
     let text = opened.text;
@@ -237,9 +240,9 @@ pub fn open(
     match KeptTill::open(rt.alloc(), settings, opened.device, text.as_slice()) {
         Ok(kept) => {
             report_book(rt, path, kept.till())?;
-            Ok(Ok(kept))
+            Ok(kept)
         }
-        Err(error) => Ok(Err(unrecovered(rt, path, error)?)),
+        Err(error) => Err(Exit::Status(unrecovered(rt, path, error)?)),
     }
 }
 
@@ -249,11 +252,11 @@ fn begun(
     path: &str,
     settings: &TillSettings,
     device: FileDevice,
-) -> io::Result<Result<KeptTill<FileDevice>, u8>>
+) -> Result<KeptTill<FileDevice>, Exit>
     requires { IsSettled (file_seen device) (file_may_leave device) 0 }
 {
     match KeptTill::create(rt.alloc(), settings, device) {
-        Ok(kept) => Ok(Ok(kept)),
+        Ok(kept) => Ok(kept),
         Err(unbegun) => {
             let status = of_device(unbegun.why);
             let what = if status == MEMORY {
@@ -262,7 +265,7 @@ fn begun(
                 "cannot begin the book: check the free space and the permissions"
             };
             report_on(rt, path, what)?;
-            Ok(Err(status))
+            Err(Exit::Status(status))
         }
     }
 }

@@ -1,6 +1,7 @@
 //! Situations that are played one after another against a till or a terminal, and the report of them.
 
 use crate::connections::{Place, place_at, report_address};
+use crate::exit::Exit;
 use crate::finish::finish_run;
 use crate::play::{Played, play_script, read_text, script_of};
 use crate::reports::{TERMINAL_PORT, report, report_failed, report_invalid};
@@ -8,11 +9,12 @@ use std::alloc::{AllocError, Global};
 use std::fs;
 use std::io::{self, Write};
 use zvt_play::ScriptStep;
+use zvt_session::{EndFault, NetFault};
 use zvt_text::Text;
+use zvt_tool::CheckOptions;
 use zvt_tool::label::Label;
 use zvt_tool::statuses::{BAD, DEVICE, DONE, WORDS};
 use zvt_tool::verdicts::{add_case, add_error, add_plan, add_suite, add_verdict};
-use zvt_tool::{CheckOptions, EndFault, NetFault};
 use zvt_trace::Direction;
 
 /// Why a situation has no verdict after a play that ended all.
@@ -38,11 +40,8 @@ struct Verdicts {
 const LISTENED: u32 = 500;
 
 /// Plays the terminal of each situation against a till and returns the exit status.
-pub fn till(rt: &HostRuntime, options: &CheckOptions<'_>) -> io::Result<u8> {
-    let situations = match read_all(rt, Direction::FromTerminal, options)? {
-        Ok(situations) => situations,
-        Err(status) => return Ok(status),
-    };
+pub fn till(rt: &HostRuntime, options: &CheckOptions<'_>) -> Result<u8, Exit> {
+    let situations = read_all(rt, Direction::FromTerminal, options)?;
     let place = place_at(rt, None, Some(options.port), options.host);
     check(
         rt,
@@ -55,15 +54,12 @@ pub fn till(rt: &HostRuntime, options: &CheckOptions<'_>) -> io::Result<u8> {
 }
 
 /// Plays the till of each situation against a terminal and returns the exit status.
-pub fn terminal(rt: &HostRuntime, options: &CheckOptions<'_>) -> io::Result<u8> {
+pub fn terminal(rt: &HostRuntime, options: &CheckOptions<'_>) -> Result<u8, Exit> {
     if options.port == 0 {
         report_invalid(rt, "port", "0", TERMINAL_PORT)?;
         return Ok(WORDS);
     }
-    let situations = match read_all(rt, Direction::FromTill, options)? {
-        Ok(situations) => situations,
-        Err(status) => return Ok(status),
-    };
+    let situations = read_all(rt, Direction::FromTill, options)?;
     let place = place_at(rt, Some(options.port), None, options.host);
     check(
         rt,
@@ -75,27 +71,25 @@ pub fn terminal(rt: &HostRuntime, options: &CheckOptions<'_>) -> io::Result<u8> 
     )
 }
 
-/// Reads all situations. None, and one that can't be played, are reported, and the exit status is answered.
+/// Reads all situations. None, and one that can't be played, are reported.
 fn read_all<'a>(
     rt: &HostRuntime,
     own: Direction,
     options: &CheckOptions<'a>,
-) -> io::Result<Result<Vec<Situation<'a>>, u8>> {
+) -> Result<Vec<Situation<'a>>, Exit> {
     if options.files.is_empty() {
         report(
             rt,
             "name the situations to play, e.g. conformance/till/*.trace",
         )?;
-        return Ok(Err(WORDS));
+        return Err(Exit::Status(WORDS));
     }
     let mut situations = Vec::new(rt.alloc());
     for path in options.files.as_slice() {
-        match read_situation(rt, own, path)? {
-            Ok(situation) => situations.push(situation)?,
-            Err(status) => return Ok(Err(status)),
-        }
+        let situation = read_situation(rt, own, path)?;
+        situations.push(situation)?;
     }
-    Ok(Ok(situations))
+    Ok(situations)
 }
 
 /// Reads the situation in this file.
@@ -103,20 +97,14 @@ fn read_situation<'a>(
     rt: &HostRuntime,
     own: Direction,
     path: &'a str,
-) -> io::Result<Result<Situation<'a>, u8>> {
-    let text = match read_text(rt, path)? {
-        Ok(text) => text,
-        Err(status) => return Ok(Err(status)),
-    };
-    let steps = match script_of(rt, path, own, text.as_slice())? {
-        Ok(steps) => steps,
-        Err(status) => return Ok(Err(status)),
-    };
-    Ok(Ok(Situation {
+) -> Result<Situation<'a>, Exit> {
+    let text = read_text(rt, path)?;
+    let steps = script_of(rt, path, own, text.as_slice())?;
+    Ok(Situation {
         name: name_of(path),
         head: head_of(rt.alloc(), text.as_slice())?,
         steps,
-    }))
+    })
 }
 
 /// The name of a situation: its file name without folder and extension.
@@ -149,10 +137,10 @@ fn check(
     place: Result<Place<'_>, NetFault>,
     situations: &[Situation<'_>],
     options: &CheckOptions<'_>,
-) -> io::Result<u8> {
+) -> Result<u8, Exit> {
     let mut place = match place {
         Ok(place) => place,
-        Err(why) => return finish_run(rt, false, Err(EndFault::Net(why))),
+        Err(why) => return Ok(finish_run(rt, false, Err(EndFault::Net(why)))?),
     };
     report_address(rt, &place)?;
     let mut verdicts = Verdicts {

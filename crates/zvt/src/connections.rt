@@ -3,8 +3,8 @@
 use std::net::TcpStream;
 use std::time::Duration;
 use std::{io, thread};
+use zvt_session::NetFault;
 use zvt_tcp::{Door, SILENCE_SECONDS, connect, listen};
-use zvt_tool::NetFault;
 
 /// The source of a script's connections.
 #[derive(Drop)]

@@ -5,7 +5,10 @@ ghost use Rattle.zvt_tool.specs.Statuses.{status_of_end_fault, status_of_found, 
 use crate::reports::{report, report_on};
 use std::fmt::Display;
 use std::io;
-use zvt_tool::{AuditSummary, EndFault, TraceFault, statuses};
+use zvt_audit::AuditSummary;
+use zvt_session::EndFault;
+use zvt_tool::statuses;
+use zvt_trace::TraceFault;
 
 /// The exit status of a command on a trace, which may check that no payment is unclear. A fault is reported, with the
 /// file if there is one. Text that was not written since its reader disconnected is no fault to report.

@@ -7,13 +7,16 @@ use crate::reports::{NO_TRACE, report, report_failed};
 use std::alloc::{AllocError, Global};
 use std::fs::File;
 use std::io::{self, IsTerminal, Write};
+use zvt_audit::{AuditSummary, Sum};
 use zvt_io::{Over, Sink, Source};
+use zvt_json::Form;
 use zvt_text::Text;
-use zvt_tool::command::{TraceCommand, TraceWork, form_by};
 use zvt_tool::label::Label;
 use zvt_tool::on_trace::{follow_work, work_on_trace};
+use zvt_tool::options::form_by;
 use zvt_tool::statuses::{DEVICE, DONE, MEMORY, WORDS};
-use zvt_tool::{AuditSummary, Form, Sum, TraceFault, read_trace};
+use zvt_tool::trace_command::{TraceCommand, TraceWork};
+use zvt_trace::{TraceFault, read_trace};
 
 /// A trace of a command: its file, or `-` for standard input, and whether it is one of several.
 #[derive(Clone, Copy)]
@@ -94,10 +97,10 @@ impl Ended {
     }
 }
 
-/// Runs the command on the trace in each of these files, or on standard input if no file is named. Returns the highest
+/// Runs the command on the trace in each of its files, or on standard input if no file is named. Returns the highest
 /// exit status.
-pub fn work_on(rt: &HostRuntime, command: &TraceCommand, files: &[&str]) -> io::Result<u8> {
-    match files {
+pub fn work_on(rt: &HostRuntime, command: &TraceCommand<'_>) -> io::Result<u8> {
+    match command.files.as_slice() {
         [] => work_on_only(rt, command, "-"),
         [file] => work_on_only(rt, command, file),
         _ if command.follow => {
@@ -107,17 +110,17 @@ pub fn work_on(rt: &HostRuntime, command: &TraceCommand, files: &[&str]) -> io::
             )?;
             Ok(WORDS)
         }
-        _ => work_on_all(rt, command, files),
+        files => work_on_all(rt, command, files),
     }
 }
 
 /// Runs the command on the one trace that is named.
-fn work_on_only(rt: &HostRuntime, command: &TraceCommand, file: &str) -> io::Result<u8> {
+fn work_on_only(rt: &HostRuntime, command: &TraceCommand<'_>, file: &str) -> io::Result<u8> {
     Ok(work_on_one(rt, command, Input::new(file, false))?.status)
 }
 
 /// Runs the command on one trace after another. An audit ends with the sum of all.
-fn work_on_all(rt: &HostRuntime, command: &TraceCommand, files: &[&str]) -> io::Result<u8> {
+fn work_on_all(rt: &HostRuntime, command: &TraceCommand<'_>, files: &[&str]) -> io::Result<u8> {
     let mut progress = Progress::new(rt, files.len());
     let mut sum = Sum::new(files.len());
     let mut status = DONE;
@@ -159,7 +162,11 @@ pub fn write_sum(rt: &HostRuntime, form: Form, sum: &Sum) -> io::Result<u8> {
 }
 
 /// Runs the command on one trace.
-fn work_on_one(rt: &HostRuntime, command: &TraceCommand, input: Input<'_>) -> io::Result<Ended> {
+fn work_on_one(
+    rt: &HostRuntime,
+    command: &TraceCommand<'_>,
+    input: Input<'_>,
+) -> io::Result<Ended> {
     match input.path() {
         None => work_on_input(rt, command, input),
         Some(path) => work_on_file(rt, command, input, path),
@@ -168,7 +175,11 @@ fn work_on_one(rt: &HostRuntime, command: &TraceCommand, input: Input<'_>) -> io
 
 /// Runs the command on the trace of standard input. Where that is a keyboard, standard error reports that a trace is
 /// read.
-fn work_on_input(rt: &HostRuntime, command: &TraceCommand, input: Input<'_>) -> io::Result<Ended> {
+fn work_on_input(
+    rt: &HostRuntime,
+    command: &TraceCommand<'_>,
+    input: Input<'_>,
+) -> io::Result<Ended> {
     let reader = rt.reader();
     if reader.is_terminal() {
         report(
@@ -182,7 +193,7 @@ fn work_on_input(rt: &HostRuntime, command: &TraceCommand, input: Input<'_>) -> 
 /// Runs the command on the trace in this file.
 fn work_on_file(
     rt: &HostRuntime,
-    command: &TraceCommand,
+    command: &TraceCommand<'_>,
     input: Input<'_>,
     path: &str,
 ) -> io::Result<Ended> {
@@ -199,7 +210,7 @@ fn work_on_file(
 /// Runs the command on the trace that the reader brings, as it comes or once it is read.
 fn work_with<R: Source>(
     rt: &HostRuntime,
-    command: &TraceCommand,
+    command: &TraceCommand<'_>,
     input: Input<'_>,
     reader: &mut R,
 ) -> io::Result<Ended> {
@@ -214,7 +225,7 @@ fn work_with<R: Source>(
 /// the fault that ends the command.
 fn follow<R: Source>(
     rt: &HostRuntime,
-    command: &TraceCommand,
+    command: &TraceCommand<'_>,
     input: Input<'_>,
     reader: &mut R,
 ) -> io::Result<Ended> {
@@ -236,7 +247,7 @@ fn follow<R: Source>(
 /// report, the command ends as one that is out of memory.
 fn work_on_whole<R: Source>(
     rt: &HostRuntime,
-    command: &TraceCommand,
+    command: &TraceCommand<'_>,
     input: Input<'_>,
     reader: &mut R,
 ) -> io::Result<Ended> {

@@ -3,12 +3,13 @@
 
 ghost use Rattle.std.specs.Prelude.{Option, List};
 ghost use Rattle.clap.specs.Words.{Row, Text};
-ghost use Rattle.zvt_cli.specs.Chosen.{IsChoiceOf};
+ghost use Rattle.zvt_tool.specs.Chosen.{IsChoiceOf};
 
 mod book;
 mod check;
 mod connections;
 mod ends;
+mod exit;
 mod finish;
 mod inputs;
 mod notes;
@@ -20,20 +21,24 @@ mod reports;
 mod screen;
 mod settings;
 mod tap;
+mod till;
 mod trace_file;
 
+use crate::exit::Exit;
 use crate::reports::report;
 use std::io::ErrorKind;
 use std::process::ExitCode;
 use std::{env, io};
-use zvt_tool::command::{command_on_traces, form_by};
+use zvt_session::StepOptions;
+use zvt_tool::options::form_by;
 use zvt_tool::statuses::{DEVICE, DONE, MEMORY, WORDS};
-use zvt_tool::{Choice, ChoiceFault, StepOptions, TraceFault, choice, with_show};
+use zvt_tool::{Choice, ChoiceFault, choice, with_show};
+use zvt_trace::TraceFault;
 
 fn main(rt: HostRuntime) -> ExitCode {
     match run(&rt) {
-        Ok(status) => ExitCode::from(status),
-        Err(error) => ExitCode::from(failed(&rt, &error)),
+        Ok(status) | Err(Exit::Status(status)) => ExitCode::from(status),
+        Err(Exit::Failed(error)) => ExitCode::from(failed(&rt, &error)),
     }
 }
 
@@ -47,23 +52,23 @@ fn failed(rt: &HostRuntime, error: &io::Error) -> u8 {
     MEMORY
 }
 
-/// The exit status. An `Err` is a failed write of help or of a report.
-fn run(rt: &HostRuntime) -> io::Result<u8> {
+/// Does what the arguments say, and answers the exit status.
+fn run(rt: &HostRuntime) -> Result<u8, Exit> {
     let arguments = match env::args(rt) {
         Ok(arguments) => arguments,
-        Err(error) => return without_arguments(rt, &error),
+        Err(error) => return Ok(without_arguments(rt, &error)?),
     };
     let arguments: Vec<String> = match arguments.collect(rt.alloc()) {
         Ok(arguments) => arguments,
-        Err(_) => return without_memory(rt),
+        Err(_) => return Ok(without_memory(rt)?),
     };
     let texts: Vec<&str> = match arguments.iter().map(String::as_str).collect(rt.alloc()) {
         Ok(texts) => texts,
-        Err(_) => return without_memory(rt),
+        Err(_) => return Ok(without_memory(rt)?),
     };
     let texts = match with_show(rt.alloc(), texts.as_slice()) {
         Ok(texts) => texts,
-        Err(_) => return without_memory(rt),
+        Err(_) => return Ok(without_memory(rt)?),
     };
     match choice(rt.alloc(), texts.as_slice()) {
         Ok(chosen) => execute(rt, &chosen),
@@ -71,7 +76,7 @@ fn run(rt: &HostRuntime) -> io::Result<u8> {
             error.print(rt)?;
             Ok(if error.use_stderr() { WORDS } else { DONE })
         }
-        Err(ChoiceFault::Memory) => without_memory(rt),
+        Err(ChoiceFault::Memory) => Ok(without_memory(rt)?),
     }
 }
 
@@ -91,19 +96,22 @@ fn without_memory(rt: &HostRuntime) -> io::Result<u8> {
 }
 
 /// Executes the command, and answers the exit status.
-fn execute(rt: &HostRuntime, chosen: &Choice<'_>) -> io::Result<u8>
+fn execute(rt: &HostRuntime, chosen: &Choice<'_>) -> Result<u8, Exit>
     requires { (reading : Option (Text × List Row)) × IsChoiceOf reading chosen.now }
 {
-    if let Some((command, files)) = command_on_traces(chosen) {
-        return inputs::work_on(rt, &command, files);
-    }
     match chosen {
+        Choice::Show(command)
+        | Choice::Join(command)
+        | Choice::Normalise(command)
+        | Choice::Audit(command)
+        | Choice::Receipts(command)
+        | Choice::Vectors(command) => Ok(inputs::work_on(rt, command)?),
         Choice::Book {
             files,
             records: true,
             ..
-        } => book::records(rt, files.as_slice()),
-        Choice::Book { files, json, .. } => book::show(rt, files.as_slice(), form_by(*json)),
+        } => Ok(book::records(rt, files.as_slice())?),
+        Choice::Book { files, json, .. } => Ok(book::show(rt, files.as_slice(), form_by(*json))?),
         Choice::Loop {
             trace,
             book,
@@ -117,17 +125,11 @@ fn execute(rt: &HostRuntime, chosen: &Choice<'_>) -> io::Result<u8>
             };
             ends::both_ends(rt, *trace, *book, options, steps.as_slice())
         }
-        Choice::Till(options) => ends::till(rt, options),
+        Choice::Till(options) => till::till(rt, options),
         Choice::Terminal(options) => ends::terminal(rt, options),
         Choice::Tap(options) => tap::tap(rt, options),
         Choice::Play(options) => play::play(rt, options),
         Choice::CheckTill(options) => check::till(rt, options),
         Choice::CheckTerminal(options) => check::terminal(rt, options),
-        Choice::Show(_)
-        | Choice::Join(_)
-        | Choice::Normalise(_)
-        | Choice::Audit(_)
-        | Choice::Receipts(_)
-        | Choice::Vectors(_) => unreachable!(),
     }
 }

@@ -6,16 +6,17 @@ ghost use Rattle.zvt.specs.Notes.{scope_of, faulty_line};
 use crate::inputs::Input;
 use crate::reports::{report, report_tally};
 use std::io::{self, ErrorKind, Write};
+use zvt_audit::AuditSummary;
+use zvt_show::diagnostics::{hint_on, write_notes};
+use zvt_grammar::Lengths;
 use zvt_io::Over;
-use zvt_tool::command::{TraceCommand, TraceWork};
-use zvt_tool::{
-    AuditSummary, Lengths, ListenerError, Scope, Tally, TraceFault, hint_on, write_notes,
-};
+use zvt_tool::trace_command::{TraceCommand, TraceWork};
+use zvt_trace::{ListenerError, Scope, Tally, TraceFault};
 
 /// Reports bad streams, a trace without messages, and directions that may be swapped. Returns whether memory sufficed.
 pub fn report_notes(
     rt: &HostRuntime,
-    command: &TraceCommand,
+    command: &TraceCommand<'_>,
     input: Input<'_>,
     trace: &[u8],
     answer: &Result<AuditSummary, TraceFault>,
@@ -65,7 +66,10 @@ pub fn report_counts(
 }
 
 /// The line of the trace, counted from 1, that can't be read, if that is why the command ended.
-pub fn faulty_line(command: &TraceCommand, answer: &Result<AuditSummary, TraceFault>) -> Option<u64>
+pub fn faulty_line(
+    command: &TraceCommand<'_>,
+    answer: &Result<AuditSummary, TraceFault>,
+) -> Option<u64>
     ensures { result ≡ faulty_line command.now answer.now }
 {
     match answer {
@@ -91,7 +95,7 @@ pub fn report_hint(
 }
 
 /// What the command does not read after a refusal, if it reads messages of a line.
-fn scope_of(command: &TraceCommand) -> Option<Scope>
+fn scope_of(command: &TraceCommand<'_>) -> Option<Scope>
     ensures { result ≡ scope_of command.now }
 {
     match command.work {

@@ -6,8 +6,8 @@ ghost use Rattle.zvt.specs.Output.{explained};
 use std::alloc::Global;
 use std::io::{self, ErrorKind, Write};
 use zvt_text::Text;
-use zvt_tool::TraceFault;
 use zvt_tool::label::Label;
+use zvt_trace::TraceFault;
 
 /// A writer that remembers whether its reader disconnected, as the reader of a pipe may. With a label, each line that
 /// is written begins with it.

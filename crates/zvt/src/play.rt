@@ -4,6 +4,7 @@ use crate::connections::{
     CONNECTION_SECONDS, FIRST_SECONDS, Place, limit_reads, next_connection, next_within, place_at,
     report_address,
 };
+use crate::exit::Exit;
 use crate::finish::{finish_run, finish_trace};
 use crate::inputs::opened;
 use crate::reports::{NO_TRACE, report, report_failed, report_on};
@@ -15,12 +16,13 @@ use zvt_play::{
     Action, Difference, Names, ScriptFault, ScriptStep, Unplayed, difference_text, listen_on,
     script, stay_silent, surplus_text,
 };
+use zvt_session::{EndFault, NetFault};
 use zvt_stream::{Endpoint, Stream};
 use zvt_tcp::SILENCE_SECONDS;
 use zvt_text::Text;
+use zvt_tool::PlayOptions;
 use zvt_tool::statuses::{BAD, DEVICE, DONE, MEMORY, TRACE, WORDS};
-use zvt_tool::{EndFault, NetFault, PlayOptions, read_trace};
-use zvt_trace::Direction;
+use zvt_trace::{Direction, read_trace};
 
 /// How the play of a script ended.
 #[derive(Drop)]
@@ -39,7 +41,7 @@ pub enum Played {
 type LineEnd<'a> = Endpoint<Over<&'a TcpStream>, Over<&'a TcpStream>>;
 
 /// Plays one side of a trace and returns the exit status. Reads the whole trace before it opens a connection.
-pub fn play(rt: &HostRuntime, options: &PlayOptions<'_>) -> io::Result<u8> {
+pub fn play(rt: &HostRuntime, options: &PlayOptions<'_>) -> Result<u8, Exit> {
     let (own, path) = match (options.till, options.terminal) {
         (Some(path), None) => (Direction::FromTill, path),
         (None, Some(path)) => (Direction::FromTerminal, path),
@@ -55,21 +57,15 @@ pub fn play(rt: &HostRuntime, options: &PlayOptions<'_>) -> io::Result<u8> {
         report(rt, wrong)?;
         return Ok(WORDS);
     }
-    let text = match read_text(rt, path)? {
-        Ok(text) => text,
-        Err(status) => return Ok(status),
-    };
-    let steps = match script_of(rt, path, own, text.as_slice())? {
-        Ok(steps) => steps,
-        Err(status) => return Ok(status),
-    };
+    let text = read_text(rt, path)?;
+    let steps = script_of(rt, path, own, text.as_slice())?;
     let mut place = match place_at(rt, options.port, options.listen, options.host) {
         Ok(place) => place,
-        Err(why) => return finish_run(rt, false, Err(EndFault::Net(why))),
+        Err(why) => return Ok(finish_run(rt, false, Err(EndFault::Net(why)))?),
     };
     report_address(rt, &place)?;
     let played = play_script(rt, &mut place, own, steps.as_slice(), 0)?;
-    finish_play(rt, played)
+    Ok(finish_play(rt, played)?)
 }
 
 /// What is wrong with where the connections are to come from, if anything is.
@@ -101,33 +97,33 @@ fn finish_play(rt: &HostRuntime, played: Played) -> io::Result<u8> {
     }
 }
 
-/// The text of the trace in this file. A file that can't be read is reported, and the exit status is answered.
-pub fn read_text(rt: &HostRuntime, path: &str) -> io::Result<Result<Vec<u8>, u8>> {
+/// The text of the trace in this file. A file that can't be read is reported.
+pub fn read_text(rt: &HostRuntime, path: &str) -> Result<Vec<u8>, Exit> {
     let file = match opened(rt, path) {
         Ok(file) => file,
         Err(error) => {
             report_failed(rt, path, NO_TRACE, &error)?;
-            return Ok(Err(DEVICE));
+            return Err(Exit::Status(DEVICE));
         }
     };
     match read_trace(rt.alloc(), &mut Over::new(file)) {
-        Ok(text) => Ok(Ok(text)),
-        Err(fault) => Ok(Err(finish_trace(rt, Some(path), false, false, Err(fault))?)),
+        Ok(text) => Ok(text),
+        Err(fault) => Err(Exit::Status(finish_trace(rt, Some(path), false, false, Err(fault))?)),
     }
 }
 
-/// The script of the trace with this text. A line that can't be played is reported, and the exit status is answered.
+/// The script of the trace with this text. A line that can't be played is reported.
 pub fn script_of(
     rt: &HostRuntime,
     path: &str,
     own: Direction,
     text: &[u8],
-) -> io::Result<Result<Vec<ScriptStep>, u8>> {
+) -> Result<Vec<ScriptStep>, Exit> {
     match script(rt.alloc(), own, text) {
-        Ok(steps) => Ok(Ok(steps)),
+        Ok(steps) => Ok(steps),
         Err(fault) => {
             report_on(rt, path, &fault)?;
-            Ok(Err(match fault {
+            Err(Exit::Status(match fault {
                 ScriptFault::Line { .. } => TRACE,
                 ScriptFault::Memory => MEMORY,
             }))

@@ -1,7 +1,7 @@
 //! Reports on standard error: a line each, after the program's name.
 use std::fmt::Display;
 use std::io;
-use zvt_tool::Tally;
+use zvt_trace::Tally;
 
 /// The expected form of a terminal's port.
 pub const TERMINAL_PORT: &str = "give the port that the terminal listens at";

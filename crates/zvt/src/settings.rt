@@ -6,8 +6,10 @@ ghost use Rattle.zvt.specs.Settings.{AreSettings, named, verdict_named};
 use crate::reports::report_invalid;
 use std::io;
 use zvt_bcd::Currency;
+use zvt_session::{config_of, currency_of, password_of, result_code};
 use zvt_term::Verdict;
-use zvt_tool::{TillOptions, TillSettings, config_of, currency_of, password_of, result_code};
+use zvt_till::TillSettings;
+use zvt_tool::TillOptions;
 
 /// The settings that the words name. A setting without a word is the default one. The first wrong word is reported.
 pub fn settings(rt: &HostRuntime, options: &TillOptions<'_>) -> io::Result<Option<TillSettings>>

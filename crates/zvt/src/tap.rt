@@ -1,4 +1,5 @@
 //! A tap between a till and its terminal, as the command line asks for it.
+use crate::exit::Exit;
 use crate::output::Output;
 use crate::reports::{report, report_invalid, report_tally};
 use crate::screen::Screen;
@@ -9,13 +10,14 @@ use std::io::{self, ErrorKind, Write};
 use std::net::TcpStream;
 use std::thread;
 use std::time::Duration;
+use zvt_grammar::Lengths;
 use zvt_io::Over;
 use zvt_tap::{Found, SocketTapped, TapFault, TapLog, Tracing, tap_sockets};
 use zvt_tcp::{Door, SILENCE_SECONDS, connect, listen};
-use zvt_tool::command::{connections_by, lengths_by};
+use zvt_tool::TapOptions;
+use zvt_tool::options::{connections_by, lengths_by};
 use zvt_tool::statuses::{BAD, DEVICE, DONE, MEMORY, WORDS};
-use zvt_tool::{Lengths, Tally, TapOptions, TraceFault};
-use zvt_trace::Direction;
+use zvt_trace::{Direction, Tally, TraceFault};
 
 /// The file descriptor of standard output.
 const STANDARD_OUTPUT: i32 = 1;
@@ -68,7 +70,7 @@ struct TraceFile<'a> {
 }
 
 /// Forwards one connection after another between tills and a terminal, and returns the highest exit status.
-pub fn tap(rt: &HostRuntime, options: &TapOptions<'_>) -> io::Result<u8> {
+pub fn tap(rt: &HostRuntime, options: &TapOptions<'_>) -> Result<u8, Exit> {
     let Some(from) = Address::here(options.listen) else {
         let expected = "expected PORT or HOST:PORT, e.g. 20007";
         report_invalid(rt, "address", options.listen, expected)?;
@@ -82,10 +84,7 @@ pub fn tap(rt: &HostRuntime, options: &TapOptions<'_>) -> io::Result<u8> {
             return Ok(WORDS);
         }
     };
-    let file = match trace_file::opened(rt, options.trace)? {
-        Ok(file) => file,
-        Err(status) => return Ok(status),
-    };
+    let file = trace_file::opened(rt, options.trace)?;
     let mut trace = TraceFile {
         file: file.as_ref(),
         required: options.trace_required,

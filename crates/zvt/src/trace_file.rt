@@ -1,4 +1,5 @@
 //! The file that the trace of a run goes to.
+use crate::exit::Exit;
 use crate::reports::{report_failed, report_on};
 use std::fs::{File, OpenOptions};
 use std::io::{self, Read, Seek, SeekFrom, Write};
@@ -17,10 +18,10 @@ const A_BOOK: &str =
 
 /// The file of a trace, if one is named. The trace is appended to the file, after a `!` for the lost connection. A
 /// line that a full disk or a crash left unfinished at the end of the file is cut off first. Both are reported. A file
-/// that can't be written, and one that is a journal, is reported, and the exit status is answered.
-pub fn opened(rt: &HostRuntime, path: Option<&str>) -> io::Result<Result<Option<File>, u8>> {
+/// that can't be written, and one that is a journal, is reported.
+pub fn opened(rt: &HostRuntime, path: Option<&str>) -> Result<Option<File>, Exit> {
     let Some(path) = path else {
-        return Ok(Ok(None));
+        return Ok(None);
     };
     match open(rt, path) {
         Ok(
@@ -36,15 +37,15 @@ pub fn opened(rt: &HostRuntime, path: Option<&str>) -> io::Result<Result<Option<
             if is_appended {
                 report_on(rt, path, "the trace goes behind what this file has")?;
             }
-            Ok(Ok(Some(file)))
+            Ok(Some(file))
         }
         Ok(None) => {
             report_on(rt, path, A_BOOK)?;
-            Ok(Err(TRACE))
+            Err(Exit::Status(TRACE))
         }
         Err(error) => {
             report_failed(rt, path, "cannot create the trace file", &error)?;
-            Ok(Err(DEVICE))
+            Err(Exit::Status(DEVICE))
         }
     }
 }

@@ -1,70 +1,46 @@
--- The commands on traces, and what options mean.
-use Rattle.std.specs.Prelude.{◌==◌, if◌then◌else◌, ℕ, Bool, true, false, Option, Some, None}
-use Rattle.zvt_cli.specs.declared.choice.Choice.{Choice}
-use Rattle.zvt_cli.specs.declared.choice.Choice.TheVariants as choice
-use Rattle.zvt_cli.specs.declared.choice.TraceOptions.{TraceOptions}
-use Rattle.zvt_grammar.specs.declared.lengths.Lengths.{Lengths}
-use Rattle.zvt_grammar.specs.declared.lengths.Lengths.TheVariants.{Shortest, Padded}
-use Rattle.zvt_show.specs.declared.render.Style.{Style}
-use Rattle.zvt_show.specs.declared.render.Style.TheVariants.{Show, Join, Receipts, Json, JsonReceipts}
-use Rattle.zvt_json.specs.declared.form.Form.{Form}
-use Rattle.zvt_json.specs.declared.form.Form.TheVariants.{Text}
-use Rattle.zvt_json.specs.declared.form.Form.TheVariants as form
-use Rattle.zvt_trace.specs.declared.listener.Scope.{Scope}
-use Rattle.zvt_trace.specs.declared.listener.Scope.TheVariants.{OneMessage, OneSide}
-use Rattle.zvt_tool.specs.declared.command.TraceCommand.{TraceCommand}
-use Rattle.zvt_tool.specs.declared.command.TraceWork.{TraceWork}
-use Rattle.zvt_tool.specs.declared.command.TraceWork.TheVariants.{Render, Audit, Vectors}
+-- The program and its commands, as `clap` sees them.
+use Rattle.std.specs.Prelude.{[], ◌∷◌, List, codes, true}
+use Rattle.clap.specs.Simple.{on_top}
+use Rattle.clap.specs.Words.{App, new_app, with_subcommand}
+use Rattle.zvt_tool.specs.BookOptions.{book_app, loop_app}
+use Rattle.zvt_tool.specs.PlayOptions.{check_app, play_app}
+use Rattle.zvt_tool.specs.TapOptions.{tap_app}
+use Rattle.zvt_tool.specs.TerminalOptions.{terminal_app}
+use Rattle.zvt_tool.specs.TillOptions.{till_app}
+use Rattle.zvt_tool.specs.TraceCommands.{audit_app, join_app, normalise_app, receipts_app, show_app, vectors_app}
 
-abbrev pub lengths_by : (loose : Bool) → Lengths
-lengths_by false = Shortest
-lengths_by true = Padded
+-- the program, which has a version, without its commands
+abbrev pub program_app : App
+program_app = on_top (λ top. record top { has_version = true }) (new_app (codes "zvt"))
 
-abbrev pub style_by : (plain objects : Style) → (is_json : Bool) → Style
-style_by plain objects false = plain
-style_by plain objects true = objects
+-- with one more command
+abbrev pub with_command : App → App → App
+with_command app command = with_subcommand app command.top
 
-abbrev pub form_by : (is_json : Bool) → Form
-form_by false = Text
-form_by true = form.Json
+-- with these commands besides
+abbrev pub with_commands : App → List App → App
+with_commands app [] = app
+with_commands app (command ∷ commands) = with_commands (with_command app command) commands
 
--- how many connections are taken: 0 stands for no end
-abbrev pub connections_by : ℕ → ℕ
-connections_by number = if number == 0 then 18446744073709551615 else number
+-- the commands of the program
+abbrev pub all_commands : List App
+all_commands =
+    show_app ∷
+    join_app ∷
+    normalise_app ∷
+    audit_app ∷
+    receipts_app ∷
+    vectors_app ∷
+    book_app ∷
+    loop_app ∷
+    till_app ∷
+    terminal_app ∷
+    tap_app ∷
+    play_app ∷
+    check_app (codes "check-till") (codes "listen") ∷
+    check_app (codes "check-terminal") (codes "port") ∷
+    []
 
--- each line that is written is a JSON object
-abbrev pub is_json : TraceWork → Bool
-is_json (Render Show) = false
-is_json (Render Join) = false
-is_json (Render Receipts) = false
-is_json (Render Json) = true
-is_json (Render JsonReceipts) = true
-is_json (Audit Text) = false
-is_json (Audit form.Json) = true
-is_json (Vectors Text) = false
-is_json (Vectors form.Json) = true
-
--- what a refusal leaves unread where a text is written: its side, or the refused message alone
-abbrev pub text_scope : (resync : Bool) → Scope
-text_scope false = OneSide
-text_scope true = OneMessage
-
-abbrev pub working : TraceWork → Lengths → TraceOptions → TraceCommand
-working work lengths options = record { work = work; lengths = lengths; check = options.check; follow = options.follow; resync = options.resync }
-
--- what is written of traces, and by which lengths, if the choice is a command on them; `normalise` joins what it reads loosely
-abbrev pub chosen_on_trace : Choice → Option TraceCommand
-chosen_on_trace (choice.Show options) = Some (working (Render (style_by Show Json options.json)) (lengths_by options.loose) options)
-chosen_on_trace (choice.Join options) = Some (working (Render Join) Shortest options)
-chosen_on_trace (choice.Normalise options) = Some (working (Render Join) Padded options)
-chosen_on_trace (choice.Audit options) = Some (working (Audit (form_by options.json)) (lengths_by options.loose) options)
-chosen_on_trace (choice.Receipts options) = Some (working (Render (style_by Receipts JsonReceipts options.json)) (lengths_by options.loose) options)
-chosen_on_trace (choice.Vectors options) = Some (working (Vectors (form_by options.json)) Shortest options)
-chosen_on_trace (choice.Book files objects records) = None
-chosen_on_trace (choice.Loop trace book check objects steps) = None
-chosen_on_trace (choice.Till options) = None
-chosen_on_trace (choice.Terminal options) = None
-chosen_on_trace (choice.Tap options) = None
-chosen_on_trace (choice.Play options) = None
-chosen_on_trace (choice.CheckTill options) = None
-chosen_on_trace (choice.CheckTerminal options) = None
+-- the program with its commands and their options
+abbrev pub zvt_app : App
+zvt_app = with_commands program_app all_commands

@@ -20,7 +20,7 @@ use Rattle.zvt_session.specs.declared.plans.StepOptions.{StepOptions}
 use Rattle.zvt_tcp.specs.Tills.{AnswersService}
 use Rattle.zvt_term.specs.declared.turns.Verdict.{Verdict}
 use Rattle.zvt_vectors.specs.Checked.{AnswersVectors}
-use Rattle.zvt_tool.specs.Commands.{lengths_by}
+use Rattle.zvt_tool.specs.Options.{lengths_by}
 use Rattle.zvt_tool.specs.declared.fault.ToolFault.{ToolFault}
 use Rattle.zvt_tool.specs.declared.fault.ToolFault.TheVariants as tool
 

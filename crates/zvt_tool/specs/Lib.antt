@@ -1,6 +1,16 @@
-pub mod Statuses
+pub mod Given
+pub mod Options
+pub mod TraceCommands
+pub mod BookOptions
+pub mod TillOptions
+pub mod TerminalOptions
+pub mod TapOptions
+pub mod PlayOptions
 pub mod Commands
+pub mod Chosen
+pub mod Paths
 pub mod OnTrace
+pub mod Statuses
 pub mod Labels
 pub mod Verdicts
 pub mod Faults

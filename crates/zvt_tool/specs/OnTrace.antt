@@ -5,10 +5,10 @@ use Rattle.std.specs.Str.Lines.{lines}
 use Rattle.zvt_grammar.specs.Reading.{Reading}
 use Rattle.zvt_grammar.specs.Lengths.{reading_of}
 use Rattle.zvt_trace.specs.declared.listener.Scope.{Scope}
-use Rattle.zvt_tool.specs.Commands.{text_scope}
-use Rattle.zvt_tool.specs.declared.command.TraceCommand.{TraceCommand}
-use Rattle.zvt_tool.specs.declared.command.TraceWork.{TraceWork}
-use Rattle.zvt_tool.specs.declared.command.TraceWork.TheVariants.{Render, Audit, Vectors}
+use Rattle.zvt_tool.specs.TraceCommands.{text_scope}
+use Rattle.zvt_tool.specs.declared.trace_command.TraceCommand.{TraceCommand}
+use Rattle.zvt_tool.specs.declared.trace_command.TraceWork.{TraceWork}
+use Rattle.zvt_tool.specs.declared.trace_command.TraceWork.TheVariants.{Render, Audit, Vectors}
 use Rattle.zvt_audit.specs.Audited.{AnswersFollowed, AnswersReadBy}
 use Rattle.zvt_audit.specs.declared.summary.AuditSummary.{AuditSummary}
 use Rattle.zvt_vectors.specs.Checked.{AnswersVectors}

@@ -1,52 +1,47 @@
 //! The library of the program `zvt`, without its files, sockets and reports.
 //!
-//! - What the program does for a command line: [`command`]. What becomes of an answer: the exit [`statuses`].
+//! - The command line: [`choice`] returns a [`Choice`], and [`with_show`] adds the command to a file alone. Each
+//!   command has its row, its options and their reading in one module, such as `till_options`.
+//! - What becomes of an answer: the exit [`statuses`], and [`ToolFault`].
 //! - What is written: the commands on a trace ([`on_trace`]), a [`label`] before each line, and the [`verdicts`] of
-//! situations.
+//!   situations.
 //! - The commands on what a reader brings: [`show`], [`join`], [`audit`], [`receipts`] and [`vectors`], and their loose
-//! forms.
+//!   forms.
 //! - The runs of steps that words name: [`run_loop`], [`run_till`] and [`run_terminal`].
-//!
-//! Reexported from other crates:
-//!
-//! - The command line: [`choice`] returns a [`Choice`], and [`with_show`] adds the command to a file alone.
-//! - [`write_notes`] reports what is bad in a trace, and [`hint_on`] why a line can't be read. [`follow_trace`] works
-//! on a
-//!   trace while it comes.
-//! - The parts of a run: [`plan`] reads the steps, and `zvt_tcp` runs them with options.
-//! - The faults: [`ChoiceFault`] of the arguments, [`TraceFault`] of a command on a trace, and [`EndFault`] of a run.
-//!   [`ToolFault`] is one type over the last two.
 #![tactic(auto)]
 
-pub mod command;
+mod arguments;
+mod book_options;
+mod choices;
+mod commands;
 mod fault;
+mod given;
+mod help;
 pub mod label;
 pub mod on_trace;
+pub mod options;
+mod paths;
+mod play_options;
 mod runs;
 pub mod statuses;
+mod tap_options;
+mod terminal_options;
+mod till_options;
+pub mod trace_command;
 mod traces;
 pub mod verdicts;
 
+pub use arguments::choice;
+pub use choices::{Choice, ChoiceFault};
 pub use fault::ToolFault;
+pub use paths::with_show;
+pub use play_options::{CheckOptions, PlayOptions};
 pub use runs::{run_loop, run_terminal, run_till};
+pub use tap_options::TapOptions;
+pub use terminal_options::TerminalOptions;
+pub use till_options::TillOptions;
+pub use trace_command::TraceCommand;
 pub use traces::{
     audit, audit_loose, join, normalise_trace, receipts, receipts_loose, show, show_loose, vectors,
 };
-pub use zvt_audit::{AuditSummary, Sum};
-pub use zvt_cli::arguments::choice;
-pub use zvt_cli::{
-    CheckOptions, Choice, ChoiceFault, PlayOptions, TapOptions, TerminalOptions, TillOptions,
-    with_show,
-};
-pub use zvt_show::diagnostics::{hint_on, write_notes};
-pub use zvt_grammar::Lengths;
-pub use zvt_journal::{FileDevice, FileFailure, JournalFileError, Opened, open_file, read_book};
-pub use zvt_json::Form;
-pub use zvt_kept::{KeptTill, Recovered, RecoveryError, recover};
-pub use zvt_session::{
-    EndFault, Ends, NetFault, Planned, StepOptions, config_of, currency_of, password_of, plan,
-    result_code, write_book, write_records,
-};
-pub use zvt_show::follow_trace;
-pub use zvt_till::TillSettings;
-pub use zvt_trace::{ListenerError, Scope, Tally, TraceFault, next_line, read_trace};
+pub use zvt_trace::Tally;

@@ -3,7 +3,7 @@ ghost use Rattle.std.specs.Prelude.{◌≡◌, ◌<◌, ◌≤◌, false, length
 ghost use Rattle.zvt_trace.specs.Written.{limit};
 ghost use Rattle.zvt_tool.specs.OnTrace.{AnswersOnTrace, FollowsTrace, tally_of};
 
-use crate::command::{TraceCommand, TraceWork};
+use crate::trace_command::{TraceCommand, TraceWork};
 use std::alloc::Global;
 use zvt_audit::{AuditSummary, audit_trace, follow_audit};
 use zvt_io::{Over, Sink, Source};
@@ -14,7 +14,7 @@ use zvt_vectors::vectors;
 /// Executes the command on the trace and writes its output.
 pub fn work_on_trace<W: Sink>(
     alloc: Global,
-    command: &TraceCommand,
+    command: &TraceCommand<'_>,
     trace: &[u8],
     writer: &mut W,
 ) -> Result<AuditSummary, TraceFault>
@@ -36,7 +36,7 @@ pub fn work_on_trace<W: Sink>(
 /// Does with the trace that the reader brings what the command says, while the trace comes. Vectors are read whole.
 pub fn follow_work<R: Source, W: Sink>(
     alloc: Global,
-    command: &TraceCommand,
+    command: &TraceCommand<'_>,
     reader: &mut R,
     writer: &mut W,
 ) -> Result<AuditSummary, TraceFault>

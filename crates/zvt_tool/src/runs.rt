@@ -7,21 +7,18 @@ ghost use Rattle.zvt_session.specs.TillEnd.{BeginsThere, MakesThereAlone};
 ghost use Rattle.zvt_session.specs.declared.arguments.Ends.TheVariants.{Both, Till};
 ghost use Rattle.zvt_tcp.specs.OverTcp.{AnswersRun};
 ghost use Rattle.zvt_till.specs.Events.{run_settings};
-ghost use Rattle.zvt_tool.specs.Commands.{lengths_by};
+ghost use Rattle.zvt_tool.specs.Options.{lengths_by};
 ghost use Rattle.zvt_tool.specs.Faults.{MakesWords, ServesOne, plain};
 
-use crate::command::lengths_by;
 use crate::fault::{ToolFault, in_run};
+use crate::options::lengths_by;
 use std::alloc::Global;
 use std::net::{Net, TcpListener, TcpStream};
 use zvt_io::{Failed, Sink};
 use zvt_json::Form;
 use zvt_session::{EndFault, Ends, NoNotes, StepOptions, plan};
-use zvt_tcp::{LoopRun, TerminalRun, TillRun};
+use zvt_tcp::{LoopRun, SILENCE_SECONDS, TerminalRun, TillRun};
 use zvt_term::Verdict;
-
-/// How many seconds a till waits for the connection, and for each message.
-const WAIT: u16 = 60;
 
 /// Where a terminal listens.
 const LOCAL_HOST: &str = "127.0.0.1";
@@ -81,7 +78,7 @@ where
 }
 
 /// Connects a till to its terminal and runs the steps that the words name, as [`zvt_tcp::run_till`] does. The till has
-/// the default settings and waits for 60 seconds. With `loose` it reads lengths in any form that holds them.
+/// the default settings and timeout. With `loose` it reads lengths in any form that holds them.
 ///
 /// `BadStep` and `Net` come before anything is written.
 pub fn run_till<R, W>(
@@ -109,7 +106,7 @@ where
     let run = TillRun {
         host,
         port,
-        seconds: WAIT,
+        seconds: SILENCE_SECONDS,
         lengths: lengths_by(loose),
         trace: None,
         show: None,

@@ -1,5 +1,0 @@
-pub mod Commands
-pub mod Lacking
-pub mod Settings
-pub mod Program
-pub mod Reading

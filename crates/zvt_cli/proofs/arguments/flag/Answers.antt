@@ -1,9 +1,0 @@
-use Rattle.std.proofs.Common.{◌∙◌}
-use Rattle.clap.specs.Matches.{found_of}
-use Rattle.clap.proofs.WalkLemmas.{one_text-rows}
-use Rattle.zvt_cli.proofs.arguments.flag.Goals as goal
-
-pub returns : goal.returns
-returns c =
-    let rows = one_text-rows (found_of c.args.inner.now) c.args.id.now in
-    (λ e. c.get_flag.ensures.none (rows ∙ e), λ e. c.get_flag.ensures.value (rows ∙ e), λ e. c.get_flag.ensures.other (rows ∙ e))

@@ -1,0 +1,102 @@
+-- The commands on traces.
+use Rattle.std.specs.Prelude.{◌≡◌, ◌∷◌, [], Bool, true, false, List, codes, map}
+use Rattle.clap.specs.Words.{App, Row, Rule}
+use Rattle.zvt_grammar.specs.declared.lengths.Lengths.{Lengths}
+use Rattle.zvt_grammar.specs.declared.lengths.Lengths.TheVariants.{Shortest}
+use Rattle.zvt_show.specs.declared.render.Style.{Style}
+use Rattle.zvt_show.specs.declared.render.Style.TheVariants.{Show, Join, Receipts, Json, JsonReceipts}
+use Rattle.zvt_json.specs.declared.form.Form.TheVariants as form
+use Rattle.zvt_trace.specs.declared.listener.Scope.{Scope}
+use Rattle.zvt_trace.specs.declared.listener.Scope.TheVariants.{OneMessage, OneSide}
+use Rattle.zvt_tool.specs.Given.{IsByFlag, IsFlagOf, words_of}
+use Rattle.zvt_tool.specs.Options.{command_app, flag_rule, form_by, lengths_by, several_rule}
+use Rattle.zvt_tool.specs.declared.trace_command.TraceCommand.{TraceCommand}
+use Rattle.zvt_tool.specs.declared.trace_command.TraceWork.{TraceWork}
+use Rattle.zvt_tool.specs.declared.trace_command.TraceWork.TheVariants.{Render, Audit, Vectors}
+
+abbrev pub style_by : (plain objects : Style) → (is_json : Bool) → Style
+style_by plain objects false = plain
+style_by plain objects true = objects
+
+-- each line that is written is a JSON object
+abbrev pub is_json : TraceWork → Bool
+is_json (Render Show) = false
+is_json (Render Join) = false
+is_json (Render Receipts) = false
+is_json (Render Json) = true
+is_json (Render JsonReceipts) = true
+is_json (Audit form.Text) = false
+is_json (Audit form.Json) = true
+is_json (Vectors form.Text) = false
+is_json (Vectors form.Json) = true
+
+-- what a refusal leaves unread where a text is written: its side, or the refused message alone
+abbrev pub text_scope : (resync : Bool) → Scope
+text_scope false = OneSide
+text_scope true = OneMessage
+
+-- ---- the options
+
+-- the traces of a command line
+abbrev pub files_rule : Rule
+files_rule = several_rule (codes "file")
+
+abbrev pub show_app : App
+show_app = command_app (codes "show") (
+    files_rule ∷
+    flag_rule (codes "loose") ∷
+    flag_rule (codes "json") ∷
+    flag_rule (codes "follow") ∷
+    flag_rule (codes "resync") ∷
+    [])
+
+abbrev pub join_app : App
+join_app = command_app (codes "join") (files_rule ∷ flag_rule (codes "follow") ∷ [])
+
+abbrev pub normalise_app : App
+normalise_app = command_app (codes "normalise") (files_rule ∷ [])
+
+abbrev pub audit_app : App
+audit_app = command_app (codes "audit") (
+    files_rule ∷
+    flag_rule (codes "loose") ∷
+    flag_rule (codes "check") ∷
+    flag_rule (codes "json") ∷
+    flag_rule (codes "follow") ∷
+    [])
+
+abbrev pub receipts_app : App
+receipts_app = command_app (codes "receipts") (
+    files_rule ∷
+    flag_rule (codes "loose") ∷
+    flag_rule (codes "json") ∷
+    flag_rule (codes "follow") ∷
+    [])
+
+abbrev pub vectors_app : App
+vectors_app = command_app (codes "vectors") (files_rule ∷ flag_rule (codes "json") ∷ [])
+
+-- ---- what the words give
+
+-- the files and flags that the words give; a flag that the command doesn't have is not set
+pub record IsTraceCommandOf (rows : List Row) (writes : TraceWork) (reads : Lengths) (command : TraceCommand) : Type 0 where
+  pub files : map (λ file. file.now) command.files.items ≡ words_of (codes "file") rows
+  pub work : command.work ≡ writes
+  pub lengths : command.lengths ≡ reads
+  pub check : IsFlagOf (codes "check") rows command.check
+  pub follow : IsFlagOf (codes "follow") rows command.follow
+  pub resync : IsFlagOf (codes "resync") rows command.resync
+
+-- by `--json` and `--loose`
+abbrev pub IsByForm : List Row → (Bool → TraceWork) → TraceCommand → Type 0
+IsByForm rows work command = IsByFlag (codes "json") rows (λ json. IsByFlag (codes "loose") rows (λ loose. IsTraceCommandOf rows (work json) (lengths_by loose) command))
+
+-- this text, or these objects of JSON
+abbrev pub IsRendering : List Row → (plain objects : Style) → TraceCommand → Type 0
+IsRendering rows plain objects = IsByForm rows (λ json. Render (style_by plain objects json))
+
+abbrev pub IsAudit : List Row → TraceCommand → Type 0
+IsAudit rows = IsByForm rows (λ json. Audit (form_by json))
+
+abbrev pub IsVectors : List Row → TraceCommand → Type 0
+IsVectors rows command = IsByFlag (codes "json") rows (λ json. IsTraceCommandOf rows (Vectors (form_by json)) Shortest command)

@@ -1,0 +1,100 @@
+//! The options of `terminal`.
+ghost use Rattle.std.specs.Prelude.{◌≡◌, codes, Some};
+ghost use Rattle.clap.specs.Words.{found_of, rows_of};
+ghost use Rattle.zvt_tool.specs.Chosen.{MayBeChoiceOf};
+ghost use Rattle.zvt_tool.specs.Options.{app_for};
+ghost use Rattle.zvt_tool.specs.Given.{IsNumberOf};
+ghost use Rattle.zvt_tool.specs.TerminalOptions.{terminal_app};
+
+use crate::choices::Choice;
+use crate::given::{flag, number, text};
+use crate::help;
+use crate::options::{CommandOption, CommandRow};
+use clap::ArgMatches;
+
+const LARGEST_TID: u32 = 99_999_999;
+
+/// The options of `terminal`.
+#[derive(Clone, Copy)]
+pub struct TerminalOptions<'a> {
+    pub port: u16,
+    /// The host is 127.0.0.1 unless one is given.
+    pub host: &'a str,
+    /// The terminal's number is at most 99,999,999. It is 12345678 unless one is given.
+    pub tid: u32,
+    /// The number of connections: 1 by default, and 0 for any number.
+    pub connections: u16,
+    pub decline: Option<&'a str>,
+    pub trace: Option<&'a str>,
+    /// Whether lengths are read in any form that holds them.
+    pub loose: bool,
+    /// Whether the reports are JSON, on standard output.
+    pub json: bool,
+}
+
+/// The row of `terminal`: its options and help.
+pub fn terminal_row() -> CommandRow<'static>
+    ensures { app_for result ≡ terminal_app }
+{
+    CommandRow {
+        name: "terminal",
+        about: "Simulate a terminal that approves or declines payments",
+        more: "Example:
+  zvt terminal --port 20007 --decline 6C",
+        options: &[
+            CommandOption::NeededPort(
+                "port",
+                "TCP port to listen on; 0 picks a free one and prints it",
+            ),
+            CommandOption::Host("Address to listen on"),
+            CommandOption::Tid("Terminal number, at most 99999999"),
+            CommandOption::Number(
+                "connections",
+                "N",
+                "1",
+                "Serve N tills one after another, then exit; 0 for no end. Other tills wait meanwhile. The \
+                    ledger is kept between tills.",
+            ),
+            CommandOption::Value(
+                "decline",
+                "XX",
+                "Decline every payment with this code: two hexadecimal digits, not 00",
+            ),
+            CommandOption::Value("trace", "FILE", help::TRACE),
+            CommandOption::Flag("loose", "Accept padded lengths, as some tills send them"),
+            CommandOption::Flag(
+                "json",
+                "Print one JSON object per line on standard output, instead of the reports on standard error",
+            ),
+        ],
+    }
+}
+
+/// What the words give `terminal`.
+pub fn read_terminal<'a>(inner: &ArgMatches<'a>) -> Option<Choice<'a>>
+    ensures { MayBeChoiceOf (Some (codes "terminal", rows_of (found_of inner.now))) result }
+{
+    let port = number(inner, "port")?;
+    let host = text(inner, "host")?;
+    let tid = tid(inner)?;
+    let connections = number(inner, "connections")?;
+    Some(Choice::Terminal(TerminalOptions {
+        port,
+        host,
+        tid,
+        connections,
+        decline: text(inner, "decline"),
+        trace: text(inner, "trace"),
+        loose: flag(inner, "loose"),
+        json: flag(inner, "json"),
+    }))
+}
+
+/// The number of a terminal.
+fn tid(inner: &ArgMatches<'_>) -> Option<u32>
+    ensures { IsNumberOf (codes "tid") (rows_of (found_of inner.now)) 99999999 result }
+{
+    let tid = inner.get_one::<u32>("tid")?;
+    // `clap` has checked this already; the contract rests on the test here.
+    if tid <= LARGEST_TID { Some(tid) } else { None }
+}

@@ -1,0 +1,134 @@
+//! The options of `till`.
+ghost use Rattle.std.specs.Prelude.{◌≡◌, codes, IfOk, Some};
+ghost use Rattle.clap.specs.Words.{found_of, rows_of};
+ghost use Rattle.zvt_tool.specs.Chosen.{MayBeChoiceOf};
+ghost use Rattle.zvt_tool.specs.Options.{app_for};
+ghost use Rattle.zvt_tool.specs.TillOptions.{till_app};
+
+use crate::choices::Choice;
+use crate::given::{flag, number, text, words};
+use crate::help;
+use crate::options::{CommandOption, CommandRow};
+use clap::ArgMatches;
+use std::alloc::{AllocError, Global};
+
+/// The options and the steps of `till`.
+#[derive(Drop)]
+pub struct TillOptions<'a> {
+    pub port: u16,
+    /// The host is 127.0.0.1 unless one is given.
+    pub host: &'a str,
+    pub password: Option<&'a str>,
+    pub config: Option<&'a str>,
+    pub currency: Option<&'a str>,
+    /// The timeout in seconds. The parser accepts 0; the program rejects it.
+    pub timeout: u16,
+    pub trace: Option<&'a str>,
+    pub book: Option<&'a str>,
+    /// Whether a step that does not succeed is a fault.
+    pub check: bool,
+    /// Whether the messages of the terminal are shown.
+    pub show: bool,
+    /// Whether lengths are read in any form that holds them.
+    pub loose: bool,
+    /// Whether the output is JSON.
+    pub json: bool,
+    pub steps: Vec<&'a str>,
+}
+
+/// The options of `till`, in the order of its help.
+const OPTIONS: [CommandOption<'static>; 13] = [
+    CommandOption::NeededPort("port", "TCP port of the terminal"),
+    CommandOption::Host("Host name or address of the terminal"),
+    CommandOption::Value(
+        "password",
+        "NNNNNN",
+        "Password of the terminal, six digits (default 000000)",
+    ),
+    CommandOption::Value(
+        "config",
+        "XX",
+        "Configuration byte of the registration, two hexadecimal digits (default BE)",
+    ),
+    CommandOption::Value(
+        "currency",
+        "NNNN",
+        "ISO 4217 currency number, four digits (default 0978, the euro)",
+    ),
+    CommandOption::Number(
+        "timeout",
+        "SECONDS",
+        "60",
+        "Give up if connecting, or waiting for a message of the terminal, takes longer: 1 to 65535 \
+            seconds",
+    ),
+    CommandOption::Value("trace", "FILE", help::TRACE),
+    CommandOption::Value("book", "FILE", help::KEEP_BOOK),
+    CommandOption::Flag("check", help::CHECK_STEPS),
+    CommandOption::Flag(
+        "show",
+        "Print each message from the terminal on standard error as soon as it has arrived",
+    ),
+    CommandOption::Flag(
+        "loose",
+        "Accept padded lengths. Use this only for terminals known to send them.",
+    ),
+    CommandOption::Flag("json", help::JSON),
+    CommandOption::Several(
+        "step",
+        "STEP",
+        "register, pay:N, reverse:N or close (see zvt --help)",
+    ),
+];
+
+/// The row of `till`: its options and help.
+pub fn till_row() -> CommandRow<'static>
+    ensures { app_for result ≡ till_app }
+{
+    CommandRow {
+        name: "till",
+        about: "Act as a till: connect to a terminal and run steps",
+        more: "Every connection starts unregistered, also with --book: begin the steps with 'register'.
+Without steps, the till registers and closes the day.
+A payment is 'unclear' if the connection broke, or if the terminal's answers do not add up. It may have been charged:
+check the terminal's journal before you charge the customer again.
+
+Example:
+  zvt till --port 20007 --book day.book --check register pay:1234 close",
+        options: &OPTIONS,
+    }
+}
+
+/// What the words give `till`.
+pub fn read_till<'a>(
+    alloc: Global,
+    inner: &ArgMatches<'a>,
+) -> Result<Option<Choice<'a>>, AllocError>
+    ensures { IfOk result (MayBeChoiceOf (Some (codes "till", rows_of (found_of inner.now)))) }
+{
+    let Some(port) = number(inner, "port") else {
+        return Ok(None);
+    };
+    let Some(host) = text(inner, "host") else {
+        return Ok(None);
+    };
+    let Some(timeout) = number(inner, "timeout") else {
+        return Ok(None);
+    };
+    let steps = words(alloc, inner, "step")?;
+    Ok(Some(Choice::Till(TillOptions {
+        port,
+        host,
+        password: text(inner, "password"),
+        config: text(inner, "config"),
+        currency: text(inner, "currency"),
+        timeout,
+        trace: text(inner, "trace"),
+        book: text(inner, "book"),
+        check: flag(inner, "check"),
+        show: flag(inner, "show"),
+        loose: flag(inner, "loose"),
+        json: flag(inner, "json"),
+        steps,
+    })))
+}

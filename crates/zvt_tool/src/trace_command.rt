@@ -1,0 +1,303 @@
+//! The commands on traces, and on vectors.
+ghost use Rattle.std.specs.Prelude.{◌≡◌, IfOk, []};
+ghost use Rattle.clap.specs.Words.{found_of, rows_of};
+ghost use Rattle.zvt_tool.specs.Options.{app_for, form_by, lengths_by};
+ghost use Rattle.zvt_tool.specs.TraceCommands.{IsAudit, IsRendering, IsTraceCommandOf, IsVectors, audit_app, is_json};
+ghost use Rattle.zvt_tool.specs.TraceCommands.{join_app, normalise_app, receipts_app, show_app, style_by, text_scope};
+ghost use Rattle.zvt_tool.specs.TraceCommands.{vectors_app};
+ghost use Rattle.zvt_tool.specs.declared.trace_command.TraceWork.TheVariants.{Render};
+ghost use Rattle.zvt_show.specs.declared.render.Style.TheVariants.{Show};
+ghost use Rattle.zvt_grammar.specs.declared.lengths.Lengths.TheVariants.{Shortest};
+
+use crate::given::{flag, words};
+use crate::help;
+use crate::options::{CommandOption, CommandRow, form_by, lengths_by};
+use clap::ArgMatches;
+use std::alloc::{AllocError, Global};
+use zvt_grammar::Lengths;
+use zvt_json::Form;
+use zvt_show::Style;
+use zvt_trace::Scope;
+
+/// The output of a command on traces or on vectors.
+#[derive(Clone, Copy)]
+pub enum TraceWork {
+    /// The text of the trace, in this style.
+    Render(Style),
+    /// The books of its payments, in this form.
+    Audit(Form),
+    /// The vectors to which the reader of messages gives another answer, in this form.
+    Vectors(Form),
+}
+
+/// A command on traces: its files, its output, strict or padded lengths, and the options `--check`, `--follow` and
+/// `--resync`. A flag that the command doesn't have is not set.
+#[derive(Drop)]
+pub struct TraceCommand<'a> {
+    /// The traces, in order. No name, or `-`, means standard input.
+    pub files: Vec<&'a str>,
+    pub work: TraceWork,
+    pub lengths: Lengths,
+    /// Whether an unclear payment counts as bad.
+    pub check: bool,
+    /// Whether each line is written as soon as it is read.
+    pub follow: bool,
+    /// Whether a side goes on after a message that is refused.
+    pub resync: bool,
+}
+
+impl<'a> TraceCommand<'a> {
+    /// The command `show` without files or options, which runs where no command is given.
+    pub fn show(alloc: Global) -> TraceCommand<'a>
+        ensures { IsTraceCommandOf [] (Render Show) Shortest result }
+    {
+        TraceCommand {
+            files: Vec::new(alloc),
+            work: TraceWork::Render(Style::Show),
+            lengths: Lengths::Shortest,
+            check: false,
+            follow: false,
+            resync: false,
+        }
+    }
+
+    /// Returns how much input to skip after an invalid message.
+    pub fn scope(&self) -> Scope
+        ensures { result ≡ text_scope self.now.resync }
+    {
+        if self.resync {
+            Scope::OneMessage
+        } else {
+            Scope::OneSide
+        }
+    }
+
+    /// Whether each line that is written is a JSON object.
+    pub fn is_json(&self) -> bool
+        ensures { result ≡ is_json self.now.work }
+    {
+        matches!(
+            self.work,
+            TraceWork::Render(Style::Json | Style::JsonReceipts)
+                | TraceWork::Audit(Form::Json)
+                | TraceWork::Vectors(Form::Json)
+        )
+    }
+}
+
+/// The row of `show`: its options and help.
+pub fn show_row() -> CommandRow<'static>
+    ensures { app_for result ≡ show_app }
+{
+    CommandRow {
+        name: "show",
+        about: "Print each message of a trace with its fields (default)",
+        more: "Example:
+  zvt show payment.trace",
+        options: &[
+            CommandOption::Several("file", "FILE", help::FILES),
+            CommandOption::Flag("loose", help::LOOSE),
+            CommandOption::Flag("json", help::JSON),
+            CommandOption::Flag("follow", help::FOLLOW),
+            CommandOption::Flag(
+                "resync",
+                "Go on after a message that is refused, at the end that its length announces",
+            ),
+        ],
+    }
+}
+
+/// The row of `join`: its options and help.
+pub fn join_row() -> CommandRow<'static>
+    ensures { app_for result ≡ join_app }
+{
+    CommandRow {
+        name: "join",
+        about: "Rewrite a trace with one message per line",
+        more: "Example:
+  zvt join payment.trace",
+        options: &[
+            CommandOption::Several("file", "FILE", help::FILES),
+            CommandOption::Flag("follow", help::FOLLOW),
+        ],
+    }
+}
+
+/// The row of `normalise`: its options and help.
+pub fn normalise_row() -> CommandRow<'static>
+    ensures { app_for result ≡ normalise_app }
+{
+    CommandRow {
+        name: "normalise",
+        about: "Like join, and rewrite padded lengths in their shortest form",
+        more: "Accepts padded lengths, as with --loose. Its output has the shortest lengths only.
+
+Example:
+  zvt normalise padded.trace",
+        options: &[CommandOption::Several("file", "FILE", help::FILES)],
+    }
+}
+
+/// The row of `audit`: its options and help.
+pub fn audit_row() -> CommandRow<'static>
+    ensures { app_for result ≡ audit_app }
+{
+    CommandRow {
+        name: "audit",
+        about: "List the booked and the unclear payments of a trace, and their total",
+        more: "Give each terminal a trace of its own: in one trace, two terminals use each other's trace numbers up.
+
+Example:
+  zvt audit --check shop1.trace shop2.trace",
+        options: &[
+            CommandOption::Several("file", "FILE", help::FILES),
+            CommandOption::Flag("loose", help::LOOSE),
+            CommandOption::Flag("check", "Exit with 1 if a payment is unclear"),
+            CommandOption::Flag("json", help::JSON),
+            CommandOption::Flag(
+                "follow",
+                "Read FILE as it grows, of any size; the books are printed at its end",
+            ),
+        ],
+    }
+}
+
+/// The row of `receipts`: its options and help.
+pub fn receipts_row() -> CommandRow<'static>
+    ensures { app_for result ≡ receipts_app }
+{
+    CommandRow {
+        name: "receipts",
+        about: "Print the receipt lines that the terminal sent",
+        more: "Example:
+  zvt receipts payment.trace",
+        options: &[
+            CommandOption::Several("file", "FILE", help::FILES),
+            CommandOption::Flag("loose", help::LOOSE),
+            CommandOption::Flag("json", help::JSON),
+            CommandOption::Flag("follow", help::FOLLOW),
+        ],
+    }
+}
+
+/// The row of `vectors`: its options and help.
+pub fn vectors_row() -> CommandRow<'static>
+    ensures { app_for result ≡ vectors_app }
+{
+    CommandRow {
+        name: "vectors",
+        about: "Check the message parser against test vectors, and print those that fail",
+        more: "Lines of vectors:
+  HEX = ANSWER  Bytes, and what a reader returns: whole N, more, or refused at P: REASON
+  # TEXT        Comment. Empty lines are ignored.
+
+Example:
+  zvt vectors examples/vectors.txt",
+        options: &[
+            CommandOption::Several("file", "FILE", help::FILES),
+            CommandOption::Flag("json", help::JSON),
+        ],
+    }
+}
+
+/// What the words give `show`.
+pub fn read_show<'a>(alloc: Global, inner: &ArgMatches<'a>) -> Result<TraceCommand<'a>, AllocError>
+    ensures { IfOk result (IsRendering (rows_of (found_of inner.now)) Style.Show Style.Json) }
+{
+    rendering(alloc, inner, Style::Show, Style::Json)
+}
+
+/// What the words give `join`.
+pub fn read_join<'a>(alloc: Global, inner: &ArgMatches<'a>) -> Result<TraceCommand<'a>, AllocError>
+    ensures { IfOk result (IsTraceCommandOf (rows_of (found_of inner.now)) (Render Style.Join) Lengths.Shortest) }
+{
+    on_traces(
+        alloc,
+        inner,
+        TraceWork::Render(Style::Join),
+        Lengths::Shortest,
+    )
+}
+
+/// What the words give `normalise`.
+pub fn read_normalise<'a>(
+    alloc: Global,
+    inner: &ArgMatches<'a>,
+) -> Result<TraceCommand<'a>, AllocError>
+    ensures { IfOk result (IsTraceCommandOf (rows_of (found_of inner.now)) (Render Style.Join) Lengths.Padded) }
+{
+    on_traces(
+        alloc,
+        inner,
+        TraceWork::Render(Style::Join),
+        Lengths::Padded,
+    )
+}
+
+/// What the words give `audit`.
+pub fn read_audit<'a>(alloc: Global, inner: &ArgMatches<'a>) -> Result<TraceCommand<'a>, AllocError>
+    ensures { IfOk result (IsAudit (rows_of (found_of inner.now))) }
+{
+    let work = TraceWork::Audit(form_by(flag(inner, "json")));
+    on_traces(alloc, inner, work, lengths_by(flag(inner, "loose")))
+}
+
+/// What the words give `receipts`.
+pub fn read_receipts<'a>(
+    alloc: Global,
+    inner: &ArgMatches<'a>,
+) -> Result<TraceCommand<'a>, AllocError>
+    ensures { IfOk result (IsRendering (rows_of (found_of inner.now)) Style.Receipts Style.JsonReceipts) }
+{
+    rendering(alloc, inner, Style::Receipts, Style::JsonReceipts)
+}
+
+/// What the words give `vectors`.
+pub fn read_vectors<'a>(
+    alloc: Global,
+    inner: &ArgMatches<'a>,
+) -> Result<TraceCommand<'a>, AllocError>
+    ensures { IfOk result (IsVectors (rows_of (found_of inner.now))) }
+{
+    let work = TraceWork::Vectors(form_by(flag(inner, "json")));
+    on_traces(alloc, inner, work, Lengths::Shortest)
+}
+
+/// A command that writes the text of the traces in one style, or in the other as JSON.
+fn rendering<'a>(
+    alloc: Global,
+    inner: &ArgMatches<'a>,
+    text: Style,
+    json: Style,
+) -> Result<TraceCommand<'a>, AllocError>
+    ensures { IfOk result (IsRendering (rows_of (found_of inner.now)) text json) }
+{
+    let work = TraceWork::Render(style_by(text, json, flag(inner, "json")));
+    on_traces(alloc, inner, work, lengths_by(flag(inner, "loose")))
+}
+
+/// This style of text, or that of JSON.
+fn style_by(text: Style, json: Style, is_json: bool) -> Style
+    ensures { result ≡ style_by text json is_json }
+{
+    if is_json { json } else { text }
+}
+
+/// The files and the flags of a command on traces with this output.
+fn on_traces<'a>(
+    alloc: Global,
+    inner: &ArgMatches<'a>,
+    work: TraceWork,
+    lengths: Lengths,
+) -> Result<TraceCommand<'a>, AllocError>
+    ensures { IfOk result (IsTraceCommandOf (rows_of (found_of inner.now)) work lengths) }
+{
+    Ok(TraceCommand {
+        files: words(alloc, inner, "file")?,
+        work,
+        lengths,
+        check: flag(inner, "check"),
+        follow: flag(inner, "follow"),
+        resync: flag(inner, "resync"),
+    })
+}
