@@ -7,9 +7,9 @@ use crate::inputs::Input;
 use crate::reports::{report, report_tally};
 use std::io::{self, ErrorKind, Write};
 use zvt_audit::AuditSummary;
-use zvt_show::diagnostics::{hint_on, write_notes};
 use zvt_grammar::Lengths;
 use zvt_io::Over;
+use zvt_show::diagnostics::{hint_on, write_notes};
 use zvt_tool::trace_command::{TraceCommand, TraceWork};
 use zvt_trace::{ListenerError, Scope, Tally, TraceFault};
 
