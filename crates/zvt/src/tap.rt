@@ -10,7 +10,7 @@ use std::net::TcpStream;
 use std::thread;
 use std::time::Duration;
 use zvt_io::Over;
-use zvt_tap::{Found, SocketTapped, TapFault, TapLog, Tracing, tap_sockets};
+use zvt_tap::{Found, SocketTapped, TapFault, Tracing, new_log, tap_sockets};
 use zvt_tcp::{Door, SILENCE_SECONDS, connect, listen};
 use zvt_tool::command::{connections_by, lengths_by};
 use zvt_tool::statuses::{BAD, DEVICE, DONE, MEMORY, WORDS};
@@ -198,33 +198,32 @@ fn tap_one<W: Write + Drop>(
     trace: &mut TraceFile<'_>,
     screen: &mut Screen<W>,
 ) -> u8 {
-    let tracing = Tracing {
-        device: Over::new(Noted {
+    let device = trace.file.map(|file| {
+        Over::new(Noted {
             rt,
-            file: trace.file,
+            file,
             required: trace.required,
-        }),
-        failed: trace.failed,
-        required: trace.required,
+        })
+    });
+    let Ok(tracing) = Tracing::new(rt.alloc(), device, trace.failed, trace.required) else {
+        return report_fault(rt, &TraceFault::Memory);
     };
     let (status, failed) = tap_into(rt, till, terminal, lengths, tracing, screen);
     trace.failed = failed;
     if failed { status.max(DEVICE) } else { status }
 }
 
-/// The file of a trace. A failed write is reported at once. Without a file, it accepts all bytes and discards them.
+/// The file of a trace. A failed write is reported at once.
 #[derive(Drop)]
 struct Noted<'a> {
     rt: &'a HostRuntime,
-    file: Option<&'a File>,
+    file: &'a File,
     required: bool,
 }
 
 impl Write for Noted<'_> {
     fn write(&mut self, bytes: &[u8]) -> io::Result<usize> {
-        let Some(mut file) = self.file else {
-            return Ok(bytes.len());
-        };
+        let mut file = self.file;
         let answer = file.write(bytes);
         if let Err(error) = &answer {
             let _ = if self.required {
@@ -254,7 +253,7 @@ fn tap_into<W: Write + Drop>(
 ) -> (u8, bool) {
     let failed = tracing.failed;
     let output = Over::new(Output::new(screen));
-    let Ok(log) = TapLog::new(rt.alloc(), lengths, tracing, output) else {
+    let Ok(log) = new_log(rt.alloc(), lengths, tracing, output) else {
         return (report_fault(rt, &TraceFault::Memory), failed);
     };
     let tapped = match tap_sockets(rt, rt.alloc(), till, terminal, log) {

@@ -3,4 +3,5 @@ pub mod BlockLemmas
 pub mod FollowLemmas
 pub mod PageLemmas
 pub mod PrinterLemmas
+pub mod ShownLemmas
 pub mod TurnLemmas

@@ -10,13 +10,15 @@ mod heard;
 mod line;
 mod log;
 mod relay;
-mod shown;
 mod sockets;
 mod tracing;
+mod watched;
 
 pub use fault::TapFault;
+pub use heard::Heard;
 pub use line::{Tapped, tap_line};
-pub use log::{Found, TapLog};
-pub use relay::{Ends, MAX_CHUNK, Observer, Readiness, run_relay};
+pub use log::{Found, TapLog, new_log};
+pub use relay::{Ends, MAX_CHUNK, Readiness, run_relay};
 pub use sockets::{SocketTapped, tap_sockets};
 pub use tracing::Tracing;
+pub use watched::Watched;

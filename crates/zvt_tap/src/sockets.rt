@@ -1,7 +1,5 @@
 //! A line between two sockets. The proofs of this module show that it is safe and terminates; the behaviour of sockets
 //! is the system's.
-ghost use Rattle.zvt_tap.specs.Log.{MayObserve};
-
 use crate::fault::TapFault;
 use crate::line::{Tapped, tap_line};
 use crate::log::TapLog;
@@ -42,7 +40,6 @@ pub fn tap_sockets<R, T: Sink + Drop, O: Sink + Drop>(
 ) -> io::Result<SocketTapped<T, O>>
 where
     R: Net<Listener = TcpListener, Stream = TcpStream>,
-    requires { MayObserve log.parts.shown log.parts.heard }
 {
     set_up(till)?;
     set_up(terminal)?;
