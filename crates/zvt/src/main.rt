@@ -21,6 +21,7 @@ mod screen;
 mod settings;
 mod tap;
 mod trace_file;
+mod waiting;
 
 use crate::reports::report;
 use std::io::ErrorKind;

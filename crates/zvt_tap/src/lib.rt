@@ -19,6 +19,6 @@ pub use heard::Heard;
 pub use line::{Tapped, tap_line};
 pub use log::{Found, TapLog, new_log};
 pub use relay::{Ends, MAX_CHUNK, Readiness, run_relay};
-pub use sockets::{SocketTapped, tap_sockets};
+pub use sockets::{Arrivals, SILENT_SECONDS, SocketTapped, tap_sockets};
 pub use tracing::Tracing;
 pub use watched::Watched;
