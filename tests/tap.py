@@ -6,10 +6,10 @@
 PROGRAM is the one that `rt ci` built, unless another is named. First `zvt till` and `zvt terminal` talk through a tap: what they
 write is what they write without it. Then 300 lines, or with `--many` 10,000, carry parts of the examples, random bytes and
 nothing, cut anywhere, in both ways at once. 50 lines, or 1,000, come one after another. Then come sides that close one way,
-reset, send a part of a message, read nothing, or are not there, traces that can't be written, reports that nobody reads, and a
-system that refuses connections. In all cases the trace has
-what was sent, in order. Standard output is what `zvt show` writes of the trace of each line, and then `zvt audit`. The status
-is 1 where anything is not as expected. It takes 20 seconds.
+reset, send a part of a message, read nothing, lose their power, or are not there, traces that can't be written, reports that
+nobody reads, and a system that refuses connections. In all cases the trace has what was sent, in order. Standard output is what
+`zvt show` writes of the trace of each line, and then `zvt audit`. The status is 1 where anything is not as expected. It takes 20
+seconds.
 """
 import os
 import pathlib
@@ -358,6 +358,50 @@ def padded():
     door.close()
 
 
+def reconnects():
+    """A till that lost power ends no connection. Once its line was silent for long enough, its new connection is served."""
+    door = listener()
+    tap = Tap(door.getsockname()[1], "--connections", "2")
+    order, other = bytes.fromhex("06B000"), bytes.fromhex("060006000000BE0978")
+    lost, terminal = pair(tap, door)
+    lost.sendall(order)
+    check("a till that lost power: what the terminal receives", terminal.recv(100), order)
+    since = time.monotonic()
+    till, again = pair(tap, door)
+    waited = time.monotonic() - since
+    check("a till that lost power: how long its new connection waits", 5 < waited < 12, True)
+    check("a till that lost power: its old line is closed at the terminal", drain(terminal), b"")
+    till.sendall(other)
+    check("a till that lost power: what the terminal receives of the new line", again.recv(100), other)
+    for end in (terminal, till, again, lost):
+        end.close()
+    said = r"zvt: the till connected anew, so its line was closed that had been silent for 6 seconds\n"
+    trace = ended("a till that lost power", tap, 0, said)
+    check("a till that lost power: its trace", trace, b"> 06B000\n!\n> 060006000000BE0978\n!\n")
+    door.close()
+
+
+def keeps_on():
+    """A line that is not silent stays, however many tills wait for it."""
+    door = listener()
+    tap = Tap(door.getsockname()[1], "--connections", "2")
+    till, terminal = pair(tap, door)
+    later = tap.till()
+    sent = b""
+    for _ in range(4):
+        till.sendall(bytes.fromhex("06B000"))
+        sent += terminal.recv(100)
+        time.sleep(2)
+    till.close()
+    terminal.close()
+    check("a line that another till waits for: what the terminal receives", sent, bytes.fromhex("06B000") * 4)
+    terminal, _ = door.accept()
+    later.close()
+    terminal.close()
+    ended("a line that another till waits for", tap, 0, "")
+    door.close()
+
+
 def unread():
     """A side that reads nothing."""
     door = listener()
@@ -552,12 +596,24 @@ def refused_connections():
     door.close()
 
 
+def to_its_end(part):
+    """Runs a part in a thread, where an error would end no more than the thread."""
+    try:
+        part()
+        fault = None
+    except (AssertionError, OSError) as error:
+        fault = repr(error)
+    check(f"{part.__name__}: it comes to its end", fault, None)
+
+
 def main():
-    both = threading.Thread(target=unread)
-    both.start()
+    slow = [threading.Thread(target=to_its_end, args=(part,)) for part in (unread, reconnects, keeps_on)]
+    for part in slow:
+        part.start()
     for part in (programs, at_once, half_closed, resets, parts, padded, missing, traces, no_output, unread_output, no_reports, refused_connections, in_a_row, cut_lines):
         part()
-    both.join()
+    for part in slow:
+        part.join()
     print(f"tap: {check.count} checks, {LINES} lines cut anywhere, {IN_A_ROW} in a row" + (f"; NOT AS EXPECTED: {check.wrong}" if check.failed else ""))
     return check.status
 

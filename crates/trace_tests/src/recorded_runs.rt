@@ -9,11 +9,10 @@ use std::process::Abort;
 use std::test::Fail;
 use zvt_bcd::{Amount, Currency};
 use zvt_io::{Failed, GhostCount, Over, Source};
-use zvt_recorder::{Recorded, end_trace};
 use zvt_stream::{Endpoint, Stream};
 use zvt_till::{Entry, Order, Till, run_order};
 use zvt_tool::{audit, show};
-use zvt_trace::Direction;
+use zvt_trace::{Direction, Observed, TraceWriter, end_trace};
 
 const ACK: &[u8] = &[0x80, 0x00, 0x00];
 
@@ -160,9 +159,9 @@ fn next_answers(chance: &mut Chance, made: u32) -> [&'static [u8]; 4] {
     }
 }
 
-type Heard<'a> = Recorded<Pieces, Over<Shared<'a>>>;
+type Heard<'a> = Observed<Pieces, TraceWriter<Over<Shared<'a>>>>;
 
-type Sent<'a> = Recorded<Over<Vec<u8>>, Over<Shared<'a>>>;
+type Sent<'a> = Observed<Over<Vec<u8>>, TraceWriter<Over<Shared<'a>>>>;
 
 /// A till's end of a new line, which writes its trace there.
 fn new_line(
@@ -178,10 +177,11 @@ fn new_line(
         reads: GhostCount::zero(),
     };
     let sent = Over::new(Vec::new(alloc));
-    let writer = Recorded::new(alloc, Direction::FromTill, sent, Over::new(trace))?;
+    let reads = TraceWriter::new(alloc, Over::new(trace))?;
+    let writes = TraceWriter::new(alloc, Over::new(trace))?;
     Ok(Endpoint {
-        reader: Recorded::new(alloc, Direction::FromTerminal, pieces, Over::new(trace))?,
-        writer,
+        reader: Observed::new(Direction::FromTerminal, pieces, reads),
+        writer: Observed::new(Direction::FromTill, sent, writes),
         stream: Stream::new(alloc),
     })
 }

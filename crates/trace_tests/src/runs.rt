@@ -9,7 +9,6 @@ use std::test::Fail;
 use zvt_grammar::{Lengths, Why};
 use zvt_io::{Over, Sink, Source};
 use zvt_json::Form;
-use zvt_recorder::Recorded;
 use zvt_session::{
     BothEnds, EndFault, Ends, NetFault, NoNotes, Planned, StepOptions, StepRun, config_of,
     currency_of, password_of, plan, run_both_ends, run_till_end, serve,
@@ -18,7 +17,7 @@ use zvt_stream::{Endpoint, LineFault, Stream};
 use zvt_tcp::{LoopRun, TillRun, run_loop, run_till};
 use zvt_term::{Served, Terminal, Verdict};
 use zvt_till::{Till, TillSettings};
-use zvt_trace::Direction;
+use zvt_trace::{Direction, Observed, TraceWriter};
 
 const DEFAULT_STEPS: &str = r#"register -> registered
 pay:1000 -> paid trace 000001 receipt 0001
@@ -356,10 +355,11 @@ fn registers_recorded(
 ) -> Result<(Result<(), EndFault>, Vec<u8>, Vec<u8>), EndFault> {
     let plan = plan(alloc, Ends::Till, ["register"].as_slice())?;
     let sent = Over::new(Vec::new(alloc));
-    let reads = Over::new(Vec::new(alloc));
+    let reads = TraceWriter::new(alloc, Over::new(Vec::new(alloc)))?;
+    let writes = TraceWriter::new(alloc, Over::new(Vec::new(alloc)))?;
     let mut line = Endpoint {
-        reader: Recorded::new(alloc, Direction::FromTerminal, Over::new(coming), reads)?,
-        writer: Recorded::new(alloc, Direction::FromTill, sent, Over::new(Vec::new(alloc)))?,
+        reader: Observed::new(Direction::FromTerminal, Over::new(coming), reads),
+        writer: Observed::new(Direction::FromTill, sent, writes),
         stream: Stream::new(alloc),
     };
     let mut writer = Over::new(Vec::new(alloc));
@@ -375,8 +375,8 @@ fn registers_recorded(
         &mut report,
     );
     let sent = Vec::from_slice(alloc, line.writer.device.inner.as_slice())?;
-    let mut trace = Vec::from_slice(alloc, line.writer.trace.inner.as_slice())?;
-    trace.extend_from_slice(line.reader.trace.inner.as_slice())?;
+    let mut trace = Vec::from_slice(alloc, line.writer.observer.device.inner.as_slice())?;
+    trace.extend_from_slice(line.reader.observer.device.inner.as_slice())?;
     Ok((ended, sent, trace))
 }
 
@@ -402,7 +402,8 @@ fn a_line_is_recorded(rt: HostRuntime) -> Result<(), Fail> {
 /// Whether a byte is sent whose trace can't be written, and how many are.
 fn sends_untraced(alloc: Global) -> Result<(bool, usize), AllocError> {
     let sent = Over::new(Vec::new(alloc));
-    let mut writer = Recorded::new(alloc, Direction::FromTill, sent, Over::new(Full))?;
+    let trace = TraceWriter::new(alloc, Over::new(Full))?;
+    let mut writer = Observed::new(Direction::FromTill, sent, trace);
     let is_sent = writer.write_all([1].as_slice()).is_ok();
     Ok((is_sent, writer.device.inner.len()))
 }
@@ -410,7 +411,8 @@ fn sends_untraced(alloc: Global) -> Result<(bool, usize), AllocError> {
 /// How many bytes come in the first read and in the second, where the trace of the first can't be written.
 fn reads_untraced(alloc: Global) -> Result<[Option<usize>; 2], AllocError> {
     let coming = Over::new([1, 2].as_slice());
-    let mut reader = Recorded::new(alloc, Direction::FromTerminal, coming, Over::new(Full))?;
+    let trace = TraceWriter::new(alloc, Over::new(Full))?;
+    let mut reader = Observed::new(Direction::FromTerminal, coming, trace);
     let mut buffer = [0];
     let first = Source::read(&mut reader, &mut buffer).ok();
     let second = Source::read(&mut reader, &mut buffer).ok();

@@ -23,6 +23,7 @@ mod settings;
 mod tap;
 mod till;
 mod trace_file;
+mod waiting;
 
 use crate::exit::Exit;
 use crate::reports::report;

@@ -4,16 +4,15 @@ use crate::output::Output;
 use crate::reports::{report, report_invalid, report_tally};
 use crate::screen::Screen;
 use crate::trace_file;
+use crate::waiting::Waiting;
 use std::fmt::Display;
 use std::fs::File;
 use std::io::{self, ErrorKind, Write};
 use std::net::TcpStream;
-use std::thread;
-use std::time::Duration;
 use zvt_grammar::Lengths;
 use zvt_io::Over;
-use zvt_tap::{Found, SocketTapped, TapFault, TapLog, Tracing, tap_sockets};
-use zvt_tcp::{Door, SILENCE_SECONDS, connect, listen};
+use zvt_tap::{Found, SILENT_SECONDS, SocketTapped, TapFault, Tracing, new_log, tap_sockets};
+use zvt_tcp::{SILENCE_SECONDS, connect, listen};
 use zvt_tool::TapOptions;
 use zvt_tool::options::{connections_by, lengths_by};
 use zvt_tool::statuses::{BAD, DEVICE, DONE, MEMORY, WORDS};
@@ -24,9 +23,6 @@ const STANDARD_OUTPUT: i32 = 1;
 
 /// The host of a tap that names none.
 const HERE: &str = "127.0.0.1";
-
-/// How long the tap waits after the system refused it a connection, as where it has no descriptor left.
-const REFUSED_SECONDS: u64 = 1;
 
 /// An address of the command line.
 #[derive(Clone, Copy)]
@@ -93,7 +89,8 @@ pub fn tap(rt: &HostRuntime, options: &TapOptions<'_>) -> Result<u8, Exit> {
     match listen(rt, from.host, from.port) {
         Ok(mut door) => {
             let mut screen = Screen::new(rt, rt.alloc(), io::writer(rt), STANDARD_OUTPUT);
-            let status = tap_all(rt, options, to, &mut door, &mut trace, &mut screen);
+            let mut waiting = Waiting::at(rt.alloc(), &mut door);
+            let status = tap_all(rt, options, to, &mut waiting, &mut trace, &mut screen);
             Ok(status.max(shown_to_its_end(rt, &mut screen)))
         }
         Err(why) => {
@@ -125,48 +122,32 @@ fn report_if_read<T: Display + Drop>(rt: &HostRuntime, what: T) {
     let _ = report(rt, what);
 }
 
-/// The next connection of a till. Where the system refuses one, that is reported, and the tap tries again.
-fn next_till(rt: &HostRuntime, door: &mut Door) -> Option<TcpStream> {
-    for _try in 0..u64::MAX {
-        match door.next() {
-            Ok(till) => return Some(till),
-            Err(why) => {
-                let _ = eprintln!(rt; "zvt: no connection from a till: {why}");
-                thread::sleep(rt, Duration::from_secs(REFUSED_SECONDS));
-            }
-        }
-    }
-    None
-}
-
 /// Passes on one line after another, and answers the highest exit status.
 fn tap_all<W: Write + Drop>(
     rt: &HostRuntime,
     options: &TapOptions<'_>,
     to: Address<'_>,
-    door: &mut Door,
+    waiting: &mut Waiting<'_>,
     trace: &mut TraceFile<'_>,
     screen: &mut Screen<W>,
 ) -> u8 {
-    if let Ok(address) = door.address() {
+    if let Ok(address) = waiting.door.address() {
         let _ = eprintln!(rt; "zvt: a tap listens at {address}");
     }
     let mut status = DONE;
     for _line in 0..connections_by(options.connections) {
-        let Some(till) = next_till(rt, door) else {
+        let Some(till) = waiting.next_till(rt) else {
             return DEVICE;
         };
         let answer = match connect(rt, to.host, to.port, SILENCE_SECONDS) {
             Ok(terminal) => {
                 let had_failed = trace.failed;
-                let answer = tap_one(
-                    rt,
-                    &till,
-                    &terminal,
-                    lengths_by(options.loose),
-                    trace,
-                    screen,
-                );
+                let line = Line {
+                    till: &till,
+                    terminal: &terminal,
+                    lengths: lengths_by(options.loose),
+                };
+                let answer = tap_one(rt, &line, waiting, trace, screen);
                 if trace.failed && !had_failed {
                     let _ = trace_file::mend_after(rt, options.trace, trace.file, answer);
                 }
@@ -188,42 +169,48 @@ fn tap_all<W: Write + Drop>(
     status
 }
 
+/// Both connections of a line, and the lengths of its messages.
+#[derive(Clone, Copy)]
+struct Line<'a> {
+    till: &'a TcpStream,
+    terminal: &'a TcpStream,
+    lengths: Lengths,
+}
+
 /// Passes on one line, and answers its exit status.
 fn tap_one<W: Write + Drop>(
     rt: &HostRuntime,
-    till: &TcpStream,
-    terminal: &TcpStream,
-    lengths: Lengths,
+    line: &Line<'_>,
+    waiting: &mut Waiting<'_>,
     trace: &mut TraceFile<'_>,
     screen: &mut Screen<W>,
 ) -> u8 {
-    let tracing = Tracing {
-        device: Over::new(Noted {
+    let device = trace.file.map(|file| {
+        Over::new(Noted {
             rt,
-            file: trace.file,
+            file,
             required: trace.required,
-        }),
-        failed: trace.failed,
-        required: trace.required,
+        })
+    });
+    let Ok(tracing) = Tracing::new(rt.alloc(), device, trace.failed, trace.required) else {
+        return report_fault(rt, &TraceFault::Memory);
     };
-    let (status, failed) = tap_into(rt, till, terminal, lengths, tracing, screen);
+    let (status, failed) = tap_into(rt, line, waiting, tracing, screen);
     trace.failed = failed;
     if failed { status.max(DEVICE) } else { status }
 }
 
-/// The file of a trace. A failed write is reported at once. Without a file, it accepts all bytes and discards them.
+/// The file of a trace. A failed write is reported at once.
 #[derive(Drop)]
 struct Noted<'a> {
     rt: &'a HostRuntime,
-    file: Option<&'a File>,
+    file: &'a File,
     required: bool,
 }
 
 impl Write for Noted<'_> {
     fn write(&mut self, bytes: &[u8]) -> io::Result<usize> {
-        let Some(mut file) = self.file else {
-            return Ok(bytes.len());
-        };
+        let mut file = self.file;
         let answer = file.write(bytes);
         if let Err(error) = &answer {
             let _ = if self.required {
@@ -245,18 +232,20 @@ impl Write for Noted<'_> {
 /// Passes on one line, and answers its exit status and whether its trace failed.
 fn tap_into<W: Write + Drop>(
     rt: &HostRuntime,
-    till: &TcpStream,
-    terminal: &TcpStream,
-    lengths: Lengths,
+    line: &Line<'_>,
+    waiting: &mut Waiting<'_>,
     tracing: Tracing<Over<Noted<'_>>>,
     screen: &mut Screen<W>,
 ) -> (u8, bool) {
     let failed = tracing.failed;
     let output = Over::new(Output::new(screen));
-    let Ok(log) = TapLog::new(rt.alloc(), lengths, tracing, output) else {
+    let Ok(log) = new_log(rt.alloc(), line.lengths, tracing, output) else {
         return (report_fault(rt, &TraceFault::Memory), failed);
     };
-    let tapped = match tap_sockets(rt, rt.alloc(), till, terminal, log) {
+    let _ = waiting.door.set_nonblocking(true);
+    let tapped = tap_sockets(rt, rt.alloc(), line.till, line.terminal, waiting, log);
+    let _ = waiting.door.set_nonblocking(false);
+    let tapped = match tapped {
         Ok(tapped) => tapped,
         Err(error) if matches!(error.kind(), ErrorKind::OutOfMemory) => {
             return (report_fault(rt, &TraceFault::Memory), failed);
@@ -266,7 +255,20 @@ fn tap_into<W: Write + Drop>(
             return (DEVICE, failed);
         }
     };
-    let SocketTapped { tapped, error } = tapped;
+    let SocketTapped {
+        tapped,
+        error,
+        was_replaced,
+        newer,
+    } = tapped;
+    for till in newer {
+        let _ = waiting.tills.push(till);
+    }
+    if was_replaced {
+        let _ = eprintln!(rt;
+            "zvt: the till connected anew, so its line was closed that had been silent for {SILENT_SECONDS} seconds"
+        );
+    }
     let status = match tapped.ended {
         Ok(()) => DONE,
         Err(fault) => report_end(rt, fault, error),

@@ -3,6 +3,7 @@ pub mod BlockLemmas
 pub mod FollowLemmas
 pub mod PageLemmas
 pub mod PrinterLemmas
+pub mod ShownLemmas
 pub mod TurnLemmas
 pub mod TextLemmas
 pub mod CountLemmas

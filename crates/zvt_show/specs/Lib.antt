@@ -1,4 +1,5 @@
 pub mod Printed
+pub mod Shown
 pub mod Followed
 pub mod Lines
 pub mod Text

@@ -1,14 +1,16 @@
 //! The text of traces of the line between a till and its terminal.
 //!
 //! [`render_trace`] writes the text of a trace in memory in a [`Style`], and takes the lengths that the trace may have.
-//! [`follow_trace`] writes the text of a trace while it comes.
+//! [`follow_trace`] writes the text of a trace while it comes. [`Shown`] writes the text of a line while its chunks pass.
 #![tactic(auto)]
 
 pub mod diagnostics;
 mod follow;
 mod pages;
 mod render;
+mod shown;
 
 pub use follow::{Follower, follow_trace};
 pub use pages::render_trace;
 pub use render::Style;
+pub use shown::{Shown, ShownToEnd};

@@ -1,5 +1,5 @@
 pub mod ChunkRows
-pub mod LineLemmas
+pub mod LogLemmas
 pub mod MoveLemmas
 pub mod RelayLemmas
-pub mod ShownLemmas
+pub mod TracedLemmas

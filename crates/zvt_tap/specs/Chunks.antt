@@ -1,7 +1,7 @@
 -- The chunks that pass between a till and its terminal.
 use Rattle.std.specs.Prelude.{◌≡◌, ℕ, List, [], ◌∷◌, ◌++◌, Option, IfSome}
 use Rattle.std.specs.Io.KnownBytes.{Appends, Consumes}
-use Rattle.zvt_recorder.specs.Recorder.{piece_text}
+use Rattle.zvt_trace.specs.Lines.{piece_text}
 use Rattle.zvt_trace.specs.declared.direction.Direction.{Direction}
 use Rattle.zvt_trace.specs.declared.direction.Direction.TheVariants.{FromTerminal, FromTill}
 

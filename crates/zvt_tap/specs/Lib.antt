@@ -1,4 +1,6 @@
 pub mod Chunks
+pub mod Heard
 pub mod Log
-pub mod Observing
 pub mod Relay
+pub mod Traced
+pub mod Watching

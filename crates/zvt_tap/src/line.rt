@@ -1,12 +1,13 @@
 //! A line that is tapped, from its start to its end.
-ghost use Rattle.std.specs.Prelude.{◌≡◌, ◌+◌, true, ◌++◌, ◌∷◌, [], codes, ℕ, List, Option};
+ghost use Rattle.std.specs.Prelude.{◌≡◌, ◌+◌, ◌++◌, ◌∷◌, [], codes, ℕ, List, Option};
 ghost use Rattle.zvt_grammar.specs.Reading.{Reading};
 ghost use Rattle.zvt_tap.specs.Chunks.{sides};
-ghost use Rattle.zvt_tap.specs.Log.{FailsOnlyIf, HasFound, HasObserved, MayObserve, log_state};
+ghost use Rattle.zvt_tap.specs.Log.{FoundStopped, HasFound, HasObserved, ended_trace};
 ghost use Rattle.zvt_tap.specs.Relay.{AnswersRelay, CountsFaults, Waits};
+ghost use Rattle.zvt_tap.specs.Traced.{FailsOnlyIf, failures_by, traced_by};
 
 use crate::fault::TapFault;
-use crate::log::{Found, TapLog};
+use crate::log::{Found, TapLog, end_log};
 use crate::relay::{Ends, Readiness, run_relay};
 use std::alloc::Global;
 use zvt_io::{Sink, Source};
@@ -28,13 +29,14 @@ pub fn tap_line<L: Readiness, R: Source, W: Sink, T: Sink + Drop, O: Sink + Drop
     ends: &mut Ends<R, W>,
     log: TapLog<T, O>,
 ) -> Tapped<T, O>
-    requires { MayObserve log.parts.shown log.parts.heard }
-    ensures tapped { (r : Reading) (first held : Option (List ℕ)) → HasObserved r [] first held
-        (log_state (T.written log.parts.tracing.device) (T.failures log.parts.tracing.device) log.parts.tracing.failed
-        log.parts.tracing.required (O.written log.parts.output) log.parts.shown log.parts.heard)
-        → AnswersRelay (λ text. HasFound r (text ++ (codes "!" ++ 10 ∷ [])) first held result.found.tracing.failed
-        (T.written result.found.tracing.device) (O.written result.found.output) result.found.shown
-        result.found.audited) (Unit {0}) (result.found.tracing.failed ≡ true)
+    ensures tapped { (r : Reading) (first held : Option (List ℕ)) → HasObserved T.written O.written r [] first held
+        log.recorder log.watcher.first log.watcher.second → AnswersRelay
+        (λ chunks. HasFound r (ended_trace chunks) first held result.found.tracing.failed
+        (traced_by T.written result.found.tracing.trace) (O.written result.found.output) result.found.shown
+        result.found.audited)
+        (FoundStopped (λ trace. HasFound r trace first held result.found.tracing.failed
+        (traced_by T.written result.found.tracing.trace) (O.written result.found.output) result.found.shown
+        result.found.audited) result.found.tracing.failed)
         (sides (R.remaining ends.old.till) (R.remaining ends.old.terminal) (W.written ends.old.to_terminal)
         (W.written ends.old.to_till))
         (sides (R.remaining ends.new.till) (R.remaining ends.new.terminal) (W.written ends.new.to_terminal)
@@ -43,14 +45,14 @@ pub fn tap_line<L: Readiness, R: Source, W: Sink, T: Sink + Drop, O: Sink + Drop
         (R.failures ends.new.till + R.failures ends.new.terminal)
         (W.failures ends.old.to_terminal + W.failures ends.old.to_till)
         (W.failures ends.new.to_terminal + W.failures ends.new.to_till) result.ended }
-    ensures failed { FailsOnlyIf log.parts.tracing.failed result.found.tracing.failed
-        (T.failures log.parts.tracing.device) (T.failures result.found.tracing.device) }
+    ensures failed { FailsOnlyIf log.recorder.failed result.found.tracing.failed
+        (failures_by T.failures log.recorder.trace) (failures_by T.failures result.found.tracing.trace) }
     ensures waits { Waits (L.waits line.new) (L.failures line.old) (L.failures line.new) result.ended }
 {
     let mut log = log;
     let ended = run_relay(line, ends, &mut log);
     Tapped {
         ended,
-        found: log.finish(alloc),
+        found: end_log(alloc, log),
     }
 }

@@ -1,17 +1,16 @@
 //! Forwards bytes from each side of a line to the other.
-ghost use Rattle.std.specs.Prelude.{◌≡◌, ◌≤◌, ◌+◌, ◌++◌, [], ℕ, Bool, false, true, List, MatchOption, MatchResult};
-ghost use Rattle.std.specs.Prelude.{length};
-ghost use Rattle.zvt_recorder.specs.Recorder.{piece_text};
+ghost use Rattle.std.specs.Prelude.{◌≡◌, ◌+◌, ℕ, MatchOption};
 ghost use Rattle.zvt_tap.specs.Chunks.{sides};
 ghost use Rattle.zvt_tap.specs.Relay.{AnswersPass, AnswersRelay, AnswersTurn, CountsFaults, Waits, ended_after};
+ghost use Rattle.zvt_tap.specs.Watching.{Loses, ObservesAll, ObservesUntil, Records};
 
 use crate::fault::TapFault;
-use std::alloc::AllocError;
+use crate::watched::Watched;
 use zvt_io::{Failed, Sink, Source};
-use zvt_trace::Direction;
+use zvt_trace::{Direction, ListenerError, Observer};
 
-/// The largest chunk that is read, observed and written at once, in bytes. A decoder of traces handles a line of this
-/// size in one piece.
+/// The largest chunk that is read, observed and written at once, in bytes. The trace writer has memory for the line of
+/// such a chunk from its start.
 pub const MAX_CHUNK: usize = 4_096;
 
 /// Decides which side to read next. The relay is correct for every order.
@@ -35,37 +34,6 @@ pub trait Readiness {
         ensures failures { failures self.new ≡ failures self.old };
 }
 
-/// An observer of the forwarded chunks.
-pub trait Observer {
-    /// This text of a trace was observed besides.
-    ghost observes: { Self → List ℕ → Self → Type 0 };
-
-    /// Whether what a line needs can't be observed any more.
-    ghost is_stopped: { Self → Bool };
-
-    /// More may be observed.
-    ghost may_observe: { Self → Type 0 };
-
-    /// Observes a chunk of at most [`MAX_CHUNK`] bytes from this side. After an `Err` nothing is observed.
-    fn take(&mut self, from: Direction, bytes: &[u8]) -> Result<(), AllocError>
-        requires few { length bytes.now ≤ 4096 }
-        requires may { may_observe self.old }
-        ensures observed { MatchResult result (λ _. observes self.old (piece_text from bytes.now) self.new)
-            (λ _. observes self.old [] self.new) }
-        ensures may { may_observe self.new };
-
-    /// Whether the line has to end, since what it needs can't be observed any more.
-    fn is_stopped(&self) -> bool
-        ensures { result ≡ is_stopped self.now };
-
-    /// Nothing was observed.
-    ghost observes_nothing: { (observer : Self) → observes observer [] observer };
-
-    /// One text was observed after another.
-    ghost observes_more: { (first middle last : Self) (text more : List ℕ) → observes first text middle
-        → observes middle more last → observes first (text ++ more) last };
-}
-
 /// The devices of both sides of a line.
 #[derive(Drop)]
 pub struct Ends<R, W> {
@@ -76,19 +44,20 @@ pub struct Ends<R, W> {
 }
 
 /// Forwards everything that one side sends to the other, in chunks of at most [`MAX_CHUNK`] bytes, until both sides
-/// have closed. Each chunk is shown to the observer before it is written.
+/// have closed. Each chunk is recorded before it is written, and watched afterwards. No watcher ends a line.
 ///
-/// Fails with `Read` or `Write` if a device fails. Fails with `Trace` if the observer demands to stop, in which case it
-/// has seen a chunk that was not forwarded. Fails with `Memory` if a chunk was neither observed nor forwarded, and with
-/// `Wait` if waiting for the devices fails, or after 2⁶⁴ − 1 waits.
-pub fn run_relay<L: Readiness, R: Source, W: Sink, K: Observer>(
+/// Fails with `Read` or `Write` if a device fails. Fails with `Trace` if the recorder could not write a chunk, and with
+/// `Memory` if it had no memory for one; that chunk is not passed on. Fails with `Wait` if waiting for the devices
+/// fails, or after 2⁶⁴ − 1 waits.
+pub fn run_relay<L: Readiness, R: Source, W: Sink, K: Observer, V: Observer>(
     line: &mut L,
     ends: &mut Ends<R, W>,
-    observer: &mut K,
+    log: &mut Watched<K, V>,
 ) -> Result<(), TapFault>
-    requires { K.may_observe observer.old }
-    ensures relayed { AnswersRelay (λ text. K.observes observer.old text observer.new)
-        (K.is_stopped observer.new ≡ false) (K.is_stopped observer.new ≡ true)
+    ensures relayed { AnswersRelay
+        (λ chunks. ObservesAll (Records K.observes K.misses V.observes V.misses) log.old chunks log.new)
+        (λ why chunks last. ObservesUntil (Records K.observes K.misses V.observes V.misses)
+        (Loses K.observes K.misses V.observes V.misses) log.old chunks last why log.new)
         (sides (R.remaining ends.old.till) (R.remaining ends.old.terminal) (W.written ends.old.to_terminal)
         (W.written ends.old.to_till))
         (sides (R.remaining ends.new.till) (R.remaining ends.new.terminal) (W.written ends.new.to_terminal)
@@ -98,7 +67,6 @@ pub fn run_relay<L: Readiness, R: Source, W: Sink, K: Observer>(
         (W.failures ends.old.to_terminal + W.failures ends.old.to_till)
         (W.failures ends.new.to_terminal + W.failures ends.new.to_till) result }
     ensures waits { Waits (L.waits line.new) (L.failures line.old) (L.failures line.new) result }
-    ensures may { K.may_observe observer.new }
 {
     let mut ended = Ended {
         till: false,
@@ -108,7 +76,7 @@ pub fn run_relay<L: Readiness, R: Source, W: Sink, K: Observer>(
         let Some(from) = line.next() else {
             return Err(TapFault::Wait);
         };
-        if turn(from, ends, observer)? {
+        if turn(from, ends, log)? {
             continue;
         }
         line.end(from);
@@ -145,15 +113,15 @@ impl Ended {
     }
 }
 
-/// Passes on the next chunk from this side. `false` where the side has come to its end.
-fn turn<R: Source, W: Sink, K: Observer>(
+/// Passes one chunk from this side on. `false` where it has come to its end.
+fn turn<R: Source, W: Sink, K: Observer, V: Observer>(
     from: Direction,
     ends: &mut Ends<R, W>,
-    observer: &mut K,
+    log: &mut Watched<K, V>,
 ) -> Result<bool, TapFault>
-    requires { K.may_observe observer.old }
-    ensures passed { AnswersTurn from (λ text. K.observes observer.old text observer.new) (observer.new ≡ observer.old)
-        (K.is_stopped observer.new ≡ false) (K.is_stopped observer.new ≡ true)
+    ensures passed { AnswersTurn from (λ bytes. Records K.observes K.misses V.observes V.misses log.old from bytes log.new)
+        (λ why bytes. Loses K.observes K.misses V.observes V.misses log.old from bytes why log.new)
+        (log.new ≡ log.old)
         (sides (R.remaining ends.old.till) (R.remaining ends.old.terminal) (W.written ends.old.to_terminal)
         (W.written ends.old.to_till))
         (sides (R.remaining ends.new.till) (R.remaining ends.new.terminal) (W.written ends.new.to_terminal)
@@ -162,28 +130,26 @@ fn turn<R: Source, W: Sink, K: Observer>(
         (R.failures ends.new.till + R.failures ends.new.terminal)
         (W.failures ends.old.to_terminal + W.failures ends.old.to_till)
         (W.failures ends.new.to_terminal + W.failures ends.new.to_till) result }
-    ensures may { K.may_observe observer.new }
 {
     match from {
-        Direction::FromTill => pass(from, &mut ends.till, &mut ends.to_terminal, observer),
-        Direction::FromTerminal => pass(from, &mut ends.terminal, &mut ends.to_till, observer),
+        Direction::FromTill => pass(from, &mut ends.till, &mut ends.to_terminal, log),
+        Direction::FromTerminal => pass(from, &mut ends.terminal, &mut ends.to_till, log),
     }
 }
 
-/// Reads a chunk, observes it, and writes it. `false` where the reader has come to its end.
-fn pass<R: Source, W: Sink, K: Observer>(
+/// Reads a chunk, records it, writes it, and has it watched. `false` where the reader has come to its end.
+fn pass<R: Source, W: Sink, K: Observer, V: Observer>(
     from: Direction,
     reader: &mut R,
     writer: &mut W,
-    observer: &mut K,
+    log: &mut Watched<K, V>,
 ) -> Result<bool, TapFault>
-    requires { K.may_observe observer.old }
-    ensures passed { AnswersPass from (λ text. K.observes observer.old text observer.new) (observer.new ≡ observer.old)
-        (K.is_stopped observer.new ≡ false) (K.is_stopped observer.new ≡ true) (R.remaining reader.old)
-        (R.remaining reader.new) (W.written writer.old) (W.written writer.new) result }
+    ensures passed { AnswersPass from (λ bytes. Records K.observes K.misses V.observes V.misses log.old from bytes log.new)
+        (λ why bytes. Loses K.observes K.misses V.observes V.misses log.old from bytes why log.new)
+        (log.new ≡ log.old) (R.remaining reader.old) (R.remaining reader.new) (W.written writer.old)
+        (W.written writer.new) result }
     ensures faults { CountsFaults (R.failures reader.old) (R.failures reader.new) (W.failures writer.old)
         (W.failures writer.new) result }
-    ensures may { K.may_observe observer.new }
 {
     let mut buffer = [0; MAX_CHUNK];
     let Ok(count) = reader.read(&mut buffer) else {
@@ -193,12 +159,19 @@ fn pass<R: Source, W: Sink, K: Observer>(
         return Ok(false);
     }
     let bytes = &buffer[..count];
-    observer.take(from, bytes)?;
-    if observer.is_stopped() {
-        return Err(TapFault::Trace);
-    }
-    match writer.write_all(bytes) {
-        Ok(()) => Ok(true),
-        Err(Failed) => Err(TapFault::Write(from)),
+    match log.recorder.observe(from, bytes) {
+        Ok(()) => {
+            let written = writer.write_all(bytes);
+            log.watch(from, bytes);
+            match written {
+                Ok(()) => Ok(true),
+                Err(Failed) => Err(TapFault::Write(from)),
+            }
+        }
+        Err(ListenerError::Memory) => Err(TapFault::Memory),
+        Err(ListenerError::Write) => {
+            log.watch(from, bytes);
+            Err(TapFault::Trace)
+        }
     }
 }

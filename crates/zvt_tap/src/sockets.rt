@@ -1,7 +1,5 @@
 //! A line between two sockets. The proofs of this module show that it is safe and terminates; the behaviour of sockets
 //! is the system's.
-ghost use Rattle.zvt_tap.specs.Log.{MayObserve};
-
 use crate::fault::TapFault;
 use crate::line::{Tapped, tap_line};
 use crate::log::TapLog;
@@ -10,18 +8,36 @@ use mio::unix::SourceFd;
 use mio::{Events, Interest, Poll, Token};
 use std::alloc::Global;
 use std::io::{self, ErrorKind, Read, Write};
-use std::net::{Net, Shutdown, TcpListener, TcpStream};
+use std::net::{IpAddr, Net, Shutdown, TcpListener, TcpStream};
 use std::os::fd::{AsRawFd, RawFd};
-use std::time::Duration;
+use std::time::{Clock, Duration, Instant};
 use zvt_io::{GhostCount, Over, Sink};
 use zvt_trace::Direction;
 
 /// For that many seconds a side may leave so much unread that no more can be sent to it.
 const WRITE_SECONDS: u64 = 5;
 
+/// A line that was silent for that many seconds makes way for a newer connection of its till. Each side has five
+/// seconds to acknowledge a message, so nothing that was sent on such a line still waits for that.
+pub const SILENT_SECONDS: u64 = 6;
+
+/// The most connections that are held until the line ends. More of them wait with the system.
+const MAX_NEWER: usize = 64;
+
 const TILL: Token = Token(0);
 
 const TERMINAL: Token = Token(1);
+
+const DOOR: Token = Token(2);
+
+/// The connections that come while a line goes on.
+pub trait Arrivals {
+    /// What can be read once one has come.
+    fn descriptor(&self) -> RawFd;
+
+    /// The next connection, if one has come. It does not wait.
+    fn next(&mut self) -> Option<TcpStream>;
+}
 
 /// How a line between two sockets ended.
 #[derive(Drop)]
@@ -29,25 +45,33 @@ pub struct SocketTapped<T, O> {
     pub tapped: Tapped<T, O>,
     /// The system's error where a side could not be read or written.
     pub error: Option<ErrorKind>,
+    /// The line was silent, and made way for a newer connection of its till.
+    pub was_replaced: bool,
+    /// The connections that came while the line went on, in their order.
+    pub newer: Vec<TcpStream>,
 }
 
 /// Forwards traffic between two sockets in both directions, as [`tap_line`] does. Small messages are sent immediately,
 /// and half-closing is forwarded. Being unable to write to a side for five seconds is a fault.
-pub fn tap_sockets<R, T: Sink + Drop, O: Sink + Drop>(
+///
+/// A till that lost power leaves a connection that nobody ends. So once a newer connection has come from the address of
+/// the till and the line was silent for [`SILENT_SECONDS`], both sides are closed.
+pub fn tap_sockets<R, A, T: Sink + Drop, O: Sink + Drop>(
     rt: &R,
     alloc: Global,
     till: &TcpStream,
     terminal: &TcpStream,
+    arrivals: &mut A,
     log: TapLog<T, O>,
 ) -> io::Result<SocketTapped<T, O>>
 where
-    R: Net<Listener = TcpListener, Stream = TcpStream>,
-    requires { MayObserve log.parts.shown log.parts.heard }
+    R: Net<Listener = TcpListener, Stream = TcpStream> + Clock,
+    A: Arrivals,
 {
     set_up(till)?;
     set_up(terminal)?;
     let mut line = SocketLine {
-        sockets: BothSockets::new(rt, alloc, till, terminal)?,
+        sockets: BothSockets::new(rt, alloc, till, terminal, arrivals)?,
         waits: GhostCount::zero(),
         failures: GhostCount::zero(),
     };
@@ -65,7 +89,17 @@ where
         Err(TapFault::Write(Direction::FromTerminal)) => ends.to_till.inner.error,
         _ => None,
     };
-    Ok(SocketTapped { tapped, error })
+    let BothSockets {
+        was_replaced,
+        newer,
+        ..
+    } = line.sockets;
+    Ok(SocketTapped {
+        tapped,
+        error,
+        was_replaced,
+        newer,
+    })
 }
 
 /// Small messages go out at once, and a write waits for a limited time.
@@ -173,7 +207,8 @@ impl Side {
 
 /// The sockets of both sides, and how they are waited for.
 #[derive(Drop)]
-struct BothSockets<'a> {
+struct BothSockets<'a, R, A> {
+    rt: &'a R,
     poll: Poll,
     events: Events,
     till_socket: &'a TcpStream,
@@ -182,22 +217,38 @@ struct BothSockets<'a> {
     terminal: Side,
     /// The side of the last chunk: where both sides are ready, the other is read next.
     last: Direction,
+    /// When the last chunk came, where the clock tells it.
+    heard_at: Option<Instant>,
+    arrivals: &'a mut A,
+    newer: Vec<TcpStream>,
+    /// One of the newer connections comes from the address of the till.
+    has_successor: bool,
+    was_replaced: bool,
 }
 
-impl<'a> BothSockets<'a> {
-    fn new<R: Net>(
-        rt: &R,
+impl<'a, R, A> BothSockets<'a, R, A>
+where
+    R: Net + Clock,
+    A: Arrivals,
+{
+    fn new(
+        rt: &'a R,
         alloc: Global,
         till_socket: &'a TcpStream,
         terminal_socket: &'a TcpStream,
-    ) -> io::Result<BothSockets<'a>> {
+        arrivals: &'a mut A,
+    ) -> io::Result<BothSockets<'a, R, A>> {
         let poll = Poll::new(rt)?;
-        let events = Events::with_capacity(alloc, 2)?;
+        let events = Events::with_capacity(alloc, 3)?;
         let till = Side::of(till_socket, TILL);
         let terminal = Side::of(terminal_socket, TERMINAL);
         till.begin(&poll)?;
         terminal.begin(&poll)?;
+        let door = arrivals.descriptor();
+        poll.registry()
+            .register(&mut SourceFd(&door), DOOR, Interest::READABLE)?;
         Ok(BothSockets {
+            rt,
             poll,
             events,
             till_socket,
@@ -205,6 +256,11 @@ impl<'a> BothSockets<'a> {
             till,
             terminal,
             last: Direction::FromTerminal,
+            heard_at: Instant::now(rt).ok(),
+            arrivals,
+            newer: Vec::new(alloc),
+            has_successor: false,
+            was_replaced: false,
         })
     }
 
@@ -221,25 +277,64 @@ impl<'a> BothSockets<'a> {
         Some(from)
     }
 
-    /// Waits until a side is ready, or a signal comes.
+    /// Waits until a side is ready, a connection has come, a signal comes, or the line has been silent for too long.
     fn wait(&mut self) -> io::Result<()> {
         self.till.go_on(&self.poll)?;
         self.terminal.go_on(&self.poll)?;
-        self.poll.poll(&mut self.events, None)?;
+        let patience = self.patience();
+        self.poll.poll(&mut self.events, patience)?;
+        let mut has_come = false;
         for event in self.events.iter() {
             if event.token() == TILL {
                 self.till.is_ready = !self.till.has_ended;
-            } else {
+            } else if event.token() == TERMINAL {
                 self.terminal.is_ready = !self.terminal.has_ended;
+            } else {
+                has_come = true;
             }
         }
+        if has_come {
+            self.admit();
+        }
         Ok(())
+    }
+
+    /// How long the line may still be silent, where a newer connection of its till waits for it. Once that is over,
+    /// both sides are closed.
+    fn patience(&mut self) -> Option<Duration> {
+        if !self.has_successor || self.was_replaced {
+            return None;
+        }
+        let silent = self.heard_at?.elapsed(self.rt).ok()?;
+        let left = Duration::from_secs(SILENT_SECONDS).checked_sub(silent);
+        if left.is_none() {
+            self.was_replaced = true;
+            let _ = self.till_socket.shutdown(Shutdown::Both);
+            let _ = self.terminal_socket.shutdown(Shutdown::Both);
+        }
+        left
+    }
+
+    /// Takes the connections that have come.
+    fn admit(&mut self) {
+        let host = host_of(self.till_socket);
+        for _one in self.newer.len()..MAX_NEWER {
+            let Some(connection) = self.arrivals.next() else {
+                return;
+            };
+            let is_successor = host.is_some() && host_of(&connection) == host;
+            if self.newer.push(connection).is_err() {
+                return;
+            }
+            self.has_successor |= is_successor;
+        }
     }
 
     /// Waits until a side is ready.
     fn await_side(&mut self) -> io::Result<Direction> {
         for _try in 0..u64::MAX {
             if let Some(from) = self.ready_side() {
+                self.heard_at = Instant::now(self.rt).ok();
                 return Ok(from);
             }
             self.wait()?;
@@ -262,15 +357,21 @@ impl<'a> BothSockets<'a> {
     }
 }
 
+/// The host at the other end of a connection.
+fn host_of(connection: &TcpStream) -> Option<IpAddr> {
+    let address = connection.peer_addr().ok()?;
+    Some(address.ip())
+}
+
 /// Waits for two sockets at once. Contracts see how often it waited, and how often it could not.
 #[derive(Drop)]
-struct SocketLine<'a> {
-    sockets: BothSockets<'a>,
+struct SocketLine<'a, R, A> {
+    sockets: BothSockets<'a, R, A>,
     waits: GhostCount,
     failures: GhostCount,
 }
 
-impl Readiness for SocketLine<'_> {
+impl<R: Net + Clock, A: Arrivals> Readiness for SocketLine<'_, R, A> {
     ghost waits = { λ line. line.waits.count };
 
     ghost failures = { λ line. line.failures.count };

@@ -7,6 +7,7 @@ ghost use Rattle.zvt_tcp.specs.Connecting.{given_by, why_of};
 use std::io;
 use std::io::ErrorKind;
 use std::net::{HostAddrs, Net, SocketAddr, TcpListener, TcpStream, ToSocketAddrs};
+use std::os::fd::{AsRawFd, RawFd};
 use std::time::Duration;
 use zvt_io::GhostCount;
 use zvt_session::NetFault;
@@ -103,6 +104,11 @@ impl Door {
     /// Returns the address that it listens on.
     pub fn address(&self) -> io::Result<SocketAddr> {
         self.listener.local_addr()
+    }
+
+    /// Returns the descriptor that can be read once a connection has come.
+    pub fn descriptor(&self) -> RawFd {
+        self.listener.as_raw_fd()
     }
 
     /// Has `next` answer at once, with a fault where no till has come, or wait again.

@@ -4,33 +4,32 @@ ghost use Rattle.zvt_grammar.specs.Lengths.{reading_of};
 ghost use Rattle.zvt_stream.specs.StreamState.{at_start, start_in};
 ghost use Rattle.zvt_term.specs.Terminal.{new_terminal};
 
-use crate::shown::{Shown, ShownTrace};
 use crate::silence::Socket;
-use crate::trace_file::TraceFile;
+use crate::trace_file::{FileTrace, file_trace};
 use std::alloc::{AllocError, Global};
 use std::fs::File;
 use std::io::Stderr;
 use std::net::TcpStream;
 use zvt_grammar::Lengths;
 use zvt_io::Over;
-use zvt_recorder::{Recorded, ends_lacking};
 use zvt_session::BothEnds;
+use zvt_show::Shown;
 use zvt_stream::{Endpoint, Stream};
 use zvt_term::{DEFAULT_TID, Served, Terminal, Verdict};
-use zvt_trace::Direction;
+use zvt_trace::{Both, Direction, Observed, ends_lacking};
 
 /// An end over a connection that is not recorded.
 pub(crate) type PlainEnd<'a> = Endpoint<Over<&'a TcpStream>, Over<&'a TcpStream>>;
 
-/// A direction of a connection, whose bytes go to such a trace.
-pub(crate) type TracedSocket<'a, T> = Recorded<Over<Socket<'a>>, T>;
+/// A direction of a connection, whose bytes are observed.
+pub(crate) type ObservedSocket<'a, K> = Observed<Over<Socket<'a>>, K>;
 
-/// A direction of a connection, whose bytes go to the file of a trace.
-type TcpDevice<'a> = TracedSocket<'a, Over<TraceFile<'a>>>;
+/// A direction of a connection, whose bytes go to the file of a trace, if there is one.
+type TcpDevice<'a> = ObservedSocket<'a, FileTrace<'a>>;
 
 /// A till's end over a connection, whose reads and writes go to a trace. What is read may be shown.
 pub(crate) type TillLine<'a> = Endpoint<
-    TracedSocket<'a, ShownTrace<Over<TraceFile<'a>>, Stderr>>,
+    ObservedSocket<'a, Both<FileTrace<'a>, Option<Shown<Over<Stderr>>>>>,
     TcpDevice<'a>,
 >;
 
@@ -87,19 +86,20 @@ pub(crate) fn till_line_of<'a>(
     connection: &'a TcpStream,
     lengths: Lengths,
     trace: Option<&'a File>,
-    shown: Option<Shown<Stderr>>,
+    shown: Option<Shown<Over<Stderr>>>,
 ) -> Result<TillLine<'a>, AllocError>
     ensures start { IfOk result (λ end. end.stream ≡ start_in (reading_of lengths)) }
     ensures sides { IfOk result (λ end. (end.reader.from ≡ Direction.FromTerminal)
         × (end.writer.from ≡ Direction.FromTill)) }
+    ensures shown { IfOk result (λ end. end.reader.observer.second ≡ shown) }
 {
-    let shown_trace = ShownTrace {
-        trace: Over::new(TraceFile { file: trace }),
-        shown,
+    let observer = Both {
+        first: file_trace(alloc, trace)?,
+        second: shown,
     };
     let socket = Over::new(Socket::new(connection));
     Ok(Endpoint {
-        reader: Recorded::new(alloc, Direction::FromTerminal, socket, shown_trace)?,
+        reader: Observed::new(Direction::FromTerminal, socket, observer),
         writer: tcp_device(alloc, Direction::FromTill, connection, trace)?,
         stream: Stream::of(alloc, lengths),
     })
@@ -133,19 +133,22 @@ fn tcp_device<'a>(
     ensures from { IfOk result (λ device. device.from ≡ from) }
     ensures whole { IfOk result (λ device. device.broken ≡ false) }
 {
-    let trace = Over::new(TraceFile { file: trace });
+    let trace = file_trace(alloc, trace)?;
     let socket = Over::new(Socket::new(connection));
-    Recorded::new(alloc, from, socket, trace)
+    Ok(Observed::new(from, socket, trace))
 }
 
 /// Ends the trace of the line, and answers whether it lacks something: a piece that was read, one that was to be
 /// written, or its end.
-pub(crate) fn is_broken<'a, T>(
-    end: &Endpoint<TracedSocket<'a, T>, TcpDevice<'a>>,
+pub(crate) fn is_broken<'a, K>(
+    end: &Endpoint<ObservedSocket<'a, K>, TcpDevice<'a>>,
     trace: Option<&File>,
 ) -> bool
     ensures { (end.now.reader.broken || end.now.writer.broken) ≡ true → result ≡ true }
 {
     let lacks = end.reader.broken || end.writer.broken;
-    ends_lacking(lacks, &mut Over::new(TraceFile { file: trace }))
+    match trace {
+        Some(file) => ends_lacking(lacks, &mut Over::new(file)),
+        None => lacks,
+    }
 }

@@ -1,27 +1,26 @@
 //! The optional file of a trace.
-ghost use Rattle.std.specs.Prelude.{◌≡◌};
+ghost use Rattle.std.specs.Prelude.{◌≡◌, IfOk, is_some};
 ghost use Rattle.zvt_tcp.specs.Traced.{by_trace};
 
+use std::alloc::{AllocError, Global};
 use std::fs::File;
-use std::io::{self, Write};
+use zvt_io::Over;
 use zvt_session::EndFault;
+use zvt_trace::TraceWriter;
 
-/// The file of a trace. Without a file, it accepts all bytes and discards them.
-#[derive(Clone, Copy)]
-pub(crate) struct TraceFile<'a> {
-    pub(crate) file: Option<&'a File>,
-}
+/// Writes a trace to its file, if there is one.
+pub(crate) type FileTrace<'a> = Option<TraceWriter<Over<&'a File>>>;
 
-impl Write for TraceFile<'_> {
-    fn write(&mut self, bytes: &[u8]) -> io::Result<usize> {
-        match self.file {
-            Some(mut file) => file.write(bytes),
-            None => Ok(bytes.len()),
-        }
-    }
-
-    fn flush(&mut self) -> io::Result<()> {
-        Ok(())
+/// What writes a trace to this file, if there is one.
+pub(crate) fn file_trace<'a>(
+    alloc: Global,
+    file: Option<&'a File>,
+) -> Result<FileTrace<'a>, AllocError>
+    ensures { IfOk result (λ trace. is_some trace ≡ is_some file.entry) }
+{
+    match file {
+        Some(file) => Ok(Some(TraceWriter::new(alloc, Over::new(file))?)),
+        None => Ok(None),
     }
 }
 

@@ -45,7 +45,7 @@ line_means (sent from bytes) is = (sign_means (sign_of from) from (encode_upper 
 line_means ended is = refl
 
 -- and is the first line of the trace
-first_line : (chunk : Chunk) (after : List ℕ) → HasBytes chunk → lines (spelled_line chunk ++ 10 ∷ after) ≡ spelled_line chunk ∷ lines after
+pub first_line : (chunk : Chunk) (after : List ℕ) → HasBytes chunk → lines (spelled_line chunk ++ 10 ∷ after) ≡ spelled_line chunk ∷ lines after
 first_line (sent from bytes) after is =
     let means = sign_means (sign_of from) from (encode_upper bytes) bytes (sign_is from) (decoded bytes is) in
     first_is (sign_of from) (encode_upper bytes) after means.0 (are_digits bytes is)

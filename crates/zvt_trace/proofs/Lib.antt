@@ -17,6 +17,7 @@ pub mod SidesLemmas
 pub mod SpelledLemmas
 pub mod StartLemmas
 pub mod EmitLemmas
+pub mod TakenLemmas
 pub mod TallyLemmas
 pub mod ToldLemmas
 pub mod WalkedLemmas

@@ -80,6 +80,10 @@ pub record IsReady (walker : Walker) : Type 0 where
   pub small : length walker.begun.items ≤ limit
   pub fits : walker.progress.size + length walker.begun.items ≤ most
 
+-- no line has begun whose end is to come
+abbrev pub IsBetweenLines : Walker → Type 0
+IsBetweenLines walker = walker.begun.items ≡ []
+
 -- why these bytes can't be held after those that are
 abbrev pub IsHeldFault : Walker → List ℕ → TraceFault → Type 0
 IsHeldFault walker bytes fault = (fault ≡ Memory) ⊎ ((fault ≡ TooLong) × (limit < length walker.begun.items + length bytes))

@@ -5,6 +5,7 @@ pub mod Lines
 pub mod Listening
 pub mod Pairs
 pub mod Meanings
+pub mod Observing
 pub mod Spelled
 pub mod Emitting
 pub mod TraceEvent

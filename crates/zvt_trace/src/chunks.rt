@@ -2,12 +2,14 @@
 ghost use Rattle.std.specs.Prelude.{◌≡◌, ◌≤◌, ◌+◌, ◌++◌, [], ℕ, List, length, IfErr, OnOk};
 ghost use Rattle.std.specs.Str.Lines.{lines};
 ghost use Rattle.zvt_grammar.specs.Lengths.{reading_of};
-ghost use Rattle.zvt_trace.specs.Chunks.{AnswersFeed, AnswersRead, HasNoEnd, HasRead, IsEnd, IsHeldFault, IsReady};
-ghost use Rattle.zvt_trace.specs.Chunks.{ReadTo, walker_reading, walker_scope};
+ghost use Rattle.zvt_trace.specs.Chunks.{AnswersFeed, AnswersRead, HasNoEnd, HasRead, IsBetweenLines, IsEnd};
+ghost use Rattle.zvt_trace.specs.Chunks.{IsHeldFault, IsReady, ReadTo, walker_reading, walker_scope};
+ghost use Rattle.zvt_trace.specs.Lines.{piece_text};
 ghost use Rattle.zvt_trace.specs.Listening.{AnswersFrom, IsSound, most};
 ghost use Rattle.zvt_trace.specs.TraceEvent.{At};
 ghost use Rattle.zvt_trace.specs.Written.{limit};
 
+use crate::direction::Direction;
 use crate::fault::{Tally, TraceFault};
 use crate::input::LIMIT;
 use crate::lines::{last_newline, newline};
@@ -20,7 +22,7 @@ use zvt_grammar::Lengths;
 const MOST: u64 = 1 << 62;
 
 /// Walks over a trace that arrives in chunks. Emits the events of each complete line at once, and holds the bytes of
-/// an unfinished line.
+/// an unfinished line. It may be given what a line spells in place of the line.
 #[derive(Drop)]
 pub struct Walker {
     progress: Progress,
@@ -32,6 +34,7 @@ impl Walker {
     pub fn new(alloc: Global, scope: Scope, lengths: Lengths) -> Walker
         ensures read { HasRead (reading_of lengths) scope [] [] result }
         ensures ready { IsReady result }
+        ensures between { IsBetweenLines result }
         ensures reading { walker_reading result ≡ reading_of lengths }
         ensures scope { walker_scope result ≡ scope }
     {
@@ -70,6 +73,30 @@ impl Walker {
                 self.begin(listener, rest)
             }
         }
+    }
+
+    /// Emits all events of a line that spells these bytes of a side, where no line has begun.
+    pub fn take<L: Listener>(
+        &mut self,
+        listener: &mut L,
+        from: Direction,
+        bytes: &[u8],
+    ) -> Result<(), TraceFault>
+        requires ready { IsReady self.old }
+        requires between { IsBetweenLines self.old }
+        ensures reads { (read : List ℕ) (earlier : List At) → HasRead (walker_reading self.old) (walker_scope self.old)
+            read earlier self.old → AnswersFeed (walker_reading self.old) L.hears L.fails (walker_scope self.old)
+            (read ++ piece_text from bytes.now) earlier self.new listener.old listener.new result }
+        ensures ready { OnOk result (IsReady self.new) }
+        ensures between { IsBetweenLines self.new }
+        ensures reading { walker_reading self.new ≡ walker_reading self.old }
+        ensures scope { walker_scope self.new ≡ walker_scope self.old }
+    {
+        let size = (bytes.len() as u64).saturating_mul(2).saturating_add(3);
+        if size > MOST - self.progress.size() {
+            return Err(TraceFault::TooLong);
+        }
+        self.progress.take(listener, from, bytes)
     }
 
     /// Ends the trace: emits the events of a last line without a line feed, and of incomplete messages. Returns the

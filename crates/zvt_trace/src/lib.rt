@@ -2,6 +2,9 @@
 //!
 //! [`read_trace`] reads one whole. [`walk`] emits to a [`Listener`] all that it says, line by line. A [`Walker`] is fed
 //! a trace chunk by chunk, as [`read_chunk`] brings it. A [`Line`] takes the bytes themselves, with no trace.
+//!
+//! An [`Observer`] sees the chunks of a line while they pass. An [`Observed`] device shows its bytes to one, and a
+//! [`TraceWriter`] is one that writes a trace.
 #![tactic(auto)]
 
 mod both;
@@ -17,10 +20,13 @@ mod laws;
 mod line;
 mod lines;
 mod listener;
+mod observed;
+mod observer;
 mod side;
 mod spelled;
 mod tally;
 mod walker;
+mod writer;
 
 pub use both::Both;
 pub use chunks::Walker;
@@ -32,6 +38,9 @@ pub use input::{read_chunk, read_trace};
 pub use laws::chunks_are_lines;
 pub use lines::next_line;
 pub use listener::{Listener, ListenerError, Scope};
+pub use observed::Observed;
+pub use observer::Observer;
 pub use spelled::spelled_bytes;
 pub use walker::walk;
+pub use writer::{TraceWriter, end_trace, ends_lacking};
 pub use zvt_stream::Head;

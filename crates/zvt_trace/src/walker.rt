@@ -1,5 +1,5 @@
 //! The walk over a whole trace, and both sides of its line.
-ghost use Rattle.std.specs.Prelude.{◌≡◌, ◌<◌, ◌≤◌, ◌+◌, ◌++◌, [], ℕ, List, length, IfOk, OnOk};
+ghost use Rattle.std.specs.Prelude.{◌≡◌, ◌<◌, ◌≤◌, ◌+◌, ◌*◌, ◌++◌, [], ℕ, List, length, IfOk, OnOk};
 ghost use Rattle.std.specs.Str.Lines.{lines};
 ghost use Rattle.zvt_grammar.specs.Reading.{Reading};
 ghost use Rattle.zvt_grammar.specs.Lengths.{reading_of};
@@ -11,6 +11,7 @@ ghost use Rattle.zvt_trace.specs.TraceEvent.{At};
 ghost use Rattle.zvt_trace.specs.Listening.{AnswersFrom, AnswersWalk, EmitsEnd, EmitsLine, FollowBoth, HasWalked};
 ghost use Rattle.zvt_trace.specs.Listening.{IsSound, TakeBy, WalksFirst, WalksLine, WalksOn, most, reading_by};
 ghost use Rattle.zvt_trace.specs.Listening.{scope_of};
+ghost use Rattle.zvt_trace.specs.Lines.{piece_text};
 ghost use Rattle.zvt_trace.specs.Written.{limit};
 
 use crate::both::Both;
@@ -124,6 +125,41 @@ impl Progress {
         self.number = number;
         self.tally = both.first;
         self.size += text.len() as u64;
+        Ok(())
+    }
+
+    /// Emits what a line says that spells these bytes of a side.
+    pub(crate) fn take<L: Listener>(
+        &mut self,
+        listener: &mut L,
+        from: Direction,
+        bytes: &[u8],
+    ) -> Result<(), TraceFault>
+        requires sound { IsSound self.old }
+        requires fits { self.old.size + (2 * length bytes.now + 3) ≤ most }
+        ensures walks { (before : List (List ℕ)) (earlier : List At) → HasWalked (reading_by self.old)
+            (scope_of self.old) before earlier self.old → WalksOn (reading_by self.old) L.hears L.fails
+            (scope_of self.old) (before ++ lines (piece_text from bytes.now)) earlier self.new listener.old
+            listener.new result }
+        ensures sound { OnOk result (IsSound self.new) }
+        ensures size { OnOk result (self.new.size ≡ self.old.size + (2 * length bytes.now + 3)) }
+        ensures options { self.new.options ≡ self.old.options }
+    {
+        let options = self.options;
+        let number = self.number + 1;
+        let mut both = Both {
+            first: self.tally,
+            second: listener,
+        };
+        let piece = Piece {
+            bytes,
+            undecoded: &[],
+        };
+        self.sides
+            .feed_piece(&mut both, &options, number, from, piece)?;
+        self.number = number;
+        self.tally = both.first;
+        self.size += 2 * bytes.len() as u64 + 3;
         Ok(())
     }
 

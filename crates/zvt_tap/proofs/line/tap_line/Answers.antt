@@ -1,12 +1,26 @@
 use Rattle.std.proofs.Common.{[]}
-use Rattle.zvt_tap.specs.Log.{LogState, Observes, log_state}
-use Rattle.zvt_tap.proofs.RelayLemmas.{by_observed, first_holds}
+use Rattle.zvt_tap.specs.Chunks.{trace_text}
+use Rattle.zvt_tap.specs.Log.{HasFound}
+use Rattle.zvt_tap.specs.Traced.{failures_by, traced_by}
+use Rattle.zvt_tap.proofs.LogLemmas.{all_fails, all_logged, fails_more, found_stopped, stop_fails}
+use Rattle.zvt_tap.proofs.RelayLemmas.{always, by_observed}
 use Rattle.zvt_tap.proofs.line.tap_line.Goals as goal
 
 pub returns-clause-tapped : goal.returns-clause-tapped
 returns-clause-tapped g c = λ r first held has.
-    let old : LogState =
-    log_state (g.T.Sink.written c.args.log.parts.tracing.device) (g.T.Sink.failures c.args.log.parts.tracing.device) c.args.log.parts.tracing.failed c.args.log.parts.tracing.required (g.O.Sink.written c.args.log.parts.output) c.args.log.parts.shown c.args.log.parts.heard in
-    let log = c.run_relay-ended.new.observer in
-    let new : LogState = log_state (g.T.Sink.written log.parts.tracing.device) (g.T.Sink.failures log.parts.tracing.device) log.parts.tracing.failed log.parts.tracing.required (g.O.Sink.written log.parts.output) log.parts.shown log.parts.heard in
-    by_observed (λ text. Observes old text new) _ _ _ _ _ _ c.run_relay-ended.result (λ text observes. c.finish.ensures.found r text first held (observes.observed r [] first held has)) (λ stops. c.finish.ensures.failed.1 (first_holds _ _ stops)) c.run_relay-ended.ensures.relayed
+    let found = c.end_log.result in
+    by_observed _ _ _ _ _ _ c.run_relay-ended.result
+    (λ chunks all. c.end_log.ensures.found r (trace_text chunks) first held (all_logged g.T.Sink.written g.T.Sink.failures g.O.Sink.written r [] first held chunks c.args.log c.run_relay-ended.new.log all has))
+    (found_stopped g.T.Sink.written g.T.Sink.failures g.O.Sink.written r first held
+    (λ trace. HasFound r trace first held found.tracing.failed (traced_by g.T.Sink.written found.tracing.trace) (g.O.Sink.written found.output) found.shown found.audited) found.tracing.failed c.args.log c.run_relay-ended.new.log
+    (λ trace observed. c.end_log.ensures.found r trace first held observed) c.end_log.ensures.failed.1 has)
+    c.run_relay-ended.ensures.relayed
+
+pub returns-clause-failed : goal.returns-clause-failed
+returns-clause-failed g c =
+    fails_more c.args.log.recorder.failed c.run_relay-ended.new.log.recorder.failed c.end_log.result.tracing.failed (failures_by g.T.Sink.failures c.args.log.recorder.trace) (failures_by g.T.Sink.failures c.run_relay-ended.new.log.recorder.trace) (failures_by g.T.Sink.failures c.end_log.result.tracing.trace)
+    (always _ _ _ c.run_relay-ended.result (by_observed _ _ _ _ _ _ c.run_relay-ended.result
+    (λ chunks all. all_fails g.T.Sink.written g.T.Sink.failures g.O.Sink.written chunks c.args.log c.run_relay-ended.new.log all)
+    (λ why chunks last missed. stop_fails g.T.Sink.written g.T.Sink.failures g.O.Sink.written why chunks last c.args.log c.run_relay-ended.new.log missed)
+    c.run_relay-ended.ensures.relayed))
+    c.end_log.ensures.failed

@@ -1,0 +1,42 @@
+-- What is shown of a line while it goes on.
+use Rattle.std.specs.Prelude.{◌⊎◌, ◌++◌, ◌∷◌, [], codes, ℕ, List, Option, None, Some, Result, Ok, Err}
+use Rattle.std.specs.Str.Lines.{lines}
+use Rattle.zvt_grammar.specs.Reading.{Reading}
+use Rattle.zvt_io.specs.Devices.{IsPrefix}
+use Rattle.zvt_trace.specs.Chunks.{IsBetweenLines}
+use Rattle.zvt_trace.specs.declared.fault.Tally.{Tally}
+use Rattle.zvt_trace.specs.declared.fault.TraceFault.{TraceFault}
+use Rattle.zvt_trace.specs.declared.listener.Scope.TheVariants.{OneSide}
+use Rattle.zvt_show.specs.Followed.{HasWritten, IsFollowing, TurnFaults}
+use Rattle.zvt_show.specs.Written.{AnswersLinesBy}
+use Rattle.zvt_show.specs.declared.follow.Follower.{Follower}
+use Rattle.zvt_show.specs.declared.render.Style.{Style}
+
+-- how far the text of a line has come, whether showing it failed, and the device that has the text
+pub record Showing (W : Type 0) : Type 0 where
+  pub follower : Follower
+  pub fault : Option TraceFault
+  pub output : W
+
+-- unless showing failed, more can be shown
+abbrev pub MayShow : Option TraceFault → Follower → Type 0
+MayShow None follower = IsFollowing follower × IsBetweenLines follower.walker
+MayShow (Some fault) follower = Unit {0}
+
+-- The text of this trace is shown, of all its whole lines; or showing failed over the last line of a prefix.
+abbrev pub HasShownBy : Option TraceFault → Reading → Style → (trace : List ℕ) → (first now : Option (List ℕ)) → Follower → Type 0
+HasShownBy None r style trace first now follower = HasWritten r OneSide style trace first now follower
+HasShownBy (Some fault) r style trace first now follower = (part : List ℕ) × IsPrefix part trace × TurnFaults r OneSide style part first now fault
+
+abbrev pub HasShown : {W : Type 0} → (W → Option (List ℕ)) → Reading → Style → (trace : List ℕ) → (first : Option (List ℕ)) → Showing W → Type 0
+HasShown written r style trace first shown = HasShownBy shown.fault r style trace first (written shown.output) shown.follower
+
+-- what these lines of the trace say is shown besides
+abbrev pub Shows : {W : Type 0} → (W → Option (List ℕ)) → (old : Showing W) → (text : List ℕ) → (new : Showing W) → Type 0
+Shows written old text new = (r : Reading) (style : Style) (trace : List ℕ) (first : Option (List ℕ)) → HasShown written r style trace first old → HasShown written r style (trace ++ text) first new
+
+-- What is shown of a whole trace: its text; or showing failed at its end, or over the last line of a prefix.
+abbrev pub AnswersShown : Reading → Style → (trace : List ℕ) → (first now : Option (List ℕ)) → Result Tally TraceFault → Type 0
+AnswersShown r style trace first now (Ok tally) = AnswersLinesBy r OneSide style (lines trace) first now (Ok tally)
+AnswersShown r style trace first now (Err fault) =
+    AnswersLinesBy r OneSide style (lines trace) first now (Err fault) ⊎ (part : List ℕ) × IsPrefix part trace × TurnFaults r OneSide style part first now fault

@@ -1,0 +1,129 @@
+-- What the log of a line has observed, once more chunks have come.
+use Rattle.std.proofs.Common.{◌≡◌, ◌⊎◌, ◌<◌, ◌&&◌, inl, inr, Bool, true, false, ℕ, List, [], ◌∷◌, ◌++◌, Option, append-nil, append_assoc, codes, le_refl, le_trans, lt_of_le_of_lt, lt_of_lt_of_le, refl, subst, sym}
+use Rattle.zvt_grammar.specs.Reading.{Reading}
+use Rattle.zvt_show.specs.Shown.{HasShown, Showing, Shows}
+use Rattle.zvt_show.specs.declared.render.Style.TheVariants.{Show}
+use Rattle.zvt_trace.specs.Lines.{piece_text}
+use Rattle.zvt_trace.specs.Observing.{BothObserve, Misses, Observes, OneMisses}
+use Rattle.zvt_trace.specs.declared.both.Both.{Both}
+use Rattle.zvt_trace.specs.declared.direction.Direction.{Direction}
+use Rattle.zvt_trace.specs.declared.listener.ListenerError.{ListenerError}
+use Rattle.zvt_trace.specs.declared.listener.ListenerError.TheVariants.{Memory, Write}
+use Rattle.zvt_tap.specs.Chunks.{Chunk, trace_text}
+use Rattle.zvt_tap.specs.Heard.{HasHeard, Hearing, HearsOn}
+use Rattle.zvt_tap.specs.Log.{FoundStopped, HasObserved}
+use Rattle.zvt_tap.specs.Traced.{FailsOnlyIf, GoesOn, HasTraced, Stops, TracesOn, failures_by, traced_by}
+use Rattle.zvt_tap.specs.Watching.{Loses, ObservesAll, ObservesUntil, Records, Sees}
+use Rattle.zvt_tap.specs.declared.tracing.Tracing.{Tracing}
+use Rattle.zvt_tap.specs.declared.watched.Watched.{Watched}
+use Rattle.zvt_tap.proofs.MoveLemmas.{text_one}
+
+-- ---- how the trace fails
+
+pub fails_not : (is : Bool) (count : ℕ) → FailsOnlyIf is is count count
+fails_not is count = (le_refl count, λ e. e, λ e. inl e)
+
+pub fails_more : (a b c : Bool) (x y z : ℕ) → FailsOnlyIf a b x y → FailsOnlyIf b c y z → FailsOnlyIf a c x z
+fails_more a b c x y z (up, stays, first) (up_more, stays_more, then) = (le_trans up up_more, λ e. stays_more (stays e), λ e. by (then e))
+  where
+    by : (b ≡ true) ⊎ (y < z) → (a ≡ true) ⊎ (x < z)
+    by (inr grown) = inr (lt_of_le_of_lt up grown)
+    by (inl failed) = before (first failed)
+      where
+        before : (a ≡ true) ⊎ (x < y) → (a ≡ true) ⊎ (x < z)
+        before (inl same) = inl same
+        before (inr grown) = inr (lt_of_lt_of_le grown up_more)
+
+-- where both hold the first does
+first_holds : (a b : Bool) → (a && b) ≡ true → a ≡ true
+first_holds true b is = refl
+first_holds false b is = is
+
+-- ---- a log
+
+module _ {T O : Type 0} (written : T → Option (List ℕ)) (failures : T → ℕ) (output : O → Option (List ℕ)) where
+  abbrev pub Log : Type 0
+  Log = Watched (Tracing T) (Both (Showing O) Hearing)
+
+  abbrev pub traces : Observes (Tracing T)
+  traces old from bytes new = GoesOn written failures old (piece_text from bytes) new
+
+  abbrev pub stops : Misses (Tracing T)
+  stops old from bytes why new = Stops written failures old (piece_text from bytes) why new
+
+  abbrev pub shows : Observes (Showing O)
+  shows old from bytes new = Shows output old (piece_text from bytes) new
+
+  abbrev pub hears : Observes Hearing
+  hears old from bytes new = HearsOn old (piece_text from bytes) new
+
+  abbrev pub never : {S : Type 0} → Misses S
+  never old from bytes why new = ⊥
+
+  abbrev pub watches : Observes (Both (Showing O) Hearing)
+  watches old from bytes new = BothObserve shows hears from bytes old.first old.second new.first new.second
+
+  abbrev pub overlooks : Misses (Both (Showing O) Hearing)
+  overlooks old from bytes why new = OneMisses shows never never from bytes why old.first old.second new.first new.second
+
+  abbrev pub logs : Observes Log
+  logs = Records traces stops watches overlooks
+
+  abbrev pub loses : Misses Log
+  loses = Loses traces stops watches overlooks
+
+  abbrev pub Has : Reading → List ℕ → (first_trace first_output : Option (List ℕ)) → Log → Type 0
+  Has r trace first_trace first_output log = HasObserved written output r trace first_trace first_output log.recorder log.watcher.first log.watcher.second
+
+  -- no watcher overlooks a chunk
+  sees : (from : Direction) (bytes : List ℕ) (old new : Both (Showing O) Hearing) → Sees watches overlooks from bytes old new → watches old from bytes new
+  sees from bytes old new (inl seen) = seen
+  sees from bytes old new (inr (why, inl missed)) = absurd missed.0
+  sees from bytes old new (inr (why, inr missed)) = absurd missed.1
+
+  one_more : (r : Reading) (trace text : List ℕ) (first held : Option (List ℕ)) (old new : Log) → TracesOn written failures old.recorder text new.recorder → Shows output old.watcher.first text new.watcher.first → HearsOn old.watcher.second text new.watcher.second
+      → Has r trace first held old → Has r (trace ++ text) first held new
+  one_more r trace text first held old new traced shown heard has = record { traced = traced.traced trace first has.traced; shows = shown r _ trace held has.shows; hears = heard r trace has.hears }
+
+  one_logged : (r : Reading) (trace : List ℕ) (first held : Option (List ℕ)) (from : Direction) (bytes : List ℕ) (old new : Log) → logs old from bytes new → Has r trace first held old → Has r (trace ++ piece_text from bytes) first held new
+  one_logged r trace first held from bytes old new (traced, seen) has =
+      let watched = sees from bytes old.watcher new.watcher seen in
+      one_more r trace (piece_text from bytes) first held old new traced.0 watched.0 watched.1 has
+
+  pub all_logged : (r : Reading) (trace : List ℕ) (first held : Option (List ℕ)) (chunks : List Chunk) (old new : Log) → ObservesAll logs old chunks new → Has r trace first held old → Has r (trace ++ trace_text chunks) first held new
+  all_logged r trace first held [] old new same has = subst (λ (log : Log). Has r (trace ++ []) first held log) (sym same) (subst (λ (t : List ℕ). Has r t first held old) (sym (append-nil trace)) has)
+  all_logged r trace first held (one ∷ more) old new (middle, step, rest) has =
+      subst (λ (t : List ℕ). Has r t first held new) (append_assoc trace (piece_text one.from one.bytes) (trace_text more))
+      (all_logged r (trace ++ piece_text one.from one.bytes) first held more middle new rest (one_logged r trace first held one.from one.bytes old middle step has))
+
+  -- what was found of a line that was stopped
+  pub found_stopped : (r : Reading) (first held : Option (List ℕ)) (Found : List ℕ → Type 0) (failed : Bool) (old new : Log) → ((trace : List ℕ) → Has r trace first held new → Found (trace ++ (codes "!" ++ 10 ∷ []))) → (new.recorder.failed ≡ true → failed ≡ true)
+      → Has r [] first held old → (why : ListenerError) (chunks : List Chunk) (last : Chunk) → ObservesUntil logs loses old chunks last why new → FoundStopped Found failed why chunks last
+  found_stopped r first held Found failed old new finds fails has Memory chunks last (middle, all, missed) =
+      let before = all_logged r [] first held chunks old middle all has in
+      finds (trace_text chunks) (record {
+        traced = subst (λ (t : List ℕ). HasTraced new.recorder.failed t first (traced_by written new.recorder.trace)) (append-nil (trace_text chunks)) (missed.0.traced (trace_text chunks) first before.traced);
+        shows = subst (λ (w : Both (Showing O) Hearing). HasShown output r Show (trace_text chunks) held w.first) (sym missed.1) before.shows;
+        hears = subst (λ (w : Both (Showing O) Hearing). HasHeard r (trace_text chunks) w.second) (sym missed.1) before.hears;
+      })
+  found_stopped r first held Found failed old new finds fails has Write chunks last (middle, all, missed) =
+      let before = all_logged r [] first held chunks old middle all has in
+      let watched = sees last.from last.bytes middle.watcher new.watcher missed.1 in
+      let after = one_more r (trace_text chunks) (piece_text last.from last.bytes) first held middle new missed.0.0 watched.0 watched.1 before in
+      (finds (trace_text (chunks ++ last ∷ [])) (subst (λ (t : List ℕ). Has r t first held new) (sym (text_one chunks last)) after), fails (first_holds new.recorder.failed new.recorder.required missed.0.1))
+
+  -- ---- how it fails
+
+  abbrev Fails : (old new : Log) → Type 0
+  Fails old new = FailsOnlyIf old.recorder.failed new.recorder.failed (failures_by failures old.recorder.trace) (failures_by failures new.recorder.trace)
+
+  fails_then : (a b c : Log) → Fails a b → Fails b c → Fails a c
+  fails_then a b c one two = fails_more a.recorder.failed b.recorder.failed c.recorder.failed (failures_by failures a.recorder.trace) (failures_by failures b.recorder.trace) (failures_by failures c.recorder.trace) one two
+
+  pub all_fails : (chunks : List Chunk) (old new : Log) → ObservesAll logs old chunks new → Fails old new
+  all_fails [] old new same = subst (λ (log : Log). Fails old log) (sym same) (fails_not old.recorder.failed (failures_by failures old.recorder.trace))
+  all_fails (one ∷ more) old new (middle, step, rest) = fails_then old middle new step.0.0.fails (all_fails more middle new rest)
+
+  pub stop_fails : (why : ListenerError) (chunks : List Chunk) (last : Chunk) (old new : Log) → ObservesUntil logs loses old chunks last why new → Fails old new
+  stop_fails Memory chunks last old new (middle, all, missed) = fails_then old middle new (all_fails chunks old middle all) missed.0.fails
+  stop_fails Write chunks last old new (middle, all, missed) = fails_then old middle new (all_fails chunks old middle all) missed.0.0.fails
