@@ -330,9 +330,12 @@ reverse:1 -> aborted B5 reversal not possible
 total 500" "zvt: '$work/day.book': a crash left 10 bytes of an unfinished record"
 [ "$(cat "$work/day.book.cut")" = "$(printf 'pay 7\n> 06')" ] || echo "what was cut" >> "$work/failed"
 "$zvt" loop --book "$work/marked.book" register pay:1000 pay:500 reverse:1 close > "$work/out" 2> "$work/err"
-reads "what a book has" 0 "booked 1000 trace 000001 receipt 0001 reversed
-booked 500 trace 000002 receipt 0002
-total 500" "" book "$work/marked.book"
+"$zvt" book "$work/marked.book" > "$work/timed" 2> "$work/err"
+status=$?
+sed 's/ at 20[0-9][0-9]-[0-9][0-9]-[0-9][0-9]T[0-9][0-9]:[0-9][0-9]:[0-9][0-9]Z$/ at TIME/' "$work/timed" > "$work/out"
+check "what a book has" "$status" 0 "booked 1000 trace 000001 receipt 0001 reversed at TIME
+booked 500 trace 000002 receipt 0002 at TIME
+total 500" ""
 "$zvt" loop --book "$work/marked.book" pay:1 > "$work/out" 2> "$work/err"
 check "a book without a registration" "$?" 0 "pay:1 -> not sent: NotRegistered
 total 500" "zvt: '$work/marked.book': 2 booked, 0 unclear, total 500"
