@@ -7,7 +7,7 @@ use zvt_bcd::{Amount, Trace};
 use zvt_io::Over;
 use zvt_json::Form;
 use zvt_kept::{Note, Recovered};
-use zvt_session::{EndFault, write_book};
+use zvt_runs::{EndFault, write_book};
 use zvt_till::{CurrencyFact, Heard, Order, Original, StatusFacts, Till};
 
 const WORDS: &str = r#"booked 1000 trace 000001 receipt 0001

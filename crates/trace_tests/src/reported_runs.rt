@@ -5,7 +5,7 @@ use std::io::{self, Read, Write};
 use std::test::Fail;
 use zvt_io::Over;
 use zvt_json::Form;
-use zvt_session::{EndFault, Endpoint, Ends, NoNotes, StepOptions, StepRun, plan, run_till_end};
+use zvt_runs::{EndFault, Endpoint, Ends, NoNotes, StepOptions, StepRun, plan, run_till_end};
 use zvt_stream::{LineFault, Stream};
 use zvt_tcp::{LoopRun, run_loop};
 use zvt_till::Till;

@@ -4,7 +4,7 @@ use std::alloc::Global;
 use std::process::Abort;
 use std::test::Fail;
 use zvt_grammar::Why;
-use zvt_session::{EndFault, NetFault};
+use zvt_runs::{EndFault, NetFault};
 use zvt_stream::LineFault;
 
 /// The fault has the text beside it.

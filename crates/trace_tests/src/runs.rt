@@ -9,7 +9,7 @@ use std::test::Fail;
 use zvt_grammar::{Lengths, Why};
 use zvt_io::{Over, Sink, Source};
 use zvt_json::Form;
-use zvt_session::{
+use zvt_runs::{
     BothEnds, EndFault, Ends, NetFault, NoNotes, Planned, StepOptions, StepRun, config_of,
     currency_of, password_of, plan, run_both_ends, run_till_end, serve,
 };

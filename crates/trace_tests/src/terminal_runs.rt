@@ -6,7 +6,7 @@ use std::test::Fail;
 use zvt_grammar::Lengths;
 use zvt_io::Over;
 use zvt_json::Form;
-use zvt_session::{EndFault, NetFault};
+use zvt_runs::{EndFault, NetFault};
 use zvt_tcp::{TerminalRun, run_terminal};
 use zvt_term::Verdict;
 

@@ -6,8 +6,8 @@ use Rattle.zvt_term.specs.declared.turns.Verdict.{Verdict}
 use Rattle.zvt_term.specs.declared.turns.Verdict.TheVariants.{Approve, Decline}
 use Rattle.zvt_tcp.specs.declared.options.TillRun.{TillRun}
 use Rattle.zvt_tool.specs.Options.{form_by, lengths_by}
-use Rattle.zvt_session.specs.Settings.{config_of, currency_of, password_of}
-use Rattle.zvt_session.specs.Words.{code_in}
+use Rattle.zvt_runs.specs.Settings.{config_of, currency_of, password_of}
+use Rattle.zvt_runs.specs.Words.{code_in}
 use Rattle.zvt_till.specs.declared.settings.TillSettings.{TillSettings}
 use Rattle.zvt_tool.specs.declared.till_options.TillOptions.{TillOptions}
 

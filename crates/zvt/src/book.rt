@@ -15,7 +15,7 @@ use zvt_io::Over;
 use zvt_journal::{FileDevice, FileFailure, JournalFileError, Opened, open_file, read_book};
 use zvt_json::Form;
 use zvt_kept::{KeptTill, Recovered, RecoveryError, recover};
-use zvt_session::{EndFault, write_book, write_records};
+use zvt_runs::{EndFault, write_book, write_records};
 use zvt_till::{Till, TillSettings};
 use zvt_tool::statuses::{DONE, MEMORY, WORDS, of_device, of_file_error, of_recovery};
 use zvt_trace::next_line;

@@ -9,7 +9,7 @@ use std::alloc::{AllocError, Global};
 use std::fs;
 use std::io::{self, Write};
 use zvt_play::ScriptStep;
-use zvt_session::{EndFault, NetFault};
+use zvt_runs::{EndFault, NetFault};
 use zvt_text::Text;
 use zvt_tool::CheckOptions;
 use zvt_tool::label::Label;

@@ -3,7 +3,7 @@
 use std::net::TcpStream;
 use std::time::Duration;
 use std::{io, thread};
-use zvt_session::NetFault;
+use zvt_runs::NetFault;
 use zvt_tcp::{Door, SILENCE_SECONDS, connect, listen};
 
 /// The source of a script's connections.

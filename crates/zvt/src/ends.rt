@@ -14,7 +14,7 @@ use std::io;
 use zvt_io::Over;
 use zvt_journal::FileDevice;
 use zvt_kept::KeptTill;
-use zvt_session::{Clocked, Ends, NoNotes, Planned, StepOptions, plan};
+use zvt_runs::{Clocked, Ends, NoNotes, Planned, StepOptions, plan};
 use zvt_tcp::{LoopRun, TerminalRun, run_loop, run_terminal};
 use zvt_till::{Till, TillSettings};
 use zvt_tool::TerminalOptions;

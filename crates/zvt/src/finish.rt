@@ -6,7 +6,7 @@ use crate::reports::{report, report_on};
 use std::fmt::Display;
 use std::io;
 use zvt_audit::AuditSummary;
-use zvt_session::EndFault;
+use zvt_runs::EndFault;
 use zvt_tool::statuses;
 use zvt_trace::TraceFault;
 

@@ -30,7 +30,7 @@ use crate::reports::report;
 use std::io::ErrorKind;
 use std::process::ExitCode;
 use std::{env, io};
-use zvt_session::StepOptions;
+use zvt_runs::StepOptions;
 use zvt_tool::options::form_by;
 use zvt_tool::statuses::{DEVICE, DONE, MEMORY, WORDS};
 use zvt_tool::{Choice, ChoiceFault, choice, with_show};

@@ -16,7 +16,7 @@ use zvt_play::{
     Action, Difference, Names, ScriptFault, ScriptStep, Unplayed, difference_text, listen_on,
     script, stay_silent, surplus_text,
 };
-use zvt_session::{EndFault, NetFault};
+use zvt_runs::{EndFault, NetFault};
 use zvt_stream::{Endpoint, Stream};
 use zvt_tcp::SILENCE_SECONDS;
 use zvt_text::Text;

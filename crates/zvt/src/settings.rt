@@ -1,12 +1,12 @@
 //! The settings of a till and the verdict of a terminal, from the arguments.
 ghost use Rattle.std.specs.Prelude.{◌≡◌, IfOk};
-ghost use Rattle.zvt_session.specs.Settings.{config_of, currency_of, password_of};
+ghost use Rattle.zvt_runs.specs.Settings.{config_of, currency_of, password_of};
 ghost use Rattle.zvt.specs.Settings.{AreSettings, named, verdict_named};
 
 use crate::reports::report_invalid;
 use std::io;
 use zvt_bcd::Currency;
-use zvt_session::{config_of, currency_of, password_of, result_code};
+use zvt_runs::{config_of, currency_of, password_of, result_code};
 use zvt_term::Verdict;
 use zvt_till::TillSettings;
 use zvt_tool::TillOptions;

@@ -15,7 +15,7 @@ use std::io;
 use zvt_io::Over;
 use zvt_journal::FileDevice;
 use zvt_kept::KeptTill;
-use zvt_session::{Clocked, Ends, NoNotes, Planned, StepOptions};
+use zvt_runs::{Clocked, Ends, NoNotes, Planned, StepOptions};
 use zvt_tcp::{TillRun, run_till};
 use zvt_till::TillSettings;
 use zvt_tool::TillOptions;

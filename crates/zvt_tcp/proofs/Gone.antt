@@ -7,7 +7,7 @@ use Rattle.zvt_stream.specs.declared.line.LineFault.{LineFault}
 use Rattle.zvt_text.specs.Writing.{Adds}
 use Rattle.zvt_json.specs.declared.form.Form.{Form}
 use Rattle.zvt_json.specs.declared.form.Form.TheVariants as forms
-use Rattle.zvt_session.specs.Reporting.{Reports}
+use Rattle.zvt_runs.specs.Reporting.{Reports}
 use Rattle.zvt_term.specs.declared.ledger.Row.{Row}
 use Rattle.zvt_tcp.specs.LedgerRows.{rows_text}
 use Rattle.zvt_tcp.specs.Reporting.{IsReport, SaysGone, ReportsGone, approvals, ledger_text}

@@ -10,10 +10,10 @@ use Rattle.zvt_stream.specs.declared.line.LineFault.TheVariants.{Read, Write, En
 use Rattle.zvt_term.specs.Served.{served_loses}
 use Rattle.zvt_term.specs.Terminal.{TerminalState, lost_terminal}
 use Rattle.zvt_term.specs.declared.served.Served.{Served}
-use Rattle.zvt_session.specs.LineEnd.{EndState}
-use Rattle.zvt_session.specs.declared.fault.EndFault.{EndFault}
-use Rattle.zvt_session.specs.declared.fault.EndFault.TheVariants.{BadStep, Book, Line as LineBroke, Memory as NoMemory, Net, Silent, Trace, Unsuccessful, Write as NotWritten}
-use Rattle.zvt_session.specs.Service.{Serves}
+use Rattle.zvt_runs.specs.LineEnd.{EndState}
+use Rattle.zvt_runs.specs.declared.fault.EndFault.{EndFault}
+use Rattle.zvt_runs.specs.declared.fault.EndFault.TheVariants.{BadStep, Book, Line as LineBroke, Memory as NoMemory, Net, Silent, Trace, Unsuccessful, Write as NotWritten}
+use Rattle.zvt_runs.specs.Service.{Serves}
 use Rattle.zvt_tcp.specs.Tills.{AnswersTill, AnswersTills, IsOffline, ServesLine, ServesLines, ServesMany, ServesSome, first_broken}
 
 lost_offline : (old new : TerminalState) → new ≡ lost_terminal old → IsOffline new

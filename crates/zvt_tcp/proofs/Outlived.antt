@@ -15,17 +15,17 @@ use Rattle.zvt_kept.specs.Keeping.{kept_connects, kept_orders}
 use Rattle.zvt_kept.specs.KeptTill.{Connects, HasLog, Hears, IsKept, Keeps, KeptValue, LosesLine, has_failed, kept_rests, till_of, unless_up, with_note}
 use Rattle.zvt_kept.specs.Outliving.{CallsOutlive, Did, DidAll, HappenInAll, KeptStep, connects}
 use Rattle.zvt_kept.specs.Runs.{RanKept}
-use Rattle.zvt_session.specs.declared.fault.EndFault.{EndFault}
-use Rattle.zvt_session.specs.declared.fault.EndFault.TheVariants.{BadStep, Book, Line as LineBroke, Memory, Net, Silent, Trace, Unsuccessful, Write}
-use Rattle.zvt_session.specs.declared.plans.Planned.{Planned}
-use Rattle.zvt_session.specs.declared.plans.StepOptions.{StepOptions}
-use Rattle.zvt_session.specs.TillRuns.{RunsTill}
-use Rattle.zvt_session.specs.LineEnd.{EndState}
-use Rattle.zvt_session.specs.Made.{Made, stop_of}
-use Rattle.zvt_session.specs.Runs.{Answers, BreaksIn, EndsInStep, EndsInTotal, GoesOn, MakesAll, MakesTo, RunsOut, Standing, standing}
-use Rattle.zvt_session.specs.Reporting.{ReportsRun}
-use Rattle.zvt_session.specs.Steps.{order_of}
-use Rattle.zvt_session.specs.TillEnd.{BeginsThere, MakesThere}
+use Rattle.zvt_runs.specs.declared.fault.EndFault.{EndFault}
+use Rattle.zvt_runs.specs.declared.fault.EndFault.TheVariants.{BadStep, Book, Line as LineBroke, Memory, Net, Silent, Trace, Unsuccessful, Write}
+use Rattle.zvt_runs.specs.declared.plans.Planned.{Planned}
+use Rattle.zvt_runs.specs.declared.plans.StepOptions.{StepOptions}
+use Rattle.zvt_runs.specs.TillRuns.{RunsTill}
+use Rattle.zvt_runs.specs.LineEnd.{EndState}
+use Rattle.zvt_runs.specs.Made.{Made, stop_of}
+use Rattle.zvt_runs.specs.Runs.{Answers, BreaksIn, EndsInStep, EndsInTotal, GoesOn, MakesAll, MakesTo, RunsOut, Standing, standing}
+use Rattle.zvt_runs.specs.Reporting.{ReportsRun}
+use Rattle.zvt_runs.specs.Steps.{order_of}
+use Rattle.zvt_runs.specs.TillEnd.{BeginsThere, MakesThere}
 use Rattle.zvt_tcp.specs.Outliving.{BookRunsOutlive, MakesKept, OutlivesRun, call_of, calls_of}
 
 map_snoc : (done : List Planned) (planned : Planned) → map call_of (done ++ planned ∷ []) ≡ map call_of done ++ call_of planned ∷ []

@@ -1,21 +1,21 @@
 -- A run whose trace broke, or did not.
 use Rattle.std.proofs.Common.{◌≡◌, ℕ, List, Option, Some, None, Bool, true, false, Result, Ok, Err, inl, inr, subst, sym}
-use Rattle.zvt_session.specs.declared.plans.StepOptions.{StepOptions}
+use Rattle.zvt_runs.specs.declared.plans.StepOptions.{StepOptions}
 use Rattle.zvt_till.specs.declared.entries.Entry.{Entry}
 use Rattle.zvt_till.specs.Sending.{Settings}
-use Rattle.zvt_session.specs.RunsPlan.{RunsPlan}
+use Rattle.zvt_runs.specs.RunsPlan.{RunsPlan}
 use Rattle.zvt_till.specs.View.{TillValue}
 use Rattle.zvt_till.specs.Keeping.{itself, never_failed, till_connects}
 use Rattle.zvt_till.specs.Till.{new_till}
-use Rattle.zvt_session.specs.Runs.{StepLaw, noting}
-use Rattle.zvt_session.specs.TillRuns.{forgets}
-use Rattle.zvt_session.proofs.Alone.{HasNoBook}
-use Rattle.zvt_session.proofs.Seen.{ran_alone}
-use Rattle.zvt_session.specs.declared.plans.Planned.{Planned}
+use Rattle.zvt_runs.specs.Runs.{StepLaw, noting}
+use Rattle.zvt_runs.specs.TillRuns.{forgets}
+use Rattle.zvt_runs.proofs.Alone.{HasNoBook}
+use Rattle.zvt_runs.proofs.Seen.{ran_alone}
+use Rattle.zvt_runs.specs.declared.plans.Planned.{Planned}
 use Rattle.zvt_tcp.specs.OverTcp.{AnswersOverTcp, AnswersRun}
 use Rattle.zvt_tcp.specs.Traced.{AnswersTraced, by_silence, by_trace}
-use Rattle.zvt_session.specs.declared.fault.EndFault.{EndFault}
-use Rattle.zvt_session.specs.declared.fault.EndFault.TheVariants.{BadStep, Book, Line, Memory, Net, Silent, Trace, Unsuccessful, Write}
+use Rattle.zvt_runs.specs.declared.fault.EndFault.{EndFault}
+use Rattle.zvt_runs.specs.declared.fault.EndFault.TheVariants.{BadStep, Book, Line, Memory, Net, Silent, Trace, Unsuccessful, Write}
 
 whole : (Answers : Result Unit EndFault → Type 0) (result : Result Unit EndFault) → (Answers (Err Trace) → ⊥) → Answers result → AnswersTraced Answers result
 whole Answers (Ok done) never a = a

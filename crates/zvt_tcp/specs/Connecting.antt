@@ -3,8 +3,8 @@ use Rattle.std.specs.Prelude.{ℕ}
 use Rattle.std.specs.declared.io.ErrorKind.{ErrorKind}
 use Rattle.std.specs.declared.io.ErrorKind.TheVariants.{AddrInUse, AddrNotAvailable, ConnectionRefused, HostUnreachable, NetworkUnreachable, PermissionDenied, TimedOut}
 use Rattle.zvt_tcp.specs.declared.connection.Door.{Door}
-use Rattle.zvt_session.specs.declared.fault.NetFault.{NetFault}
-use Rattle.zvt_session.specs.declared.fault.NetFault.TheVariants.{Elsewhere, InUse, NotAllowed, Other, Refused, Silent, Unreachable}
+use Rattle.zvt_runs.specs.declared.fault.NetFault.{NetFault}
+use Rattle.zvt_runs.specs.declared.fault.NetFault.TheVariants.{Elsewhere, InUse, NotAllowed, Other, Refused, Silent, Unreachable}
 
 -- by the system's error
 abbrev pub why_of : ErrorKind → NetFault

@@ -7,14 +7,14 @@ use Rattle.zvt_journal.specs.Device.{LeavesOnly}
 use Rattle.zvt_kept.specs.Keeping.{kept_connects, kept_orders}
 use Rattle.zvt_kept.specs.KeptTill.{HasLog, Hears, KeptValue, LosesLine, has_failed, kept_rests, till_of, with_note}
 use Rattle.zvt_kept.specs.Outliving.{HappenInAll, IsBetween, KeptStep, connects, runs}
-use Rattle.zvt_session.specs.declared.fault.EndFault.{EndFault}
-use Rattle.zvt_session.specs.declared.plans.Planned.{Planned}
-use Rattle.zvt_session.specs.declared.plans.StepOptions.{StepOptions}
-use Rattle.zvt_session.specs.Reporting.{ReportsNothing, ReportsRun}
-use Rattle.zvt_session.specs.LineEnd.{EndState}
-use Rattle.zvt_session.specs.Runs.{Law, noting}
-use Rattle.zvt_session.specs.Steps.{order_of}
-use Rattle.zvt_session.specs.TillEnd.{BeginsThere, MakesThere}
+use Rattle.zvt_runs.specs.declared.fault.EndFault.{EndFault}
+use Rattle.zvt_runs.specs.declared.plans.Planned.{Planned}
+use Rattle.zvt_runs.specs.declared.plans.StepOptions.{StepOptions}
+use Rattle.zvt_runs.specs.Reporting.{ReportsNothing, ReportsRun}
+use Rattle.zvt_runs.specs.LineEnd.{EndState}
+use Rattle.zvt_runs.specs.Runs.{Law, noting}
+use Rattle.zvt_runs.specs.Steps.{order_of}
+use Rattle.zvt_runs.specs.TillEnd.{BeginsThere, MakesThere}
 use Rattle.zvt_tcp.specs.OverTcp.{AnswersOverTcp}
 
 -- the call of a till with its journal that makes a step

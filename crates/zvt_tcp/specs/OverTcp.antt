@@ -1,18 +1,18 @@
 -- What a run over TCP answers.
 use Rattle.std.specs.Prelude.{◌≡◌, ◌⊎◌, ℕ, Bool, List, Option, Result, Ok, Err}
 use Rattle.std.specs.Io.KnownBytes.{Keeps}
-use Rattle.zvt_session.specs.declared.plans.StepOptions.{StepOptions}
+use Rattle.zvt_runs.specs.declared.plans.StepOptions.{StepOptions}
 use Rattle.zvt_till.specs.declared.entries.Entry.{Entry}
 use Rattle.zvt_till.specs.declared.keeper.BookFault.{BookFault}
 use Rattle.zvt_till.specs.Sending.{Settings}
 use Rattle.zvt_stream.specs.declared.line.LineFault.{LineFault}
 use Rattle.zvt_till.specs.View.{TillValue}
-use Rattle.zvt_session.specs.Runs.{Law, StepLaw}
-use Rattle.zvt_session.specs.RunsPlan.{RunsPlan}
-use Rattle.zvt_session.specs.TillRuns.{AnswersPlan}
-use Rattle.zvt_session.specs.declared.fault.EndFault.{EndFault}
-use Rattle.zvt_session.specs.declared.fault.EndFault.TheVariants.{BadStep, Book, Line as LineBroke, Memory, Net, Silent, Trace, Unsuccessful, Write}
-use Rattle.zvt_session.specs.declared.plans.Planned.{Planned}
+use Rattle.zvt_runs.specs.Runs.{Law, StepLaw}
+use Rattle.zvt_runs.specs.RunsPlan.{RunsPlan}
+use Rattle.zvt_runs.specs.TillRuns.{AnswersPlan}
+use Rattle.zvt_runs.specs.declared.fault.EndFault.{EndFault}
+use Rattle.zvt_runs.specs.declared.fault.EndFault.TheVariants.{BadStep, Book, Line as LineBroke, Memory, Net, Silent, Trace, Unsuccessful, Write}
+use Rattle.zvt_runs.specs.declared.plans.Planned.{Planned}
 use Rattle.zvt_tcp.specs.Traced.{AnswersTraced, by_silence, by_trace}
 
 module _ {L K : Type 0} (connects : K → Result Unit BookFault → K → Type 0) (failed : K → Bool) (seen : K → TillValue) (makes : Law L K) (begins : L → Type 0) where

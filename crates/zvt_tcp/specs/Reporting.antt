@@ -6,7 +6,7 @@ use Rattle.serde_json.specs.Data.{Data, string, object, no_members, member}
 use Rattle.zvt_json.specs.Strings.{count_value, line_text}
 use Rattle.zvt_json.specs.declared.form.Form.{Form}
 use Rattle.zvt_json.specs.declared.form.Form.TheVariants.{Text, Json}
-use Rattle.zvt_session.specs.Reporting.{Reports}
+use Rattle.zvt_runs.specs.Reporting.{Reports}
 use Rattle.zvt_tcp.specs.LedgerRows.{rows_text}
 use Rattle.zvt_stream.specs.declared.line.LineFault.{LineFault}
 use Rattle.zvt_term.specs.declared.ledger.Row.{Row}

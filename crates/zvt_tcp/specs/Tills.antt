@@ -6,10 +6,10 @@ use Rattle.zvt_stream.specs.declared.line.LineFault.{LineFault}
 use Rattle.zvt_term.specs.Terminal.{TerminalState, lost_terminal, new_terminal}
 use Rattle.zvt_term.specs.declared.served.Served.{Served}
 use Rattle.zvt_term.specs.declared.turns.Verdict.{Verdict}
-use Rattle.zvt_session.specs.LineEnd.{EndState}
-use Rattle.zvt_session.specs.Service.{Serves}
-use Rattle.zvt_session.specs.declared.fault.EndFault.{EndFault}
-use Rattle.zvt_session.specs.declared.fault.EndFault.TheVariants.{BadStep, Book, Line as LineBroke, Memory, Net, Silent, Trace, Unsuccessful, Write}
+use Rattle.zvt_runs.specs.LineEnd.{EndState}
+use Rattle.zvt_runs.specs.Service.{Serves}
+use Rattle.zvt_runs.specs.declared.fault.EndFault.{EndFault}
+use Rattle.zvt_runs.specs.declared.fault.EndFault.TheVariants.{BadStep, Book, Line as LineBroke, Memory, Net, Silent, Trace, Unsuccessful, Write}
 
 -- ---- one line
 

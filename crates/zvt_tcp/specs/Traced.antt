@@ -1,7 +1,7 @@
 -- What a run with a trace answers.
 use Rattle.std.specs.Prelude.{ℕ, Bool, true, false, Option, Some, None, Result, Ok, Err}
-use Rattle.zvt_session.specs.declared.fault.EndFault.{EndFault}
-use Rattle.zvt_session.specs.declared.fault.EndFault.TheVariants.{BadStep, Book, Line, Memory, Net, Silent, Trace, Unsuccessful, Write}
+use Rattle.zvt_runs.specs.declared.fault.EndFault.{EndFault}
+use Rattle.zvt_runs.specs.declared.fault.EndFault.TheVariants.{BadStep, Book, Line, Memory, Net, Silent, Trace, Unsuccessful, Write}
 
 -- The fault is the trace's where that broke, whether the run came to its end or the line was given up.
 abbrev pub by_trace : (broken : Bool) → Result Unit EndFault → Result Unit EndFault

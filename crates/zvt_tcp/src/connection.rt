@@ -10,7 +10,7 @@ use std::net::{HostAddrs, Net, SocketAddr, TcpListener, TcpStream, ToSocketAddrs
 use std::os::fd::{AsRawFd, RawFd};
 use std::time::Duration;
 use zvt_io::GhostCount;
-use zvt_session::NetFault;
+use zvt_runs::NetFault;
 
 /// Default timeout of a till in seconds: for connecting, for each read and for each write. If the terminal is silent
 /// for longer, the read fails.

@@ -12,7 +12,7 @@ use std::io::Stderr;
 use std::net::TcpStream;
 use zvt_grammar::Lengths;
 use zvt_io::Over;
-use zvt_session::BothEnds;
+use zvt_runs::BothEnds;
 use zvt_show::Shown;
 use zvt_stream::{Endpoint, Stream};
 use zvt_term::{DEFAULT_TID, Served, Terminal, Verdict};

@@ -1,7 +1,7 @@
 //! Runs of a till, of a simulated terminal, and of both ends of a line, over TCP.
 //!
 //! [`run_till`], [`run_terminal`] and [`run_loop`] open sockets, by [`connect`] and [`listen`], and run the ends of
-//! zvt_session over them. The till is one alone, or one with a book.
+//! zvt_runs over them. The till is one alone, or one with a book.
 #![tactic(auto)]
 
 mod connection;

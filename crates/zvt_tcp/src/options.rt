@@ -3,7 +3,7 @@ use std::fs::File;
 use std::io::Stderr;
 use zvt_grammar::Lengths;
 use zvt_json::Form;
-use zvt_session::{Planned, StepOptions};
+use zvt_runs::{Planned, StepOptions};
 use zvt_term::Verdict;
 
 /// The run of a till: the terminal that it connects to, its steps, how its line is read, traced and shown, and how its

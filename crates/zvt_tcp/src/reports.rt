@@ -2,7 +2,7 @@
 ghost use Rattle.std.specs.Prelude.{◌≡◌, [], ◌∷◌, ◌++◌, Some, IfOk, OnOk, drop};
 ghost use Rattle.serde_json.specs.View.{view};
 ghost use Rattle.zvt_json.specs.Strings.{line_text};
-ghost use Rattle.zvt_session.specs.Reporting.{Reports};
+ghost use Rattle.zvt_runs.specs.Reporting.{Reports};
 ghost use Rattle.zvt_tcp.specs.Reporting.{IsReport, SaysGone, ReportsGone, approvals, failed_value, gone_value};
 ghost use Rattle.zvt_tcp.specs.Reporting.{ledger_text};
 

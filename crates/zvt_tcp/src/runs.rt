@@ -1,10 +1,10 @@
 //! Runs of a till over TCP, and of both ends.
 ghost use Rattle.std.specs.Prelude.{◌≡◌, ◌<◌, Err};
 ghost use Rattle.zvt_grammar.specs.Lengths.{reading_of};
-ghost use Rattle.zvt_session.specs.BothEnds.{BeginsHere, MakesHere};
-ghost use Rattle.zvt_session.specs.Reporting.{ReportsNothing, ReportsRun};
-ghost use Rattle.zvt_session.specs.Runs.{noting};
-ghost use Rattle.zvt_session.specs.TillEnd.{BeginsThere, MakesThere};
+ghost use Rattle.zvt_runs.specs.BothEnds.{BeginsHere, MakesHere};
+ghost use Rattle.zvt_runs.specs.Reporting.{ReportsNothing, ReportsRun};
+ghost use Rattle.zvt_runs.specs.Runs.{noting};
+ghost use Rattle.zvt_runs.specs.TillEnd.{BeginsThere, MakesThere};
 ghost use Rattle.zvt_tcp.specs.OverTcp.{AnswersOverTcp};
 
 use crate::connection::{both_ends, connect};
@@ -17,7 +17,7 @@ use std::alloc::Global;
 use std::net::{Net, TcpListener, TcpStream};
 use zvt_grammar::Lengths;
 use zvt_io::Sink;
-use zvt_session::{EndFault, NoteSource, StepRun, run_both_ends, run_till_end};
+use zvt_runs::{EndFault, NoteSource, StepRun, run_both_ends, run_till_end};
 use zvt_till::Keeper;
 
 /// Runs the steps between a till, alone or with a book, and a terminal that are both in this process. It listens at a

@@ -5,7 +5,7 @@ ghost use Rattle.zvt_tcp.specs.Traced.{by_silence};
 use crate::ends::TillLine;
 use std::io::{self, ErrorKind, Read, Write};
 use std::net::TcpStream;
-use zvt_session::EndFault;
+use zvt_runs::EndFault;
 
 /// A connection that knows whether its last read failed since nothing came for as long as it waits.
 #[derive(Clone, Copy)]

@@ -13,7 +13,7 @@ use std::fs::File;
 use std::net::{Net, TcpListener, TcpStream};
 use zvt_grammar::Lengths;
 use zvt_io::Sink;
-use zvt_session::{EndFault, serve};
+use zvt_runs::{EndFault, serve};
 use zvt_stream::LineFault;
 use zvt_term::{Served, Terminal};
 

@@ -5,7 +5,7 @@ ghost use Rattle.zvt_tcp.specs.Traced.{by_trace};
 use std::alloc::{AllocError, Global};
 use std::fs::File;
 use zvt_io::Over;
-use zvt_session::EndFault;
+use zvt_runs::EndFault;
 use zvt_trace::TraceWriter;
 
 /// Writes a trace to its file, if there is one.

@@ -11,12 +11,12 @@ use Rattle.zvt_show.specs.declared.render.Style.{Style}
 use Rattle.zvt_trace.specs.declared.fault.Tally.{Tally}
 use Rattle.zvt_trace.specs.declared.fault.TraceFault.{TraceFault}
 use Rattle.zvt_trace.specs.declared.fault.TraceFault.TheVariants as on_trace
-use Rattle.zvt_session.specs.Plans.{PlansOrStops, words_of}
-use Rattle.zvt_session.specs.declared.arguments.Ends.{Ends}
-use Rattle.zvt_session.specs.declared.fault.EndFault.{EndFault}
-use Rattle.zvt_session.specs.declared.fault.EndFault.TheVariants as at_end
-use Rattle.zvt_session.specs.declared.plans.Planned.{Planned}
-use Rattle.zvt_session.specs.declared.plans.StepOptions.{StepOptions}
+use Rattle.zvt_runs.specs.Plans.{PlansOrStops, words_of}
+use Rattle.zvt_runs.specs.declared.arguments.Ends.{Ends}
+use Rattle.zvt_runs.specs.declared.fault.EndFault.{EndFault}
+use Rattle.zvt_runs.specs.declared.fault.EndFault.TheVariants as at_end
+use Rattle.zvt_runs.specs.declared.plans.Planned.{Planned}
+use Rattle.zvt_runs.specs.declared.plans.StepOptions.{StepOptions}
 use Rattle.zvt_tcp.specs.Tills.{AnswersService}
 use Rattle.zvt_term.specs.declared.turns.Verdict.{Verdict}
 use Rattle.zvt_vectors.specs.Checked.{AnswersVectors}

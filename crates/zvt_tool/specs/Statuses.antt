@@ -8,8 +8,8 @@ use Rattle.zvt_stream.specs.declared.line.LineFault.TheVariants.{Read as ReadBro
 use Rattle.zvt_audit.specs.declared.summary.AuditSummary.{AuditSummary}
 use Rattle.zvt_trace.specs.declared.fault.TraceFault.{TraceFault}
 use Rattle.zvt_trace.specs.declared.fault.TraceFault.TheVariants as on_trace
-use Rattle.zvt_session.specs.declared.fault.EndFault.{EndFault}
-use Rattle.zvt_session.specs.declared.fault.EndFault.TheVariants as at_end
+use Rattle.zvt_runs.specs.declared.fault.EndFault.{EndFault}
+use Rattle.zvt_runs.specs.declared.fault.EndFault.TheVariants as at_end
 use Rattle.zvt_journal.specs.declared.device.DeviceError.{DeviceError}
 use Rattle.zvt_journal.specs.declared.device.DeviceError.TheVariants as on_device
 use Rattle.zvt_journal.specs.declared.error.JournalFileError.{JournalFileError}

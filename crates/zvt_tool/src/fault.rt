@@ -3,7 +3,7 @@ ghost use Rattle.std.specs.Prelude.{◌≡◌};
 ghost use Rattle.zvt_tool.specs.Faults.{fault_of_run, fault_of_trace, in_run, in_trace};
 
 use thiserror::Error;
-use zvt_session::EndFault;
+use zvt_runs::EndFault;
 use zvt_stream::LineFault;
 use zvt_trace::{Tally, TraceFault, TraceLineError};
 

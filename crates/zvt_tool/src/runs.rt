@@ -1,10 +1,10 @@
 //! Runs of the steps that words name, over TCP.
 ghost use Rattle.std.specs.Prelude.{◌≡◌, ◌<◌, ◌≤◌, Err, map, None};
 ghost use Rattle.zvt_grammar.specs.Lengths.{reading_of};
-ghost use Rattle.zvt_session.specs.BothEnds.{BeginsHere, MakesHereAlone};
-ghost use Rattle.zvt_session.specs.Reporting.{ReportsNothing, ReportsRun};
-ghost use Rattle.zvt_session.specs.TillEnd.{BeginsThere, MakesThereAlone};
-ghost use Rattle.zvt_session.specs.declared.arguments.Ends.TheVariants.{Both, Till};
+ghost use Rattle.zvt_runs.specs.BothEnds.{BeginsHere, MakesHereAlone};
+ghost use Rattle.zvt_runs.specs.Reporting.{ReportsNothing, ReportsRun};
+ghost use Rattle.zvt_runs.specs.TillEnd.{BeginsThere, MakesThereAlone};
+ghost use Rattle.zvt_runs.specs.declared.arguments.Ends.TheVariants.{Both, Till};
 ghost use Rattle.zvt_tcp.specs.OverTcp.{AnswersRun};
 ghost use Rattle.zvt_till.specs.Events.{run_settings};
 ghost use Rattle.zvt_tool.specs.Options.{lengths_by};
@@ -16,7 +16,7 @@ use std::alloc::Global;
 use std::net::{Net, TcpListener, TcpStream};
 use zvt_io::{Failed, Sink};
 use zvt_json::Form;
-use zvt_session::{EndFault, Ends, NoNotes, StepOptions, plan};
+use zvt_runs::{EndFault, Ends, NoNotes, StepOptions, plan};
 use zvt_tcp::{LoopRun, SILENCE_SECONDS, TerminalRun, TillRun};
 use zvt_term::Verdict;
 

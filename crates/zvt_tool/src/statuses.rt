@@ -9,7 +9,7 @@ use std::io::{self, ErrorKind};
 use zvt_audit::AuditSummary;
 use zvt_journal::{DeviceError, JournalFileError};
 use zvt_kept::RecoveryError;
-use zvt_session::EndFault;
+use zvt_runs::EndFault;
 use zvt_stream::LineFault;
 use zvt_trace::TraceFault;
 

@@ -1,7 +1,7 @@
 use Rattle.std.proofs.Common.{◌∷◌, []}
 use Rattle.std.specs.Fmt.{decimal}
 use Rattle.std.specs.Prelude.{codes}
-use Rattle.zvt_session.proofs.Parts.{three_parts}
+use Rattle.zvt_runs.proofs.Parts.{three_parts}
 use Rattle.zvt_tcp.proofs.reports.say_ledger.Goals as goal
 
 pub returns : goal.returns

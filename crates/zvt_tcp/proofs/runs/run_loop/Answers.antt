@@ -1,5 +1,5 @@
-use Rattle.zvt_session.specs.BothEnds.{BeginsHere, MakesHere}
-use Rattle.zvt_session.specs.Runs.{noting}
+use Rattle.zvt_runs.specs.BothEnds.{BeginsHere, MakesHere}
+use Rattle.zvt_runs.specs.Runs.{noting}
 use Rattle.zvt_tcp.proofs.OverTcpLemmas.{traced}
 use Rattle.zvt_tcp.proofs.runs.run_loop.Goals as goal
 

@@ -1,8 +1,8 @@
 use Rattle.std.proofs.Common.{ap, sym, ◌∙◌}
 use Rattle.zvt_grammar.specs.Lengths.{reading_of}
 use Rattle.zvt_stream.specs.StreamState.{StreamState}
-use Rattle.zvt_session.specs.Runs.{noting}
-use Rattle.zvt_session.specs.TillEnd.{BeginsThere, MakesThere}
+use Rattle.zvt_runs.specs.Runs.{noting}
+use Rattle.zvt_runs.specs.TillEnd.{BeginsThere, MakesThere}
 use Rattle.zvt_tcp.proofs.OverTcpLemmas.{begun_there, silenced, silenced_write, traced_write}
 use Rattle.zvt_tcp.proofs.runs.run_till.Goals as goal
 

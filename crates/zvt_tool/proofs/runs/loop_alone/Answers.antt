@@ -1,6 +1,6 @@
 use Rattle.zvt_till.specs.Events.{run_settings}
-use Rattle.zvt_session.specs.BothEnds.{BeginsHere, MakesHereAlone}
-use Rattle.zvt_session.proofs.Alone.{no_book_here}
+use Rattle.zvt_runs.specs.BothEnds.{BeginsHere, MakesHereAlone}
+use Rattle.zvt_runs.proofs.Alone.{no_book_here}
 use Rattle.zvt_tcp.proofs.Traced.{alone}
 use Rattle.zvt_tool.proofs.runs.loop_alone.Goals as goal
 

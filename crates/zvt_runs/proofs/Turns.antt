@@ -1,0 +1,154 @@
+-- Both ends of a line, turn after turn.
+use Rattle.std.proofs.Common.{◌≡◌, ℕ, zero, suc, ◌+◌, ◌<◌, Bool, true, false, cond, List, Option, Some, None, ap₂, refl, sym, ◌∙◌, subst, add-one, inl, inr}
+use Rattle.std.specs.Prelude.{Result}
+use Rattle.zvt_apdu.specs.Message.{Message}
+use Rattle.zvt_stream.specs.Answered.{Answered}
+use Rattle.zvt_stream.specs.Turns.{Ends, LineState, Waited, line_ends, line_state}
+use Rattle.zvt_stream.specs.declared.line.LineFault.{LineFault}
+use Rattle.zvt_stream.specs.declared.line.LineFault.TheVariants as faults
+use Rattle.zvt_stream.specs.declared.line.Until.TheVariants.{Sent}
+use Rattle.zvt_till.specs.Keeping.{Follows}
+use Rattle.zvt_till.specs.Line.{IsEnded, till_rests}
+use Rattle.zvt_till.specs.View.{TillValue}
+use Rattle.zvt_till.specs.declared.keeper.BookFault.TheVariants.{Failed}
+use Rattle.zvt_till.specs.declared.keeper.Untaken.{Untaken}
+use Rattle.zvt_till.specs.declared.line.RunFault.{RunFault}
+use Rattle.zvt_till.specs.declared.line.RunFault.TheVariants.{Line as LineBroke, Book as BookBroke}
+use Rattle.zvt_till.specs.declared.orders.Order.{Order}
+use Rattle.zvt_till.specs.declared.orders.Outgoing.{Outgoing}
+use Rattle.zvt_till.specs.declared.outcomes.Outcome.{Outcome}
+use Rattle.zvt_till.proofs.Accepted.{IsKnown, lost-over, rests-known}
+use Rattle.zvt_till.proofs.Keepers.{heard-before, hearings-stay, reported-ended, taken-stays, unsent-over}
+use Rattle.zvt_term.specs.Terminal.{TerminalState}
+use Rattle.zvt_term.specs.declared.served.Served.{Served}
+use Rattle.zvt_term.specs.declared.turns.Verdict.{Verdict}
+use Rattle.zvt_runs.specs.declared.arguments.Step.{Step}
+use Rattle.zvt_runs.specs.Steps.{order_of}
+use Rattle.zvt_runs.specs.BothEnds.{Alternates, Begins, BeginsNot, BreaksOff, Comes, Fails, Line, Underway, ended_of}
+use Rattle.zvt_runs.specs.Runs.{Standing}
+
+-- a terminal with its verdict
+pub decided : (served : Served) (terminal : TerminalState) (verdict : Verdict) → served.terminal ≡ terminal → served.verdict ≡ verdict → served ≡ record { terminal = terminal; verdict = verdict }
+decided served terminal verdict e f = ap₂ (λ (t : TerminalState) (v : Verdict). record { terminal = t; verdict = v }) e f
+
+busy : (rests : Bool) (last : Option Outcome) → cond rests last None ≡ None → (rests ≡ true → last ≡ None → ⊥) → rests ≡ false
+busy true last e never = absurd (never refl e)
+busy false last e never = refl
+
+idle : (rests : Bool) (last : Option Outcome) (outcome : Outcome) → cond rests last None ≡ Some outcome → (rests ≡ true) × (last ≡ Some outcome)
+idle true last outcome e = (refl, e)
+idle false last outcome e = absurd (cc)
+
+module _ {K : Type 0} {orders : K → Order → Result Outgoing Untaken → K → Type 0} {hears : K → Message → Answered → K → Type 0} {is_resting failed : K → Bool} {till : K → TillValue} {loses malforms : K → K → Type 0}
+    (follows : Follows orders hears loses malforms is_resting till failed) where
+  -- ---- it stays known what became of the order
+
+  -- it is known, and once the book failed no order runs
+  abbrev pub Known : K → Type 0
+  Known keeper = IsKnown (till keeper).state × (failed keeper ≡ true → IsEnded (till keeper).state)
+
+  -- the till's turn came to where it was to go
+  abbrev TillEnds : (old new : Standing Line K) → Type 0
+  TillEnds old new =
+      Ends hears is_resting Sent 1000 old.line.till_end.reads new.line.till_end.reads (line_state old.line.till_end.stream old.till old.line.till_end.coming old.line.till_end.written)
+      (line_ends new.line.till_end.stream new.till new.line.till_end.coming new.line.till_end.written)
+
+  waited : (n : ℕ) (old new : LineState K) → Waited hears is_resting Sent n old new → Known old.machine → Known new.machine
+  waited zero old new w k = subst (λ (s : LineState K). Known s.machine) w k
+  waited (suc n) old new w k = hearings-stay follows w.0.machine new.machine _ _ w.2.pumped.course.heard.heard (waited n old w.0 w.1 k)
+
+  known_turn : (old new : Standing Line K) → TillEnds old new → Known old.till → Known new.till
+  known_turn old new (inl at_once) k = absurd (cc)
+  known_turn old new (inr turns) k =
+      let a = turns.1.3 in
+      hearings-stay follows a.middle.machine new.till _ _ a.last.pumped.course.heard.heard (waited a.before _ a.middle a.waited k)
+
+  known_after : (old new : Standing Line K) → Alternates orders hears is_resting failed till loses malforms old new → Known old.till → Known new.till
+  known_after old new a k = known_turn old new a.till_turn.ends k
+
+  known_begun : (step : Step) (old new : Standing Line K) → Begins orders hears is_resting failed till loses malforms step old new → Known new.till
+  known_begun step old new b = taken-stays follows old.till (order_of step) b.ordered.sends.outgoing new.till b.ordered.sends.ordered
+
+  over_lost : (old new : K) → loses old new → Known old → IsEnded (till new).state
+  over_lost old new lost k = lost-over (till old).state (till new).state (follows.loses_as old new lost).0 k.0
+
+  over_broken : (fault : LineFault) (old new : Standing Line K) → BreaksOff orders hears is_resting failed till loses malforms fault old new → Known old.till → IsEnded (till new.till).state
+  over_broken fault old new (inl terminal) k = over_lost old.till new.till terminal.2 k
+  over_broken fault old new (inr turn) k =
+      let b = turn.1 in
+      let heard = heard-before hears fault _ _ b.broken.read b.broken.written old.till b.middle b.broken.breaks in
+      reported-ended follows fault b.middle new.till b.reported (hearings-stay follows old.till b.middle heard.0 heard.1 heard.2 k).0
+
+  -- ---- a step
+
+  -- that many alternations were made, and it is known what became of the order where none runs
+  pub record Going (step : Step) (count : ℕ) (old now : Standing Line K) : Type 0 where
+    pub underway : Underway orders hears is_resting failed till loses malforms step count old now
+    pub known : Known now.till
+
+  pub begun : (step : Step) (old sent : Standing Line K) → Begins orders hears is_resting failed till loses malforms step old sent → Going step 0 old sent
+  begun step old sent b = record {
+    underway = record { sent = sent; begins = b; alternations = refl };
+    known = known_begun step old sent b;
+  }
+
+  pub begun_not : (step : Step) (fault : RunFault) (old new : Standing Line K) → BeginsNot orders hears is_resting failed till loses malforms step fault old new → Fails orders hears is_resting failed till loses malforms step fault old new
+  begun_not step fault old new b = record {
+    fails = inl b;
+    over = unsent-over follows fault (order_of step) old.till new.till _ _ b.not_ordered.not_sent;
+  }
+
+  pub goes_on : (step : Step) (count : ℕ) (old now new : Standing Line K) (ended : Option Outcome) → Going step count old now → Alternates orders hears is_resting failed till loses malforms now new
+      → failed new.till ≡ false → ended ≡ ended_of (till new.till) → ended ≡ None → Going step (count + 1) old new
+  goes_on step count old now new ended going a whole is none =
+      let known = known_after now new a going.known in
+      rw add-one (record {
+        underway = record {
+          sent = going.underway.sent;
+          begins = going.underway.begins;
+          alternations = (now, going.underway.alternations, a, whole, busy (till_rests (till new.till)) (till new.till).state.last_outcome (sym is ∙ none) (λ rests unknown. rests-known (till new.till).state rests known.0 unknown));
+        };
+        known = known;
+      })
+
+  pub comes : (step : Step) (count : ℕ) (outcome : Outcome) (old now new : Standing Line K) (ended : Option Outcome) → count < 1000 → Going step count old now → Alternates orders hears is_resting failed till loses malforms now new
+      → failed new.till ≡ false → ended ≡ ended_of (till new.till) → ended ≡ Some outcome → Comes orders hears is_resting failed till loses malforms step outcome old new
+  comes step count outcome old now new ended fewer going a whole is some =
+      let came = idle (till_rests (till new.till)) (till new.till).state.last_outcome outcome (sym is ∙ some) in
+      record {
+        at_last = record { count = count; middle = now; fewer = fewer; underway = going.underway; last = a };
+        whole = whole;
+        rests = came.0;
+        came = came.1;
+      }
+
+  pub breaks : (step : Step) (count : ℕ) (fault : LineFault) (old now new : Standing Line K) → count < 1000 → Going step count old now → BreaksOff orders hears is_resting failed till loses malforms fault now new
+      → Fails orders hears is_resting failed till loses malforms step (LineBroke fault) old new
+  breaks step count fault old now new fewer going b = record {
+    fails = inr (inl (record { count = count; middle = now; broken = fault; fewer = fewer; underway = going.underway; last = b; is = refl }));
+    over = over_broken fault now new b going.known;
+  }
+
+  pub book_fails : (step : Step) (count : ℕ) (old now new : Standing Line K) → count < 1000 → Going step count old now → Alternates orders hears is_resting failed till loses malforms now new → failed new.till ≡ true
+      → Fails orders hears is_resting failed till loses malforms step (BookBroke Failed) old new
+  book_fails step count old now new fewer going a is = record {
+    fails = inr (inr (inl (record {
+      at_last = record { count = count; middle = now; fewer = fewer; underway = going.underway; last = a };
+      has_failed = is;
+      is = refl;
+    })));
+    over = (known_after now new a going.known).1 is;
+  }
+
+  pub given_up : (step : Step) (count : ℕ) (old now new : Standing Line K) → count ≡ 1000 → Going step count old now → new.line ≡ now.line → loses now.till new.till
+      → Fails orders hears is_resting failed till loses malforms step (LineBroke faults.Turns) old new
+  given_up step count old now new all going line lost = record {
+    fails = inr (inr (inr (record {
+      middle = now;
+      underway = subst (λ n. Underway orders hears is_resting failed till loses malforms step n old now) all going.underway;
+      same_line = line;
+      loses_line = lost;
+      is = refl;
+    })));
+    over = over_lost now.till new.till lost going.known;
+  }

@@ -1,0 +1,5 @@
+use Rattle.std.proofs.Common.{rules}
+use Rattle.zvt_runs.proofs.book_objects.say_reversed.Goals as goal
+
+pub returns-else-reversed : goal.returns-else-reversed
+returns-else-reversed c = search rules

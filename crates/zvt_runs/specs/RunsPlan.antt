@@ -1,0 +1,20 @@
+-- What a new till does on a line.
+use Rattle.std.specs.Prelude.{◌≡◌, ℕ, List, Option, Result}
+use Rattle.zvt_runs.specs.declared.plans.StepOptions.{StepOptions}
+use Rattle.zvt_till.specs.declared.entries.Entry.{Entry}
+use Rattle.zvt_till.specs.Sending.{Settings}
+use Rattle.zvt_till.specs.Till.{new_till, step}
+use Rattle.zvt_till.specs.declared.happenings.Happening.TheVariants.{Connected}
+use Rattle.zvt_till.specs.View.{TillValue}
+use Rattle.zvt_till.specs.Keeping.{itself}
+use Rattle.zvt_runs.specs.Runs.{Answers, Standing, StepLaw, by_step}
+use Rattle.zvt_runs.specs.declared.fault.EndFault.{EndFault}
+use Rattle.zvt_runs.specs.declared.plans.Planned.{Planned}
+
+-- A new till of these settings, connected to a line at its start, ran these steps, and this was reported of them and of its book.
+pub record RunsPlan {L : Type 0} (makes : StepLaw L TillValue) (begins : L → Type 0) (settings : Settings) (options : StepOptions) (plan : List Planned) (old new : Option (List ℕ)) (Reported : List ℕ → List Entry → Type 0) (result : Result Unit EndFault) : Type 0 where
+  pub before : Standing L TillValue
+  pub after : Standing L TillValue
+  pub begun : begins before.line
+  pub connected : before.till.state ≡ step (new_till settings) Connected
+  pub answers : Answers itself (by_step makes) options (λ notes. Reported notes after.till.state.book) plan before after old new result

@@ -1,0 +1,116 @@
+//! Both ends of a line, which take turns.
+ghost use Rattle.std.specs.Prelude.{◌≡◌, ◌<◌, Err, MatchResult};
+ghost use Rattle.zvt_runs.specs.BothEnds.{Alternates, BeginsHere, BreaksOff, MakesHere, ended_of, here, line_of};
+ghost use Rattle.zvt_runs.specs.Reporting.{ReportsNothing, ReportsRun};
+ghost use Rattle.zvt_runs.specs.Runs.{noting};
+ghost use Rattle.zvt_runs.specs.TillRuns.{AnswersPlan};
+
+use crate::arguments::Step;
+use crate::fault::EndFault;
+use crate::line_end::LineEnd;
+use crate::order_notes::NoteSource;
+use crate::plans::StepRun;
+use crate::steps::StepLine;
+use crate::till_runs::run_connected;
+use std::alloc::Global;
+use zvt_io::Sink;
+use zvt_stream::LineFault;
+use zvt_term::Served;
+use zvt_till::{BookFault, Keeper, Outcome, RunFault, Till};
+
+/// The number of turns of each end after which an order is given up.
+const ALTERNATIONS: u64 = 1_000;
+
+/// Both ends of a line. They take turns, the terminal first.
+#[derive(Drop)]
+pub struct BothEnds<A, B> {
+    pub till: A,
+    pub terminal: B,
+    pub served: Served,
+}
+
+impl<A: LineEnd, B: LineEnd> BothEnds<A, B> {
+    /// A turn of the terminal, and one of the till. A fault of either was reported to the till.
+    fn alternate<K: Keeper>(&mut self, alloc: Global, till: &mut K) -> Result<(), LineFault>
+        ensures { MatchResult result
+            (λ _. Alternates K.orders K.hears K.is_resting K.failed K.till K.loses K.malforms
+            (here A.state B.state self.old till.old) (here A.state B.state self.new till.new))
+            (λ fault. BreaksOff K.orders K.hears K.is_resting K.failed K.till K.loses K.malforms fault
+            (here A.state B.state self.old till.old) (here A.state B.state self.new till.new)) }
+    {
+        if let Err(fault) = self.terminal.turn(alloc, &mut self.served) {
+            till.lost();
+            return Err(fault);
+        }
+        self.till.turn(alloc, till)
+    }
+}
+
+impl<A: LineEnd, B: LineEnd, K: Keeper> StepLine<K> for BothEnds<A, B> {
+    ghost use Rattle.zvt_runs.specs.BothEnds.{MakesHere, line_of};
+
+    ghost makes = { λ old till step result new left. MakesHere K.orders K.hears K.is_resting K.failed K.till K.loses
+        K.malforms (line_of A.state B.state old) till step result (line_of A.state B.state new) left };
+
+    fn make(&mut self, alloc: Global, till: &mut K, step: &Step) -> Result<Outcome, RunFault> {
+        self.served.decide(step.verdict());
+        if let Err(fault) = self.till.order(alloc, till, step.order()) {
+            return Err(fault);
+        }
+        'alternations: for made in 0..ALTERNATIONS {
+            if let Err(fault) = self.alternate(alloc, till) {
+                return Err(RunFault::Line(fault));
+            }
+            if till.has_failed() {
+                return Err(RunFault::Book(BookFault::Failed));
+            }
+            if let Some(outcome) = ended(till.look()) {
+                return Ok(outcome);
+            }
+        }
+        till.lost();
+        Err(RunFault::Line(LineFault::Turns))
+    }
+}
+
+/// Makes the steps one after another with a till, alone or with a book, on this line that is at its start.
+///
+/// Each step writes a line when it ends: its word and its outcome. The last line is the till's total, including the
+/// entries that it had before. `steps` has the form of these lines. After a line that broke no further step is made,
+/// and the fault is `Line`. An order that is not sent is a fault only where memory runs out. The other faults are
+/// `Write` and `Memory`. After these no step is made again, and no step after the one whose line is missing. However a
+/// run ends that began, `report` gets a line for each of the till's entries whose last reversal is unclear.
+///
+/// A book has the record of an order, with the note that `notes` gives it, before its first byte is sent. If the book
+/// cannot be kept, no further step is made, and the fault is `Book`.
+pub fn run_both_ends<A: LineEnd, B: LineEnd, K: Keeper, T: Sink, E: Sink, N: NoteSource<K>>(
+    alloc: Global,
+    line: &mut BothEnds<A, B>,
+    till: &mut K,
+    notes: &N,
+    steps: &StepRun<'_>,
+    writer: &mut T,
+    report: &mut E,
+) -> Result<(), EndFault>
+    requires { BeginsHere (line_of A.state B.state line.old) }
+    ensures run { AnswersPlan K.connects K.failed K.till
+        (noting N.noted (MakesHere K.orders K.hears K.is_resting K.failed K.till K.loses K.malforms)) BeginsHere
+        steps.now.options steps.now.plan.now till.old till.new
+        (T.written writer.old) (T.written writer.new)
+        (ReportsRun (E.written report.old) (E.written report.new) (E.failures report.old) (E.failures report.new))
+        (ReportsNothing (E.written report.old) (E.written report.new) (E.failures report.old)
+        (E.failures report.new)) result }
+    ensures write { result ≡ Err EndFault.Write → T.failures writer.old < T.failures writer.new }
+{
+    run_connected(alloc, line, till, notes, steps, writer, report)
+}
+
+/// How the last order of a till ended, where no order runs.
+fn ended(till: &Till) -> Option<Outcome>
+    ensures { result ≡ ended_of till.now }
+{
+    match till.running() {
+        None => till.last_outcome(),
+        Some(_) => None,
+    }
+}

@@ -1,0 +1,44 @@
+//! The texts of the outcomes of orders.
+ghost use Rattle.std.specs.Prelude.{◌≡◌, ◌++◌, OnOk};
+ghost use Rattle.zvt_runs.specs.Outcomes.{coded_text, outcome_text, paid_text};
+
+use std::alloc::AllocError;
+use zvt_bcd::Trace;
+use zvt_text::Text;
+use zvt_till::Outcome;
+
+/// Adds to the text how an order ended, as `paid trace 000001 receipt 0001` or `declined 6F wrong currency`. It fails
+/// where memory is refused, and the text then ends anywhere.
+pub(crate) fn outcome_text(text: &mut Text, outcome: &Outcome) -> Result<(), AllocError>
+    ensures { OnOk result (text.new ≡ text.old ++ outcome_text outcome.now) }
+{
+    match outcome {
+        Outcome::Registered => text.word(b"registered"),
+        Outcome::Paid { trace, receipt } => paid(text, *trace, *receipt),
+        Outcome::Declined(code) => coded(text, "declined ", *code),
+        Outcome::Refused(code) => coded(text, "refused ", *code),
+        Outcome::Aborted(code) => coded(text, "aborted ", *code),
+        Outcome::Unclear(cause) => {
+            text.word(b"unclear ")?;
+            text.word(cause.name().as_bytes())
+        }
+        Outcome::Reversed => text.word(b"reversed"),
+        Outcome::DayClosed => text.word(b"day closed"),
+    }
+}
+
+/// A payment that was booked, by its numbers.
+fn paid(text: &mut Text, trace: Trace, receipt: Option<[u8; 2]>) -> Result<(), AllocError>
+    ensures { OnOk result (text.new ≡ text.old ++ paid_text trace receipt) }
+{
+    text.word(b"paid ")?;
+    zvt_text::numbers(text, trace, receipt)
+}
+
+/// What the terminal said, with its code in words.
+fn coded(text: &mut Text, said: &str, code: u8) -> Result<(), AllocError>
+    ensures { OnOk result (text.new ≡ text.old ++ coded_text said.now code) }
+{
+    text.word(said.as_bytes())?;
+    zvt_text::result_words(text, code)
+}

@@ -1,0 +1,83 @@
+//! The steps of a run, as its words name them.
+ghost use Rattle.std.specs.Prelude.{◌≡◌, ◌++◌, ◌∷◌, [], OnOk, map};
+ghost use Rattle.std.specs.String.{string_bytes};
+ghost use Rattle.zvt_runs.specs.Plans.{AddsStep, PlansOrStops, words_of};
+
+use crate::arguments::{Ends, Step, step_of};
+use crate::fault::EndFault;
+use std::alloc::{AllocError, Global};
+use zvt_json::Form;
+
+/// A step, and the word that names it.
+#[derive(Drop)]
+pub struct Planned {
+    pub word: String,
+    pub step: Step,
+}
+
+/// How a run reports its steps.
+#[derive(Clone, Copy)]
+pub struct StepOptions {
+    /// The form of the lines for the steps and the total.
+    pub form: Form,
+    /// Whether the run fails where a step did not succeed.
+    pub check: bool,
+}
+
+/// The steps of a run, and how it reports them.
+#[derive(Clone, Copy)]
+pub struct StepRun<'a> {
+    /// The steps, which are made in this order.
+    pub plan: &'a [Planned],
+    /// How the steps are reported.
+    pub options: StepOptions,
+}
+
+/// The default steps of a run of both ends.
+const BOTH_ENDS: [&str; 5] = [
+    "register",
+    "pay:1000",
+    "decline:500:6C",
+    "reverse:1",
+    "close",
+];
+
+/// The default steps of a run of a till.
+const TILL_ALONE: [&str; 2] = ["register", "close"];
+
+/// The steps that the words name. Without words they are the default steps of these ends. The first word that names no
+/// step is the fault `BadStep`. The other fault is `Memory`.
+pub fn plan(alloc: Global, ends: Ends, words: &[&str]) -> Result<Vec<Planned>, EndFault>
+    ensures { PlansOrStops ends (words_of ends (map (λ word. word.now) words.now)) result }
+{
+    if !words.is_empty() {
+        return plan_words(alloc, ends, words);
+    }
+    match ends {
+        Ends::Both => plan_words(alloc, ends, BOTH_ENDS.as_slice()),
+        Ends::Till => plan_words(alloc, ends, TILL_ALONE.as_slice()),
+    }
+}
+
+/// The steps that these words name.
+fn plan_words(alloc: Global, ends: Ends, words: &[&str]) -> Result<Vec<Planned>, EndFault>
+    ensures { PlansOrStops ends (map (λ word. word.now) words.now) result }
+{
+    let mut plan = Vec::new(alloc);
+    'words: for (at, word) in words.iter().enumerate() {
+        let Some(step) = step_of(ends, word) else {
+            return Err(EndFault::BadStep { at });
+        };
+        add(alloc, &mut plan, word, step)?;
+    }
+    Ok(plan)
+}
+
+/// Adds the step that a word names.
+fn add(alloc: Global, plan: &mut Vec<Planned>, word: &str, step: Step) -> Result<(), AllocError>
+    ensures { OnOk result (AddsStep word.now step plan.old.items plan.new.items) }
+{
+    let word = String::from_str(alloc, word)?;
+    plan.push(Planned { word, step })?;
+    Ok(())
+}

@@ -1,0 +1,251 @@
+//! Runs steps one after another and prints their results.
+ghost use Rattle.std.specs.Prelude.{◌≡◌, ◌<◌, ◌++◌, Err, IfErr, IfOk, OnOk, Result, false};
+ghost use Rattle.std.specs.String.{string_bytes};
+ghost use Rattle.zvt_till.specs.Marks.{total};
+ghost use Rattle.zvt_till.specs.declared.line.RunFault.{RunFault};
+ghost use Rattle.zvt_till.specs.declared.outcomes.Outcome.{Outcome};
+ghost use Rattle.zvt_runs.specs.declared.arguments.Step.{Step};
+ghost use Rattle.zvt_runs.specs.Objects.{step_line, total_line};
+ghost use Rattle.zvt_runs.specs.Outcomes.{broken_text, ending_text, step_text, total_text};
+ghost use Rattle.zvt_runs.specs.Made.{fell_short, stop_of, succeeded, wants_memory};
+ghost use Rattle.zvt_runs.specs.Reporting.{Reports};
+ghost use Rattle.zvt_runs.specs.Runs.{Answers, AnswersText, noting, standing};
+
+use crate::arguments::Step;
+use crate::fault::EndFault;
+use crate::notes::{note_of, report_note};
+use crate::objects::{say_step_object, say_total_object};
+use crate::order_notes::NoteSource;
+use crate::outcomes::outcome_text;
+use crate::plans::{Planned, StepOptions, StepRun};
+use std::alloc::{AllocError, Global};
+use zvt_io::Sink;
+use zvt_json::Form;
+use zvt_text::Text;
+use zvt_till::{BookFault, Keeper, OrderRefusal, Outcome, RunFault, Till};
+
+/// A line on which each step of a till is made from end to end.
+pub(crate) trait StepLine<K: Keeper> {
+    /// The step, made on the line by the till, came to this, and leads to this line and this till.
+    ghost makes: { Self → K → Step → Result Outcome RunFault → Self → K → Type 0 };
+
+    /// Gives the till the order of the step, and goes on with the line until no order runs. It answers the order's
+    /// outcome. On `RunFault::Line`, the till knows of the fault, and its last outcome is the result of the order. Give
+    /// up the line then.
+    fn make(&mut self, alloc: Global, till: &mut K, step: &Step) -> Result<Outcome, RunFault>
+        ensures { makes self.old till.old step.now result self.new till.new };
+}
+
+/// Makes the steps one after another, each order with the note that `notes` gives it. Each writes a line when it ends:
+/// its word and its outcome. The last line is the till's total. `steps` has the form of these lines. A step whose order
+/// is unclear or was not sent is reported besides, with what to do.
+///
+/// After a connection that failed no further step is made, and the fault is `Line`. After a book that could not be kept
+/// none is made either, and the fault is `Book`. A run that checks its steps ends with `Unsuccessful` if one did not
+/// succeed. An order that is not sent is another fault only if memory runs out. The other faults are `Write` and
+/// `Memory`: then no further step is made, and the lines of all steps before the last were written. After `Write` a
+/// prefix of its own line may be written. A failure of `report` is no fault, and nothing more is reported.
+pub(crate) fn run_steps<L: StepLine<K>, K: Keeper, W: Sink, E: Sink, N: NoteSource<K>>(
+    alloc: Global,
+    line: &mut L,
+    till: &mut K,
+    notes: &N,
+    steps: &StepRun<'_>,
+    writer: &mut W,
+    report: &mut E,
+) -> Result<(), EndFault>
+    ensures run { Answers K.till (noting N.noted L.makes) steps.now.options
+        (λ notes. Reports notes (E.written report.old) (E.written report.new) (E.failures report.old)
+        (E.failures report.new)) steps.now.plan.now (standing line.old till.old) (standing line.new till.new)
+        (W.written writer.old) (W.written writer.new) result }
+    ensures write { result ≡ Err EndFault.Write → W.failures writer.old < W.failures writer.new }
+{
+    let mut short = false;
+    let mut reports = true;
+    'steps: for planned in steps.plan {
+        notes.note_next(till, planned.word.as_bytes());
+        let made = line.make(alloc, till, &planned.step);
+        let text = line_of(alloc, steps.options.form, planned, &made, till.look())?;
+        let note = note_of(alloc, planned, &made, till.look())?;
+        reports = report_note(reports, &note, report);
+        writer.write_all(text.bytes())?;
+        if let Some(fault) = stop_of(&made) {
+            write_total(alloc, till, steps.options.form, writer)?;
+            return Err(fault);
+        }
+        short |= fell_short(&planned.step, &made);
+    }
+    write_total(alloc, till, steps.options.form, writer)?;
+    if steps.options.check && short {
+        return Err(EndFault::Unsuccessful);
+    }
+    Ok(())
+}
+
+/// Returns the line of a step in this form. The only fault is `Memory`, also if its order was not sent because memory
+/// ran out.
+fn line_of(
+    alloc: Global,
+    form: Form,
+    planned: &Planned,
+    made: &Result<Outcome, RunFault>,
+    till: &Till,
+) -> Result<Text, EndFault>
+    ensures text { IfOk result (λ text. text ≡ step_line form (string_bytes planned.now.word) made.now
+        till.now.state.last_outcome) }
+    ensures sent { OnOk result (wants_memory made.now ≡ false) }
+    ensures memory { IfErr result (λ fault. fault ≡ EndFault.Memory) }
+{
+    if wants_memory(made) {
+        return Err(EndFault::Memory);
+    }
+    let mut text = Text::new(alloc);
+    let word = planned.word.as_str();
+    say_step(alloc, &mut text, form, word, made, till.last_outcome())?;
+    Ok(text)
+}
+
+/// Whether a step did not succeed: its order was not sent, ended otherwise than it was meant to, or was cut off by its
+/// line. A payment that the terminal is to decline succeeds where it ends with that code.
+fn fell_short(step: &Step, made: &Result<Outcome, RunFault>) -> bool
+    ensures { result ≡ fell_short step.now made.now }
+{
+    match made {
+        Ok(outcome) => !succeeded(step, outcome),
+        Err(_) => true,
+    }
+}
+
+/// Whether a step succeeded whose order ended so.
+fn succeeded(step: &Step, outcome: &Outcome) -> bool
+    ensures { result ≡ succeeded step.now outcome.now }
+{
+    match (step, outcome) {
+        (Step::Register, Outcome::Registered) => true,
+        (Step::Pay(_), Outcome::Paid { .. }) => true,
+        (Step::Reverse(_), Outcome::Reversed) => true,
+        (Step::CloseDay, Outcome::DayClosed) => true,
+        (Step::Decline { code, .. }, Outcome::Declined(told) | Outcome::Aborted(told)) => told
+            == code,
+        _ => false,
+    }
+}
+
+/// Adds the line of a step in this form: its word, and what became of it, where the till says this of the order that
+/// ended last.
+fn say_step(
+    alloc: Global,
+    text: &mut Text,
+    form: Form,
+    word: &str,
+    made: &Result<Outcome, RunFault>,
+    last: Option<Outcome>,
+) -> Result<(), AllocError>
+    ensures { OnOk result (text.new ≡ text.old ++ step_line form word.now made.now last) }
+{
+    match form {
+        Form::Text => say_step_text(text, word, made, last),
+        Form::Json => say_step_object(alloc, text, word, made, last),
+    }
+}
+
+/// Adds the text of a step: its word, and what became of it.
+fn say_step_text(
+    text: &mut Text,
+    word: &str,
+    made: &Result<Outcome, RunFault>,
+    last: Option<Outcome>,
+) -> Result<(), AllocError>
+    ensures { OnOk result (text.new ≡ text.old ++ step_text word.now (ending_text made.now last)) }
+{
+    text.word(word.as_bytes())?;
+    text.word(b" -> ")?;
+    say_ending(text, made, last)?;
+    text.push(b'\n')
+}
+
+/// Writes what became of a step, where the till says this of the order that ended last.
+fn say_ending(
+    text: &mut Text,
+    made: &Result<Outcome, RunFault>,
+    last: Option<Outcome>,
+) -> Result<(), AllocError>
+    ensures { OnOk result (text.new ≡ text.old ++ ending_text made.now last) }
+{
+    match made {
+        Ok(outcome) => outcome_text(text, outcome),
+        Err(RunFault::Order(why)) => {
+            text.word(b"not sent: ")?;
+            text.word(why.name().as_bytes())
+        }
+        Err(RunFault::Book(BookFault::NoSpace)) => text.word(b"not sent: NoSpace"),
+        Err(RunFault::Book(BookFault::Failed)) => say_last(text, last),
+        Err(RunFault::Line(_)) => say_last(text, last),
+    }
+}
+
+/// Writes what became of an order that was cut off.
+fn say_last(text: &mut Text, last: Option<Outcome>) -> Result<(), AllocError>
+    ensures { OnOk result (text.new ≡ text.old ++ broken_text last) }
+{
+    match &last {
+        Some(outcome) => outcome_text(text, outcome),
+        None => Ok(()),
+    }
+}
+
+/// Why no further step is made, if so: the line broke, or the book could not be kept.
+fn stop_of(made: &Result<Outcome, RunFault>) -> Option<EndFault>
+    ensures { result ≡ stop_of made.now }
+{
+    match made {
+        Ok(_) => None,
+        Err(RunFault::Order(_)) => None,
+        Err(RunFault::Line(fault)) => Some(EndFault::Line(*fault)),
+        Err(RunFault::Book(_)) => Some(EndFault::Book),
+    }
+}
+
+/// Whether the order was not sent where memory runs out.
+fn wants_memory(made: &Result<Outcome, RunFault>) -> bool
+    ensures { result ≡ wants_memory made.now }
+{
+    matches!(made, Err(RunFault::Order(OrderRefusal::Memory)))
+}
+
+/// Writes the till's total in this form.
+fn write_total<K: Keeper, W: Sink>(
+    alloc: Global,
+    till: &K,
+    form: Form,
+    writer: &mut W,
+) -> Result<(), EndFault>
+    ensures text { AnswersText (total_line form (total (K.till till.now).state.book)) (W.written writer.old)
+        (W.written writer.new) result }
+    ensures write { result ≡ Err EndFault.Write → W.failures writer.old < W.failures writer.new }
+{
+    let total = till.look().total();
+    let mut text = Text::new(alloc);
+    say_total_line(&mut text, form, total)?;
+    writer.write_all(text.bytes())?;
+    Ok(())
+}
+
+/// Adds the line of a total in this form.
+fn say_total_line(text: &mut Text, form: Form, total: u64) -> Result<(), AllocError>
+    ensures { OnOk result (text.new ≡ text.old ++ total_line form total) }
+{
+    match form {
+        Form::Text => say_total(text, total),
+        Form::Json => say_total_object(text, total),
+    }
+}
+
+/// The line of a total.
+pub(crate) fn say_total(text: &mut Text, total: u64) -> Result<(), AllocError>
+    ensures { OnOk result (text.new ≡ text.old ++ total_text total) }
+{
+    text.word(b"total ")?;
+    text.number(total)?;
+    text.push(b'\n')
+}

@@ -1,0 +1,78 @@
+//! The till's end of a connection to a terminal elsewhere.
+ghost use Rattle.std.specs.Prelude.{◌≡◌, ◌<◌, Err};
+ghost use Rattle.zvt_stream.specs.StreamState.{start_in};
+ghost use Rattle.zvt_runs.specs.Reporting.{ReportsNothing, ReportsRun};
+ghost use Rattle.zvt_runs.specs.Runs.{noting};
+ghost use Rattle.zvt_runs.specs.TillEnd.{BeginsThere, MakesThere};
+ghost use Rattle.zvt_runs.specs.TillRuns.{AnswersPlan};
+
+use crate::arguments::Step;
+use crate::fault::EndFault;
+use crate::order_notes::NoteSource;
+use crate::plans::StepRun;
+use crate::steps::StepLine;
+use crate::till_runs::run_connected;
+use std::alloc::Global;
+use zvt_io::{Sink, Source};
+use zvt_stream::Endpoint;
+use zvt_till::{Keeper, Outcome, RunFault, run_order};
+
+/// The turns of one read each after which an order is given up.
+const READS_OF_AN_ORDER: u64 = 100_000;
+
+/// What the terminal elsewhere decides of a step is its own.
+impl<R: Source, W: Sink, K: Keeper> StepLine<K> for Endpoint<R, W> {
+    ghost use Rattle.zvt_runs.specs.LineEnd.{end_state};
+    ghost use Rattle.zvt_runs.specs.TillEnd.{MakesThere};
+
+    ghost makes = { λ old till step result new left. MakesThere K.orders K.hears K.is_resting K.failed K.till K.loses
+        K.malforms (end_state old.stream (R.remaining old.reader) (W.written old.writer) (R.reads old.reader)
+        (R.failures old.reader) (W.failures old.writer)) till step result
+        (end_state new.stream (R.remaining new.reader) (W.written new.writer) (R.reads new.reader)
+        (R.failures new.reader) (W.failures new.writer)) left };
+
+    fn make(&mut self, alloc: Global, till: &mut K, step: &Step) -> Result<Outcome, RunFault> {
+        run_order(
+            alloc,
+            &mut self.reader,
+            &mut self.writer,
+            &mut self.stream,
+            till,
+            step.order(),
+            READS_OF_AN_ORDER,
+        )
+    }
+}
+
+/// Runs the steps with a till, alone or with a book, over a fresh connection.
+///
+/// Each step writes a line when it ends, with its word and its outcome; the last line is the till's total, including
+/// the entries that it had before. `steps` selects the form of these lines. If the connection fails, the remaining
+/// steps are skipped and the result is `Line`. An order that the till declines to send is reported in its line, and is
+/// a fault only if memory ran out. After `Write` and `Memory` no step is repeated, and no step follows the one whose
+/// line is missing. However a run ends that began, `report` gets a line for each of the till's entries whose last
+/// reversal is unclear.
+///
+/// A book has the record of an order, with the note that `notes` gives it, before its first byte is sent. If the book
+/// cannot be kept, no further step is made, and the fault is `Book`.
+pub fn run_till_end<R: Source, W: Sink, K: Keeper, T: Sink, E: Sink, N: NoteSource<K>>(
+    alloc: Global,
+    end: &mut Endpoint<R, W>,
+    till: &mut K,
+    notes: &N,
+    steps: &StepRun<'_>,
+    writer: &mut T,
+    report: &mut E,
+) -> Result<(), EndFault>
+    requires { end.old.stream ≡ start_in end.old.stream.reading }
+    ensures run { AnswersPlan K.connects K.failed K.till
+        (noting N.noted (MakesThere K.orders K.hears K.is_resting K.failed K.till K.loses K.malforms))
+        (BeginsThere end.old.stream.reading) steps.now.options steps.now.plan.now till.old till.new
+        (T.written writer.old) (T.written writer.new)
+        (ReportsRun (E.written report.old) (E.written report.new) (E.failures report.old) (E.failures report.new))
+        (ReportsNothing (E.written report.old) (E.written report.new) (E.failures report.old)
+        (E.failures report.new)) result }
+    ensures write { result ≡ Err EndFault.Write → T.failures writer.old < T.failures writer.new }
+{
+    run_connected(alloc, end, till, notes, steps, writer, report)
+}

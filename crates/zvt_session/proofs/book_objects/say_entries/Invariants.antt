@@ -1,6 +1,0 @@
-use Rattle.std.proofs.Common.{◌≡◌, ◌++◌, take}
-use Rattle.zvt_session.specs.BookObjects.{entries_json}
-use Rattle.zvt_session.proofs.book_objects.say_entries.Given as goal
-
-abbrev pub invariant-loop-at : goal.invariant-loop-at
-invariant-loop-at l = l.text ≡ l.initial.text ++ entries_json l.currency (take l.at l.book) l.notes

@@ -1,5 +1,0 @@
-use Rattle.std.proofs.Common.{rules}
-use Rattle.zvt_session.proofs.book_objects.say_reversed.Goals as goal
-
-pub returns-else-reversed : goal.returns-else-reversed
-returns-else-reversed c = search rules

@@ -1,6 +1,0 @@
-use Rattle.std.proofs.Common.{◌≡◌, ◌++◌, take}
-use Rattle.zvt_session.specs.Books.{entries_text}
-use Rattle.zvt_session.proofs.books.say_entries.Given as goal
-
-abbrev pub invariant-loop-at : goal.invariant-loop-at
-invariant-loop-at l = l.text ≡ l.initial.text ++ entries_text (take l.at l.book) l.notes

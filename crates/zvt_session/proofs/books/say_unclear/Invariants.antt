@@ -1,6 +1,0 @@
-use Rattle.std.proofs.Common.{◌≡◌, ◌++◌, take}
-use Rattle.zvt_session.specs.Books.{unclears_text}
-use Rattle.zvt_session.proofs.books.say_unclear.Given as goal
-
-abbrev pub invariant-loop-at : goal.invariant-loop-at
-invariant-loop-at l = l.text ≡ l.initial.text ++ unclears_text (take l.at l.unclear) l.heard l.notes

@@ -1,5 +1,0 @@
-use Rattle.std.proofs.Common.{[], None, inr, refl}
-use Rattle.zvt_session.proofs.order_notes.NoNotesNoteSource.note_next.Goals as goal
-
-pub returns : goal.returns
-returns g c = ([], (None, inr refl), refl)

@@ -1,6 +1,0 @@
-use Rattle.std.proofs.Common.{map, take}
-use Rattle.zvt_session.specs.Plans.{Plans}
-use Rattle.zvt_session.proofs.plans.plan_words.Given as goal
-
-abbrev pub invariant-words : goal.invariant-words
-invariant-words l = Plans l.ends (take l.at (map (λ word. word.now) l.words)) l.plan.items
