@@ -14,7 +14,7 @@ use zvt_runs::{
     currency_of, password_of, plan, run_both_ends, run_till_end, serve,
 };
 use zvt_stream::{Endpoint, LineFault, Stream};
-use zvt_tcp::{LoopRun, TillRun, run_loop, run_till};
+use zvt_runs::tcp::{LoopRun, TillRun, run_loop, run_till};
 use zvt_term::{Served, Terminal, Verdict};
 use zvt_till::{Till, TillSettings};
 use zvt_trace::{Direction, Observed, TraceWriter};

@@ -4,7 +4,7 @@ use Rattle.std.specs.Borrow.{Bor}
 use Rattle.zvt_till.specs.Events.{run_settings}
 use Rattle.zvt_term.specs.declared.turns.Verdict.{Verdict}
 use Rattle.zvt_term.specs.declared.turns.Verdict.TheVariants.{Approve, Decline}
-use Rattle.zvt_tcp.specs.declared.options.TillRun.{TillRun}
+use Rattle.zvt_runs.specs.declared.tcp.options.TillRun.{TillRun}
 use Rattle.zvt_tool.specs.Options.{form_by, lengths_by}
 use Rattle.zvt_runs.specs.Settings.{config_of, currency_of, password_of}
 use Rattle.zvt_runs.specs.Words.{code_in}

@@ -4,7 +4,7 @@ use std::net::TcpStream;
 use std::time::Duration;
 use std::{io, thread};
 use zvt_runs::NetFault;
-use zvt_tcp::{Door, SILENCE_SECONDS, connect, listen};
+use zvt_runs::tcp::{Door, SILENCE_SECONDS, connect, listen};
 
 /// The source of a script's connections.
 #[derive(Drop)]

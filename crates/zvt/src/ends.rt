@@ -15,7 +15,7 @@ use zvt_io::Over;
 use zvt_journal::FileDevice;
 use zvt_kept::KeptTill;
 use zvt_runs::{Clocked, Ends, NoNotes, Planned, StepOptions, plan};
-use zvt_tcp::{LoopRun, TerminalRun, run_loop, run_terminal};
+use zvt_runs::tcp::{LoopRun, TerminalRun, run_loop, run_terminal};
 use zvt_till::{Till, TillSettings};
 use zvt_tool::TerminalOptions;
 use zvt_tool::options::{connections_by, form_by, lengths_by};

@@ -18,7 +18,7 @@ use zvt_play::{
 };
 use zvt_runs::{EndFault, NetFault};
 use zvt_stream::{Endpoint, Stream};
-use zvt_tcp::SILENCE_SECONDS;
+use zvt_runs::tcp::SILENCE_SECONDS;
 use zvt_text::Text;
 use zvt_tool::PlayOptions;
 use zvt_tool::statuses::{BAD, DEVICE, DONE, MEMORY, TRACE, WORDS};

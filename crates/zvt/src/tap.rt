@@ -12,7 +12,7 @@ use std::net::TcpStream;
 use zvt_grammar::Lengths;
 use zvt_io::Over;
 use zvt_tap::{Found, SILENT_SECONDS, SocketTapped, TapFault, Tracing, new_log, tap_sockets};
-use zvt_tcp::{SILENCE_SECONDS, connect, listen};
+use zvt_runs::tcp::{SILENCE_SECONDS, connect, listen};
 use zvt_tool::TapOptions;
 use zvt_tool::options::{connections_by, lengths_by};
 use zvt_tool::statuses::{BAD, DEVICE, DONE, MEMORY, WORDS};

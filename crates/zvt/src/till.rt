@@ -16,7 +16,7 @@ use zvt_io::Over;
 use zvt_journal::FileDevice;
 use zvt_kept::KeptTill;
 use zvt_runs::{Clocked, Ends, NoNotes, Planned, StepOptions};
-use zvt_tcp::{TillRun, run_till};
+use zvt_runs::tcp::{TillRun, run_till};
 use zvt_till::TillSettings;
 use zvt_tool::TillOptions;
 use zvt_tool::options::{form_by, lengths_by};

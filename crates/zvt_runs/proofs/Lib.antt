@@ -11,3 +11,8 @@ pub mod Unclear
 pub mod BookObjects
 pub mod Noted
 pub mod Rows
+pub mod Gone
+pub mod Outlived
+pub mod ManyTills
+pub mod Traced
+pub mod OverTcpLemmas

@@ -17,3 +17,11 @@ pub mod Settings
 pub mod RunsPlan
 pub mod Faults
 pub mod Reporting
+pub mod Outliving
+pub mod Tills
+pub mod LedgerRows
+pub mod Traced
+pub mod OverTcp
+pub mod TcpReporting
+pub mod Showing
+pub mod Connecting

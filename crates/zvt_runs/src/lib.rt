@@ -1,4 +1,4 @@
-//! Runs of a till, of a simulated terminal, and of both ends of a line, over any devices.
+//! Runs of a till, of a simulated terminal, and of both ends of a line, over any devices and, in [`tcp`], over sockets.
 //!
 //! A run makes steps one after another, each named by a word ([`step_of`]), and writes what becomes of each:
 //! [`run_till_end`] at a till's end of a line, [`run_both_ends`] at both. [`serve`] is a terminal's end.
@@ -20,6 +20,7 @@ mod reversals;
 mod service;
 mod settings;
 mod steps;
+pub mod tcp;
 mod till_end;
 mod till_runs;
 

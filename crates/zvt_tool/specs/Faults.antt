@@ -17,7 +17,7 @@ use Rattle.zvt_runs.specs.declared.fault.EndFault.{EndFault}
 use Rattle.zvt_runs.specs.declared.fault.EndFault.TheVariants as at_end
 use Rattle.zvt_runs.specs.declared.plans.Planned.{Planned}
 use Rattle.zvt_runs.specs.declared.plans.StepOptions.{StepOptions}
-use Rattle.zvt_tcp.specs.Tills.{AnswersService}
+use Rattle.zvt_runs.specs.Tills.{AnswersService}
 use Rattle.zvt_term.specs.declared.turns.Verdict.{Verdict}
 use Rattle.zvt_vectors.specs.Checked.{AnswersVectors}
 use Rattle.zvt_tool.specs.Options.{lengths_by}

@@ -5,7 +5,7 @@ ghost use Rattle.zvt_runs.specs.BothEnds.{BeginsHere, MakesHereAlone};
 ghost use Rattle.zvt_runs.specs.Reporting.{ReportsNothing, ReportsRun};
 ghost use Rattle.zvt_runs.specs.TillEnd.{BeginsThere, MakesThereAlone};
 ghost use Rattle.zvt_runs.specs.declared.arguments.Ends.TheVariants.{Both, Till};
-ghost use Rattle.zvt_tcp.specs.OverTcp.{AnswersRun};
+ghost use Rattle.zvt_runs.specs.OverTcp.{AnswersRun};
 ghost use Rattle.zvt_till.specs.Events.{run_settings};
 ghost use Rattle.zvt_tool.specs.Options.{lengths_by};
 ghost use Rattle.zvt_tool.specs.Faults.{MakesWords, ServesOne, plain};
@@ -17,7 +17,7 @@ use std::net::{Net, TcpListener, TcpStream};
 use zvt_io::{Failed, Sink};
 use zvt_json::Form;
 use zvt_runs::{EndFault, Ends, NoNotes, StepOptions, plan};
-use zvt_tcp::{LoopRun, SILENCE_SECONDS, TerminalRun, TillRun};
+use zvt_runs::tcp::{LoopRun, SILENCE_SECONDS, TerminalRun, TillRun};
 use zvt_term::Verdict;
 
 /// Where a terminal listens.
@@ -47,7 +47,7 @@ fn plain() -> StepOptions
     }
 }
 
-/// Runs steps between a till and a terminal in this process, like [`zvt_tcp::run_loop`]. Without words, runs the
+/// Runs steps between a till and a terminal in this process, like [`zvt_runs::tcp::run_loop`]. Without words, runs the
 /// default steps.
 ///
 /// `BadStep` and `Net` come before anything is written.
@@ -77,7 +77,7 @@ where
     in_run(loop_alone(rt, alloc, &run, writer))
 }
 
-/// Connects a till to its terminal and runs the steps that the words name, as [`zvt_tcp::run_till`] does. The till has
+/// Connects a till to its terminal and runs the steps that the words name, as [`zvt_runs::tcp::run_till`] does. The till has
 /// the default settings and timeout. With `loose` it reads lengths in any form that holds them.
 ///
 /// `BadStep` and `Net` come before anything is written.
@@ -132,7 +132,7 @@ where
     ensures write { result ≡ Err EndFault.Write → W.failures writer.old < W.failures writer.new }
 {
     let mut till = zvt_till::Till::with_defaults(alloc);
-    zvt_tcp::run_loop(rt, alloc, run, &mut till, &NoNotes, writer, &mut Unreported)
+    zvt_runs::tcp::run_loop(rt, alloc, run, &mut till, &NoNotes, writer, &mut Unreported)
 }
 
 /// Connects a new till without a book to its terminal and runs the steps.
@@ -151,10 +151,10 @@ where
     ensures write { result ≡ Err EndFault.Write → W.failures writer.old < W.failures writer.new }
 {
     let mut till = zvt_till::Till::with_defaults(alloc);
-    zvt_tcp::run_till(rt, alloc, run, &mut till, &NoNotes, writer, &mut Unreported)
+    zvt_runs::tcp::run_till(rt, alloc, run, &mut till, &NoNotes, writer, &mut Unreported)
 }
 
-/// Listens at this port of 127.0.0.1 and serves one till to the end of its connection, like [`zvt_tcp::run_terminal`].
+/// Listens at this port of 127.0.0.1 and serves one till to the end of its connection, like [`zvt_runs::tcp::run_terminal`].
 /// With `loose`, the terminal accepts lengths in any form. Reports nothing.
 pub fn run_terminal<R>(
     rt: &R,
@@ -179,5 +179,5 @@ where
         trace: None,
         form: Form::Text,
     };
-    in_run(zvt_tcp::run_terminal(rt, alloc, &run, &mut Unreported))
+    in_run(zvt_runs::tcp::run_terminal(rt, alloc, &run, &mut Unreported))
 }

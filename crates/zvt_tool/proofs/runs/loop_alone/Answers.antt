@@ -1,7 +1,7 @@
 use Rattle.zvt_till.specs.Events.{run_settings}
 use Rattle.zvt_runs.specs.BothEnds.{BeginsHere, MakesHereAlone}
 use Rattle.zvt_runs.proofs.Alone.{no_book_here}
-use Rattle.zvt_tcp.proofs.Traced.{alone}
+use Rattle.zvt_runs.proofs.Traced.{alone}
 use Rattle.zvt_tool.proofs.runs.loop_alone.Goals as goal
 
 pub returns-clause-run : goal.returns-clause-run

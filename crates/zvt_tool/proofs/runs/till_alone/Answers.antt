@@ -2,7 +2,7 @@ use Rattle.zvt_grammar.specs.Lengths.{reading_of}
 use Rattle.zvt_till.specs.Events.{run_settings}
 use Rattle.zvt_runs.specs.TillEnd.{BeginsThere, MakesThereAlone}
 use Rattle.zvt_runs.proofs.Alone.{no_book_there}
-use Rattle.zvt_tcp.proofs.Traced.{alone}
+use Rattle.zvt_runs.proofs.Traced.{alone}
 use Rattle.zvt_tool.proofs.runs.till_alone.Goals as goal
 
 pub returns-clause-run : goal.returns-clause-run

@@ -1,0 +1,187 @@
+//! Sockets, and why there are none.
+ghost use Rattle.std.specs.Prelude.{◌≡◌, ◌+◌, ◌*◌, IfOk, MatchResult};
+ghost use Rattle.std.specs.Duration.{as_nanos};
+ghost use Rattle.std.specs.IoError.{error_kind};
+ghost use Rattle.zvt_runs.specs.Connecting.{given_by, why_of};
+
+use std::io;
+use std::io::ErrorKind;
+use std::net::{HostAddrs, Net, SocketAddr, TcpListener, TcpStream, ToSocketAddrs};
+use std::os::fd::{AsRawFd, RawFd};
+use std::time::Duration;
+use zvt_io::GhostCount;
+use crate::NetFault;
+
+/// Default timeout of a till in seconds: for connecting, for each read and for each write. If the terminal is silent
+/// for longer, the read fails.
+pub const SILENCE_SECONDS: u16 = 60;
+
+/// The address of this machine to itself.
+const HERE: &str = "127.0.0.1";
+
+/// Why a call failed that opens a connection.
+fn why(error: &io::Error) -> NetFault
+    ensures { result ≡ why_of (error_kind error.now) }
+{
+    match error.kind() {
+        ErrorKind::ConnectionRefused => NetFault::Refused,
+        ErrorKind::AddrInUse => NetFault::InUse,
+        ErrorKind::AddrNotAvailable => NetFault::Elsewhere,
+        ErrorKind::PermissionDenied => NetFault::NotAllowed,
+        ErrorKind::HostUnreachable | ErrorKind::NetworkUnreachable => NetFault::Unreachable,
+        ErrorKind::TimedOut => NetFault::Silent,
+        _ => NetFault::Other,
+    }
+}
+
+/// Both ends of a connection of this process to itself.
+pub(crate) fn both_ends<R>(rt: &R) -> Result<(TcpStream, TcpStream), NetFault>
+where
+    R: Net<Listener = TcpListener, Stream = TcpStream>,
+{
+    open_both(rt).map_err(|error| why(&error))
+}
+
+fn open_both<R>(rt: &R) -> io::Result<(TcpStream, TcpStream)>
+where
+    R: Net<Listener = TcpListener, Stream = TcpStream>,
+{
+    let listener = TcpListener::bind(rt, (HERE, 0))?;
+    let till_end = TcpStream::connect(rt, listener.local_addr()?)?;
+    let (terminal_end, _) = listener.accept()?;
+    limit(&till_end, SILENCE_SECONDS)?;
+    limit(&terminal_end, SILENCE_SECONDS)?;
+    Ok((till_end, terminal_end))
+}
+
+/// Connects to the terminal at this host and port. `seconds` limits the connecting, each read and each write; zero is
+/// an error.
+pub fn connect<R>(rt: &R, host: &str, port: u16, seconds: u16) -> Result<TcpStream, NetFault>
+where
+    R: Net<Listener = TcpListener, Stream = TcpStream>,
+{
+    connect_to(rt, addresses(rt, host, port)?, seconds).map_err(|error| why(&error))
+}
+
+/// To the first of these addresses at which that can be done.
+fn connect_to<R>(rt: &R, addresses: HostAddrs, seconds: u16) -> io::Result<TcpStream>
+where
+    R: Net<Listener = TcpListener, Stream = TcpStream>,
+{
+    let mut last = io::Error::from(ErrorKind::NotFound);
+    for address in addresses {
+        match TcpStream::connect_timeout(rt, &address, silence(seconds)) {
+            Ok(end) => {
+                limit(&end, seconds)?;
+                return Ok(end);
+            }
+            Err(error) => last = error,
+        }
+    }
+    Err(last)
+}
+
+/// A listening socket. Its model counts the connections that it accepted.
+#[derive(Drop)]
+pub struct Door {
+    pub(crate) listener: TcpListener,
+    gave: GhostCount,
+}
+
+impl Door {
+    ghost use Rattle.zvt_runs.specs.Connecting.{given_by};
+
+    /// The door of this listener, which gave none yet.
+    pub(crate) fn of(listener: TcpListener) -> Door
+        ensures { given_by result ≡ 0 }
+    {
+        Door {
+            listener,
+            gave: GhostCount::zero(),
+        }
+    }
+
+    /// Returns the address that it listens on.
+    pub fn address(&self) -> io::Result<SocketAddr> {
+        self.listener.local_addr()
+    }
+
+    /// Returns the descriptor that can be read once a connection has come.
+    pub fn descriptor(&self) -> RawFd {
+        self.listener.as_raw_fd()
+    }
+
+    /// Has `next` answer at once, with a fault where no till has come, or wait again.
+    pub fn set_nonblocking(&self, is_nonblocking: bool) -> io::Result<()> {
+        self.listener.set_nonblocking(is_nonblocking)
+    }
+
+    /// The terminal's end of the next connection, for which it waits as long as it takes.
+    pub fn next(&mut self) -> Result<TcpStream, NetFault>
+        ensures { MatchResult result (λ _. given_by self.new ≡ given_by self.old + 1)
+            (λ _. given_by self.new ≡ given_by self.old) }
+    {
+        match accept_next(&self.listener) {
+            Ok(end) => {
+                self.gave = self.gave.next();
+                Ok(end)
+            }
+            Err(error) => Err(why(&error)),
+        }
+    }
+}
+
+/// Listens at this port of this host. Port 0 chooses a free port.
+pub fn listen<R>(rt: &R, host: &str, port: u16) -> Result<Door, NetFault>
+where
+    R: Net<Listener = TcpListener, Stream = TcpStream>,
+    ensures { IfOk result (λ door. given_by door ≡ 0) }
+{
+    match listen_at(rt, addresses(rt, host, port)?) {
+        Ok(listener) => Ok(Door::of(listener)),
+        Err(error) => Err(why(&error)),
+    }
+}
+
+/// At the first of these addresses at which that can be done.
+fn listen_at<R>(rt: &R, addresses: HostAddrs) -> io::Result<TcpListener>
+where
+    R: Net<Listener = TcpListener, Stream = TcpStream>,
+{
+    let mut last = io::Error::from(ErrorKind::NotFound);
+    for address in addresses {
+        match TcpListener::bind(rt, address) {
+            Ok(listener) => return Ok(listener),
+            Err(error) => last = error,
+        }
+    }
+    Err(last)
+}
+
+fn accept_next(listener: &TcpListener) -> io::Result<TcpStream> {
+    let (end, _) = listener.accept()?;
+    end.set_nodelay(true)?;
+    Ok(end)
+}
+
+/// The addresses of a host at this port.
+fn addresses<R: Net>(rt: &R, host: &str, port: u16) -> Result<HostAddrs, NetFault> {
+    match (host, port).to_socket_addrs(rt) {
+        Ok(addresses) => Ok(addresses),
+        Err(_) => Err(NetFault::UnknownHost),
+    }
+}
+
+/// Seconds as a `Duration`.
+fn silence(seconds: u16) -> Duration
+    ensures { as_nanos result ≡ seconds * 1_000_000_000 }
+{
+    Duration::from_secs(u64::from(seconds))
+}
+
+/// Sends small messages at once, and limits each read and write to this number of seconds.
+fn limit(end: &TcpStream, seconds: u16) -> io::Result<()> {
+    end.set_nodelay(true)?;
+    end.set_read_timeout(Some(silence(seconds)))?;
+    end.set_write_timeout(Some(silence(seconds)))
+}

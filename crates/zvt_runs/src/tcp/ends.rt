@@ -1,0 +1,154 @@
+//! The ends of a line over TCP, whose reads and writes go to a trace.
+ghost use Rattle.std.specs.Prelude.{◌≡◌, ◌||◌, true, false, IfOk};
+ghost use Rattle.zvt_grammar.specs.Lengths.{reading_of};
+ghost use Rattle.zvt_stream.specs.StreamState.{at_start, start_in};
+ghost use Rattle.zvt_term.specs.Terminal.{new_terminal};
+
+use crate::tcp::silence::Socket;
+use crate::tcp::trace_file::{FileTrace, file_trace};
+use std::alloc::{AllocError, Global};
+use std::fs::File;
+use std::io::Stderr;
+use std::net::TcpStream;
+use zvt_grammar::Lengths;
+use zvt_io::Over;
+use crate::BothEnds;
+use zvt_show::Shown;
+use zvt_stream::{Endpoint, Stream};
+use zvt_term::{DEFAULT_TID, Served, Terminal, Verdict};
+use zvt_trace::{Both, Direction, Observed, ends_lacking};
+
+/// An end over a connection that is not recorded.
+pub(crate) type PlainEnd<'a> = Endpoint<Over<&'a TcpStream>, Over<&'a TcpStream>>;
+
+/// A direction of a connection, whose bytes are observed.
+pub(crate) type ObservedSocket<'a, K> = Observed<Over<Socket<'a>>, K>;
+
+/// A direction of a connection, whose bytes go to the file of a trace, if there is one.
+type TcpDevice<'a> = ObservedSocket<'a, FileTrace<'a>>;
+
+/// A till's end over a connection, whose reads and writes go to a trace. What is read may be shown.
+pub(crate) type TillLine<'a> = Endpoint<
+    ObservedSocket<'a, Both<FileTrace<'a>, Option<Shown<Over<Stderr>>>>>,
+    TcpDevice<'a>,
+>;
+
+/// An end over a connection, whose reads and writes go to a trace.
+pub(crate) type TcpEnd<'a> = Endpoint<TcpDevice<'a>, TcpDevice<'a>>;
+
+/// Both ends of a new connection: this one for the till, and a new terminal.
+pub(crate) fn both_ends_of<'a>(
+    alloc: Global,
+    till: TcpEnd<'a>,
+    terminal_end: &'a TcpStream,
+) -> BothEnds<TcpEnd<'a>, PlainEnd<'a>>
+    requires { till.stream ≡ at_start }
+    ensures till { result.till ≡ till.entry }
+    ensures terminal { result.terminal.stream ≡ at_start }
+    ensures served { result.served.terminal ≡ new_terminal 12345678 }
+{
+    BothEnds {
+        till,
+        terminal: Endpoint {
+            reader: Over::new(terminal_end),
+            writer: Over::new(terminal_end),
+            stream: Stream::of(alloc, Lengths::Shortest),
+        },
+        served: Served {
+            terminal: Terminal::new(alloc, DEFAULT_TID),
+            verdict: Verdict::Approve,
+        },
+    }
+}
+
+/// The till's end at its start: what is read comes from the terminal, and what is written from the till.
+pub(crate) fn till_end_of<'a>(
+    alloc: Global,
+    connection: &'a TcpStream,
+    lengths: Lengths,
+    trace: Option<&'a File>,
+) -> Result<TcpEnd<'a>, AllocError>
+    ensures start { IfOk result (λ end. end.stream ≡ start_in (reading_of lengths)) }
+    ensures sides { IfOk result (λ end. (end.reader.from ≡ Direction.FromTerminal)
+        × (end.writer.from ≡ Direction.FromTill)) }
+{
+    Ok(Endpoint {
+        reader: tcp_device(alloc, Direction::FromTerminal, connection, trace)?,
+        writer: tcp_device(alloc, Direction::FromTill, connection, trace)?,
+        stream: Stream::of(alloc, lengths),
+    })
+}
+
+/// The till's end at its start. What is read comes from the terminal and may be shown, and what is written from the
+/// till.
+pub(crate) fn till_line_of<'a>(
+    alloc: Global,
+    connection: &'a TcpStream,
+    lengths: Lengths,
+    trace: Option<&'a File>,
+    shown: Option<Shown<Over<Stderr>>>,
+) -> Result<TillLine<'a>, AllocError>
+    ensures start { IfOk result (λ end. end.stream ≡ start_in (reading_of lengths)) }
+    ensures sides { IfOk result (λ end. (end.reader.from ≡ Direction.FromTerminal)
+        × (end.writer.from ≡ Direction.FromTill)) }
+    ensures shown { IfOk result (λ end. end.reader.observer.second ≡ shown) }
+{
+    let observer = Both {
+        first: file_trace(alloc, trace)?,
+        second: shown,
+    };
+    let socket = Over::new(Socket::new(connection));
+    Ok(Endpoint {
+        reader: Observed::new(Direction::FromTerminal, socket, observer),
+        writer: tcp_device(alloc, Direction::FromTill, connection, trace)?,
+        stream: Stream::of(alloc, lengths),
+    })
+}
+
+/// The terminal's end at its start: what is read comes from the till, and what is written from the terminal.
+pub(crate) fn terminal_end_of<'a>(
+    alloc: Global,
+    connection: &'a TcpStream,
+    lengths: Lengths,
+    trace: Option<&'a File>,
+) -> Result<TcpEnd<'a>, AllocError>
+    ensures start { IfOk result (λ end. end.stream ≡ start_in (reading_of lengths)) }
+    ensures sides { IfOk result (λ end. (end.reader.from ≡ Direction.FromTill)
+        × (end.writer.from ≡ Direction.FromTerminal)) }
+{
+    Ok(Endpoint {
+        reader: tcp_device(alloc, Direction::FromTill, connection, trace)?,
+        writer: tcp_device(alloc, Direction::FromTerminal, connection, trace)?,
+        stream: Stream::of(alloc, lengths),
+    })
+}
+
+/// A direction of a connection, whose bytes come from this side. Its trace lacks nothing yet.
+fn tcp_device<'a>(
+    alloc: Global,
+    from: Direction,
+    connection: &'a TcpStream,
+    trace: Option<&'a File>,
+) -> Result<TcpDevice<'a>, AllocError>
+    ensures from { IfOk result (λ device. device.from ≡ from) }
+    ensures whole { IfOk result (λ device. device.broken ≡ false) }
+{
+    let trace = file_trace(alloc, trace)?;
+    let socket = Over::new(Socket::new(connection));
+    Ok(Observed::new(from, socket, trace))
+}
+
+/// Ends the trace of the line, and answers whether it lacks something: a piece that was read, one that was to be
+/// written, or its end.
+pub(crate) fn is_broken<'a, K>(
+    end: &Endpoint<ObservedSocket<'a, K>, TcpDevice<'a>>,
+    trace: Option<&File>,
+) -> bool
+    ensures { (end.now.reader.broken || end.now.writer.broken) ≡ true → result ≡ true }
+{
+    let lacks = end.reader.broken || end.writer.broken;
+    match trace {
+        Some(file) => ends_lacking(lacks, &mut Over::new(file)),
+        None => lacks,
+    }
+}

@@ -1,0 +1,102 @@
+//! Runs of a till over TCP, and of both ends.
+ghost use Rattle.std.specs.Prelude.{◌≡◌, ◌<◌, Err};
+ghost use Rattle.zvt_grammar.specs.Lengths.{reading_of};
+ghost use Rattle.zvt_runs.specs.BothEnds.{BeginsHere, MakesHere};
+ghost use Rattle.zvt_runs.specs.Reporting.{ReportsNothing, ReportsRun};
+ghost use Rattle.zvt_runs.specs.Runs.{noting};
+ghost use Rattle.zvt_runs.specs.TillEnd.{BeginsThere, MakesThere};
+ghost use Rattle.zvt_runs.specs.OverTcp.{AnswersOverTcp};
+
+use crate::tcp::connection::{both_ends, connect};
+use crate::tcp::ends::{both_ends_of, is_broken, till_end_of, till_line_of};
+use crate::tcp::options::{LoopRun, TillRun};
+use crate::tcp::shown::shown_by;
+use crate::tcp::silence::{by_silence, waited};
+use crate::tcp::trace_file::by_trace;
+use std::alloc::Global;
+use std::net::{Net, TcpListener, TcpStream};
+use zvt_grammar::Lengths;
+use zvt_io::Sink;
+use crate::{EndFault, NoteSource, StepRun, run_both_ends, run_till_end};
+use zvt_till::Keeper;
+
+/// Runs the steps between a till, alone or with a book, and a terminal that are both in this process. It listens at a
+/// free port of 127.0.0.1 and connects to itself. The trace has what the till heard and sent.
+///
+/// `Net` comes before anything is written, reported or recorded. [`run_both_ends`] says what else is answered.
+pub fn run_loop<R, K, N, W, E>(
+    rt: &R,
+    alloc: Global,
+    run: &LoopRun<'_, '_>,
+    till: &mut K,
+    notes: &N,
+    writer: &mut W,
+    report: &mut E,
+) -> Result<(), EndFault>
+where
+    R: Net<Listener = TcpListener, Stream = TcpStream>,
+    K: Keeper,
+    N: NoteSource<K>,
+    W: Sink,
+    E: Sink,
+    ensures run { AnswersOverTcp K.connects K.failed K.till
+        (noting N.noted (MakesHere K.orders K.hears K.is_resting K.failed K.till K.loses K.malforms)) BeginsHere
+        run.now.options run.now.plan.now till.old till.new (W.written writer.old) (W.written writer.new)
+        (ReportsRun (E.written report.old) (E.written report.new) (E.failures report.old) (E.failures report.new))
+        (ReportsNothing (E.written report.old) (E.written report.new) (E.failures report.old)
+        (E.failures report.new)) result }
+    ensures write { result ≡ Err EndFault.Write → W.failures writer.old < W.failures writer.new }
+{
+    let steps = StepRun {
+        plan: run.plan,
+        options: run.options,
+    };
+    let (till_end, terminal_end) = both_ends(rt).map_err(EndFault::Net)?;
+    let end = till_end_of(alloc, &till_end, Lengths::Shortest, run.trace)?;
+    let mut line = both_ends_of(alloc, end, &terminal_end);
+    let answer = run_both_ends(alloc, &mut line, till, notes, &steps, writer, report);
+    by_trace(is_broken(&line.till, run.trace), answer)
+}
+
+/// Connects a till, alone or with a book, to its terminal, and runs the steps. Each order has 100,000 reads. The trace
+/// has what the till heard and sent: a line for each read and each write, and `!` at the end. A trace that can't be
+/// written ends the run with `Trace`. The messages of the terminal may be shown as they come; text that can't be shown
+/// is no fault of the run.
+///
+/// `Net` comes before anything is written, reported or recorded. `Silent` comes where a read waited for the seconds of
+/// the run. [`run_till_end`] says what else is answered.
+pub fn run_till<R, K, N, W, E>(
+    rt: &R,
+    alloc: Global,
+    run: &TillRun<'_, '_>,
+    till: &mut K,
+    notes: &N,
+    writer: &mut W,
+    report: &mut E,
+) -> Result<(), EndFault>
+where
+    R: Net<Listener = TcpListener, Stream = TcpStream>,
+    K: Keeper,
+    N: NoteSource<K>,
+    W: Sink,
+    E: Sink,
+    ensures run { AnswersOverTcp K.connects K.failed K.till
+        (noting N.noted (MakesThere K.orders K.hears K.is_resting K.failed K.till K.loses K.malforms))
+        (BeginsThere (reading_of run.now.lengths)) run.now.options run.now.plan.now till.old till.new
+        (W.written writer.old) (W.written writer.new)
+        (ReportsRun (E.written report.old) (E.written report.new) (E.failures report.old) (E.failures report.new))
+        (ReportsNothing (E.written report.old) (E.written report.new) (E.failures report.old)
+        (E.failures report.new)) result }
+    ensures write { result ≡ Err EndFault.Write → W.failures writer.old < W.failures writer.new }
+{
+    let steps = StepRun {
+        plan: run.plan,
+        options: run.options,
+    };
+    let end = connect(rt, run.host, run.port, run.seconds).map_err(EndFault::Net)?;
+    let shown = shown_by(alloc, run.options.form, run.lengths, run.show);
+    let mut line = till_line_of(alloc, &end, run.lengths, run.trace, shown)?;
+    let answer = run_till_end(alloc, &mut line, till, notes, &steps, writer, report);
+    let answer = by_trace(is_broken(&line, run.trace), answer);
+    by_silence(waited(&line, run.seconds), answer)
+}

@@ -1,0 +1,74 @@
+//! A terminal that is silent for longer than its till waits.
+ghost use Rattle.std.specs.Prelude.{◌≡◌, false, Option, ℕ};
+ghost use Rattle.zvt_runs.specs.Traced.{by_silence};
+
+use crate::tcp::ends::TillLine;
+use std::io::{self, ErrorKind, Read, Write};
+use std::net::TcpStream;
+use crate::EndFault;
+
+/// A connection that knows whether its last read failed since nothing came for as long as it waits.
+#[derive(Clone, Copy)]
+pub(crate) struct Socket<'a> {
+    stream: &'a TcpStream,
+    waited: bool,
+}
+
+impl<'a> Socket<'a> {
+    /// This connection, before its first read.
+    pub(crate) fn new(stream: &'a TcpStream) -> Socket<'a>
+        ensures { result.waited ≡ false }
+    {
+        Socket {
+            stream,
+            waited: false,
+        }
+    }
+}
+
+impl Read for Socket<'_> {
+    fn read(&mut self, buffer: &mut [u8]) -> io::Result<usize> {
+        let mut stream = self.stream;
+        let answer = stream.read(buffer);
+        self.waited = match &answer {
+            Ok(_) => false,
+            Err(error) => is_time_out(error.kind()),
+        };
+        answer
+    }
+}
+
+impl Write for Socket<'_> {
+    fn write(&mut self, bytes: &[u8]) -> io::Result<usize> {
+        let mut stream = self.stream;
+        stream.write(bytes)
+    }
+
+    fn flush(&mut self) -> io::Result<()> {
+        Ok(())
+    }
+}
+
+/// Whether a read that failed so has waited for too long.
+fn is_time_out(kind: ErrorKind) -> bool {
+    matches!(kind, ErrorKind::WouldBlock | ErrorKind::TimedOut)
+}
+
+/// For how many seconds the last read of this end has waited, where it failed for that.
+pub(crate) fn waited(end: &TillLine<'_>, seconds: u16) -> Option<u16> {
+    if end.reader.device.inner.waited {
+        Some(seconds)
+    } else {
+        None
+    }
+}
+
+/// The result of a run, given the seconds for which its last read waited, if it timed out.
+pub(crate) fn by_silence(waited: Option<u16>, answer: Result<(), EndFault>) -> Result<(), EndFault>
+    ensures { result ≡ by_silence waited answer }
+{
+    match (waited, answer) {
+        (Some(seconds), Err(EndFault::Line(_))) => Err(EndFault::Silent { seconds }),
+        (_, answer) => answer,
+    }
+}

@@ -1,0 +1,107 @@
+//! A simulated terminal over TCP, which serves tills one after another.
+ghost use Rattle.std.specs.Prelude.{◌≤◌};
+ghost use Rattle.zvt_grammar.specs.Lengths.{reading_of};
+ghost use Rattle.zvt_runs.specs.Connecting.{given_by};
+ghost use Rattle.zvt_runs.specs.Tills.{AnswersService, AnswersTill, AnswersTills, IsOffline, TakesTills};
+
+use crate::tcp::connection::{Door, listen};
+use crate::tcp::ends::{is_broken, terminal_end_of};
+use crate::tcp::options::TerminalRun;
+use crate::tcp::reports::{GoneTill, report_address, report_till};
+use std::alloc::Global;
+use std::fs::File;
+use std::net::{Net, TcpListener, TcpStream};
+use zvt_grammar::Lengths;
+use zvt_io::Sink;
+use crate::{EndFault, serve};
+use zvt_stream::LineFault;
+use zvt_term::{Served, Terminal};
+
+/// Listens, and serves tills one after another with one terminal, waiting for each without limit. The terminal's
+/// ledger carries over from till to till, but each till has to register anew.
+///
+/// The end of a connection between two messages is no fault. A connection that breaks otherwise ends the service of its
+/// till alone. The first such fault is answered, as `Line`, once all tills were served.
+///
+/// `Net` ends the service where the port can't be had, or where no connection can be taken. `Trace` ends it where the
+/// trace can't be written, and `Memory` where a till can't be begun with or reported.
+///
+/// The trace has what the terminal heard and answered, as the till sees it. `report` gets the address at which the
+/// terminal listens. For each till that disconnects it gets the rows that the ledger got from it, and the number of
+/// approvals in the ledger. All come in the form of the run.
+pub fn run_terminal<R, W>(
+    rt: &R,
+    alloc: Global,
+    run: &TerminalRun<'_, '_>,
+    report: &mut W,
+) -> Result<(), EndFault>
+where
+    R: Net<Listener = TcpListener, Stream = TcpStream>,
+    W: Sink,
+    requires { run.now.tid ≤ 99999999 }
+    ensures { AnswersService (reading_of run.now.lengths) run.now.connections run.now.tid run.now.verdict result }
+{
+    let mut door = match listen(rt, run.host, run.port) {
+        Ok(door) => door,
+        Err(why) => return Err(EndFault::Net(why)),
+    };
+    report_address(alloc, run.form, &door.listener, report)?;
+    let mut served = Served {
+        terminal: Terminal::new(alloc, run.tid),
+        verdict: run.verdict,
+    };
+    serve_tills(alloc, run, &mut door, &mut served, report)
+}
+
+/// Serves the tills of a run one after another, each on a connection of its own.
+fn serve_tills<W: Sink>(
+    alloc: Global,
+    run: &TerminalRun<'_, '_>,
+    door: &mut Door,
+    served: &mut Served,
+    report: &mut W,
+) -> Result<(), EndFault>
+    requires { IsOffline served.old.terminal }
+    ensures served { AnswersTills (reading_of run.now.lengths) run.now.connections served.old served.new result }
+    ensures taken { TakesTills run.now.connections (given_by door.old) (given_by door.new) result }
+{
+    let mut first = None;
+    'tills: for gone in 0..run.connections {
+        let connection = door.next().map_err(EndFault::Net)?;
+        let rows_before = served.terminal.ledger().len();
+        let broke = serve_till(alloc, &connection, run.lengths, served, run.trace)?;
+        let till = GoneTill {
+            number: gone + 1,
+            broke,
+            rows_before,
+        };
+        report_till(alloc, run.form, &till, &served.terminal, report)?;
+        if first.is_none() {
+            first = broke;
+        }
+    }
+    match first {
+        None => Ok(()),
+        Some(fault) => Err(EndFault::Line(fault)),
+    }
+}
+
+/// Serves the till at the other end of this connection, and answers how the line broke, if it did. The faults are
+/// `Trace`, and `Memory` where there was none to begin with.
+fn serve_till(
+    alloc: Global,
+    connection: &TcpStream,
+    lengths: Lengths,
+    served: &mut Served,
+    trace: Option<&File>,
+) -> Result<Option<LineFault>, EndFault>
+    requires { IsOffline served.old.terminal }
+    ensures { AnswersTill (reading_of lengths) served.old served.new result }
+{
+    let mut end = terminal_end_of(alloc, connection, lengths, trace)?;
+    let broke = serve(alloc, &mut end, served).err();
+    if is_broken(&end, trace) {
+        return Err(EndFault::Trace);
+    }
+    Ok(broke)
+}

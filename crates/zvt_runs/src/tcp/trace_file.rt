@@ -1,0 +1,35 @@
+//! The optional file of a trace.
+ghost use Rattle.std.specs.Prelude.{◌≡◌, IfOk, is_some};
+ghost use Rattle.zvt_runs.specs.Traced.{by_trace};
+
+use std::alloc::{AllocError, Global};
+use std::fs::File;
+use zvt_io::Over;
+use crate::EndFault;
+use zvt_trace::TraceWriter;
+
+/// Writes a trace to its file, if there is one.
+pub(crate) type FileTrace<'a> = Option<TraceWriter<Over<&'a File>>>;
+
+/// What writes a trace to this file, if there is one.
+pub(crate) fn file_trace<'a>(
+    alloc: Global,
+    file: Option<&'a File>,
+) -> Result<FileTrace<'a>, AllocError>
+    ensures { IfOk result (λ trace. is_some trace ≡ is_some file.entry) }
+{
+    match file {
+        Some(file) => Ok(Some(TraceWriter::new(alloc, Over::new(file))?)),
+        None => Ok(None),
+    }
+}
+
+/// What a run answers whose trace broke, or did not.
+pub(crate) fn by_trace(broken: bool, answer: Result<(), EndFault>) -> Result<(), EndFault>
+    ensures { result ≡ by_trace broken answer }
+{
+    match answer {
+        Ok(()) | Err(EndFault::Unsuccessful | EndFault::Line(_)) if broken => Err(EndFault::Trace),
+        answer => answer,
+    }
+}
