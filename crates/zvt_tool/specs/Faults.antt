@@ -19,7 +19,7 @@ use Rattle.zvt_runs.specs.declared.plans.Planned.{Planned}
 use Rattle.zvt_runs.specs.declared.plans.StepOptions.{StepOptions}
 use Rattle.zvt_runs.specs.Tills.{AnswersService}
 use Rattle.zvt_term.specs.declared.turns.Verdict.{Verdict}
-use Rattle.zvt_vectors.specs.Checked.{AnswersVectors}
+use Rattle.zvt_tool.specs.Checked.{AnswersVectors}
 use Rattle.zvt_tool.specs.Options.{lengths_by}
 use Rattle.zvt_tool.specs.declared.fault.ToolFault.{ToolFault}
 use Rattle.zvt_tool.specs.declared.fault.ToolFault.TheVariants as tool

@@ -14,3 +14,6 @@ pub mod Statuses
 pub mod Labels
 pub mod Verdicts
 pub mod Faults
+pub mod Vectors
+pub mod Checked
+pub mod Got

@@ -11,7 +11,7 @@ use Rattle.zvt_tool.specs.declared.trace_command.TraceWork.{TraceWork}
 use Rattle.zvt_tool.specs.declared.trace_command.TraceWork.TheVariants.{Render, Audit, Vectors}
 use Rattle.zvt_audit.specs.Audited.{AnswersFollowed, AnswersReadBy}
 use Rattle.zvt_audit.specs.declared.summary.AuditSummary.{AuditSummary}
-use Rattle.zvt_vectors.specs.Checked.{AnswersVectors}
+use Rattle.zvt_tool.specs.Checked.{AnswersVectors}
 use Rattle.zvt_show.specs.Followed.{AnswersFollow}
 use Rattle.zvt_show.specs.Written.{AnswersLinesBy}
 use Rattle.zvt_trace.specs.declared.fault.Tally.{Tally}

@@ -3,8 +3,8 @@
 //! - The command line: [`choice`] returns a [`Choice`], and [`with_show`] adds the command to a file alone. Each
 //!   command has its row, its options and their reading in one module, such as `till_options`.
 //! - What becomes of an answer: the exit [`statuses`], and [`ToolFault`].
-//! - What is written: the commands on a trace ([`on_trace`]), a [`label`] before each line, and the [`verdicts`] of
-//!   situations.
+//! - What is written: the commands on a trace ([`on_trace`]), a [`label`] before each line, the [`verdicts`] of
+//!   situations, and the differences from test vectors ([`vector_check`]).
 //! - The commands on what a reader brings: [`show`], [`join`], [`audit`], [`receipts`] and [`vectors`], and their loose
 //!   forms.
 //! - The runs of steps that words name: [`run_loop`], [`run_till`] and [`run_terminal`].
@@ -29,6 +29,7 @@ mod terminal_options;
 mod till_options;
 pub mod trace_command;
 mod traces;
+pub mod vector_check;
 pub mod verdicts;
 
 pub use arguments::choice;

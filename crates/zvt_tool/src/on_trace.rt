@@ -4,12 +4,12 @@ ghost use Rattle.zvt_trace.specs.Written.{limit};
 ghost use Rattle.zvt_tool.specs.OnTrace.{AnswersOnTrace, FollowsTrace, tally_of};
 
 use crate::trace_command::{TraceCommand, TraceWork};
+use crate::vector_check::vectors;
 use std::alloc::Global;
 use zvt_audit::{AuditSummary, audit_trace, follow_audit};
 use zvt_io::{Over, Sink, Source};
 use zvt_show::{follow_trace, render_trace};
 use zvt_trace::{Tally, TraceFault};
-use zvt_vectors::vectors;
 
 /// Executes the command on the trace and writes its output.
 pub fn work_on_trace<W: Sink>(

@@ -16,8 +16,8 @@ use std::alloc::Global;
 use std::net::{Net, TcpListener, TcpStream};
 use zvt_io::{Failed, Sink};
 use zvt_json::Form;
-use zvt_runs::{EndFault, Ends, NoNotes, StepOptions, plan};
 use zvt_runs::tcp::{LoopRun, SILENCE_SECONDS, TerminalRun, TillRun};
+use zvt_runs::{EndFault, Ends, NoNotes, StepOptions, plan};
 use zvt_term::Verdict;
 
 /// Where a terminal listens.

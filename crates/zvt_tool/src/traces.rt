@@ -149,8 +149,8 @@ pub fn audit_loose<R: Source, W: Sink>(
     read_and_audit(alloc, Lengths::Padded, reader, writer)
 }
 
-/// Checks vectors like [`zvt_vectors::vectors`], and writes a line of text for each that differs from the result of
-/// the message reader. `messages` of the tally counts the vectors.
+/// Checks vectors like [`crate::vector_check::vectors`], and writes a line of text for each that differs from the
+/// result of the message reader. `messages` of the tally counts the vectors.
 pub fn vectors<R: Source, W: Sink>(
     alloc: Global,
     reader: &mut R,
@@ -163,7 +163,7 @@ pub fn vectors<R: Source, W: Sink>(
     ensures read { result ≡ Err ToolFault.Read → R.failures reader.old < R.failures reader.new }
     ensures write { result ≡ Err ToolFault.Write → W.failures writer.old < W.failures writer.new }
 {
-    in_trace(zvt_vectors::vectors(alloc, Form::Text, reader, writer))
+    in_trace(crate::vector_check::vectors(alloc, Form::Text, reader, writer))
 }
 
 /// Reads a trace, and writes its text in this style.

@@ -1,0 +1,10 @@
+//! Test vectors for parsers of messages: lines of bytes and the expected answer.
+//!
+//! [`vectors`] writes a line for each vector that differs from the result of this project's reader.
+mod answers;
+mod check;
+mod claims;
+mod got;
+mod line;
+
+pub use check::vectors;

@@ -1,0 +1,48 @@
+//! The line for a vector that differs from the reader's result.
+ghost use Rattle.std.specs.Prelude.{◌≡◌, IfOk};
+ghost use Rattle.std.specs.String.{string_bytes};
+ghost use Rattle.serde_json.specs.View.{view};
+ghost use Rattle.zvt_json.specs.Strings.{line_text};
+ghost use Rattle.zvt_tool.specs.Got.{got_in, got_text, got_value};
+
+use serde_json::{Value, json};
+use std::alloc::{AllocError, Global};
+use zvt_json::Form;
+
+/// The line in this form for a vector at that line, which the reader answers so.
+pub(crate) fn got(
+    alloc: Global,
+    form: Form,
+    number: u64,
+    answer: &str,
+) -> Result<String, AllocError>
+    ensures { IfOk result (λ line. string_bytes line ≡ got_in form number answer.now) }
+{
+    match form {
+        Form::Text => words(alloc, number, answer),
+        Form::Json => object(alloc, number, answer),
+    }
+}
+
+/// The line of text for a vector at that line, which the reader answers so.
+fn words(alloc: Global, number: u64, answer: &str) -> Result<String, AllocError>
+    ensures { IfOk result (λ line. string_bytes line ≡ got_text number answer.now) }
+{
+    format!(in alloc; "line {number}: got {answer}\n")
+}
+
+/// The JSON line for a vector at that line, which the reader answers so.
+fn object(alloc: Global, number: u64, answer: &str) -> Result<String, AllocError>
+    ensures { IfOk result (λ line. string_bytes line ≡ line_text (got_value number answer.now)) }
+{
+    let mut line = value(alloc, number, answer)?.to_string(alloc)?;
+    line.push('\n')?;
+    Ok(line)
+}
+
+/// The JSON value for a vector at that line, which the reader answers so.
+fn value(alloc: Global, number: u64, answer: &str) -> Result<Value, AllocError>
+    ensures { IfOk result (λ value. view value ≡ got_value number answer.now) }
+{
+    json!(in alloc; {"got": answer, "line": number})
+}

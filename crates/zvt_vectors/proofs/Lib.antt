@@ -1,4 +1,0 @@
-pub mod ClaimLemmas
-pub mod LineLemmas
-mod Rows
-pub mod VectorLemmas

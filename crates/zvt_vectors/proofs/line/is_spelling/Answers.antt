@@ -1,5 +1,0 @@
-use Rattle.std.proofs.Common.{rules}
-use Rattle.zvt_vectors.proofs.line.is_spelling.Goals as goal
-
-pub returns-in_default-clause-yes : goal.returns-in_default-clause-yes
-returns-in_default-clause-yes c = search rules

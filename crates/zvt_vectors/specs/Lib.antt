@@ -1,3 +1,0 @@
-pub mod Checked
-pub mod Got
-pub mod Vectors
