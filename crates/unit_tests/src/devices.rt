@@ -2,9 +2,9 @@
 use crate::assertions::assert_equal;
 use std::alloc::{AllocError, Global};
 use std::test::Fail;
-use zvt_show::diagnostics::write_notes;
 use zvt_grammar::Lengths;
 use zvt_io::{Failed, GhostCount, Over, Sink, Source};
+use zvt_show::diagnostics::write_notes;
 use zvt_tool::{ToolFault, audit, show};
 use zvt_trace::{ListenerError, Scope};
 

@@ -9,12 +9,12 @@ use std::test::Fail;
 use zvt_grammar::{Lengths, Why};
 use zvt_io::{Over, Sink, Source};
 use zvt_json::Form;
+use zvt_runs::tcp::{LoopRun, TillRun, run_loop, run_till};
 use zvt_runs::{
     BothEnds, EndFault, Ends, NetFault, NoNotes, Planned, StepOptions, StepRun, config_of,
     currency_of, password_of, plan, run_both_ends, run_till_end, serve,
 };
 use zvt_stream::{Endpoint, LineFault, Stream};
-use zvt_runs::tcp::{LoopRun, TillRun, run_loop, run_till};
 use zvt_term::{Served, Terminal, Verdict};
 use zvt_till::{Till, TillSettings};
 use zvt_trace::{Direction, Observed, TraceWriter};

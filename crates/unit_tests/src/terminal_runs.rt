@@ -6,8 +6,8 @@ use std::test::Fail;
 use zvt_grammar::Lengths;
 use zvt_io::Over;
 use zvt_json::Form;
-use zvt_runs::{EndFault, NetFault};
 use zvt_runs::tcp::{TerminalRun, run_terminal};
+use zvt_runs::{EndFault, NetFault};
 use zvt_term::Verdict;
 
 /// A run of a terminal at this port, which serves that many tills, and what it tells in this form.
