@@ -5,9 +5,9 @@ use std::process::Abort;
 use std::test::Fail;
 use zvt_bcd::{Amount, Trace};
 use zvt_io::Over;
-use zvt_json::Form;
 use zvt_kept::{Note, Recovered};
 use zvt_runs::{EndFault, write_book};
+use zvt_text::Form;
 use zvt_till::{CurrencyFact, Heard, Order, Original, StatusFacts, Till};
 
 const WORDS: &str = r#"booked 1000 trace 000001 receipt 0001

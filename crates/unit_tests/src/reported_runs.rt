@@ -4,10 +4,10 @@ use std::alloc::Global;
 use std::io::{self, Read, Write};
 use std::test::Fail;
 use zvt_io::Over;
-use zvt_json::Form;
 use zvt_runs::tcp::{LoopRun, run_loop};
 use zvt_runs::{EndFault, Endpoint, Ends, NoNotes, StepOptions, StepRun, plan, run_till_end};
 use zvt_stream::{LineFault, Stream};
+use zvt_text::Form;
 use zvt_till::Till;
 
 /// A writer that takes nothing.

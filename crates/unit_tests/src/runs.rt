@@ -8,7 +8,6 @@ use std::process::Abort;
 use std::test::Fail;
 use zvt_grammar::{Lengths, Why};
 use zvt_io::{Over, Sink, Source};
-use zvt_json::Form;
 use zvt_runs::tcp::{LoopRun, TillRun, run_loop, run_till};
 use zvt_runs::{
     BothEnds, EndFault, Ends, NetFault, NoNotes, Planned, StepOptions, StepRun, config_of,
@@ -16,6 +15,7 @@ use zvt_runs::{
 };
 use zvt_stream::{Endpoint, LineFault, Stream};
 use zvt_term::{Served, Terminal, Verdict};
+use zvt_text::Form;
 use zvt_till::{Till, TillSettings};
 use zvt_trace::{Direction, Observed, TraceWriter};
 

@@ -5,10 +5,10 @@ use std::net::TcpListener;
 use std::test::Fail;
 use zvt_grammar::Lengths;
 use zvt_io::Over;
-use zvt_json::Form;
 use zvt_runs::tcp::{TerminalRun, run_terminal};
 use zvt_runs::{EndFault, NetFault};
 use zvt_term::Verdict;
+use zvt_text::Form;
 
 /// A run of a terminal at this port, which serves that many tills, and what it tells in this form.
 fn terminal_at(

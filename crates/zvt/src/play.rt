@@ -16,9 +16,9 @@ use zvt_play::{
     Action, Difference, Names, ScriptFault, ScriptStep, Unplayed, difference_text, listen_on,
     script, stay_silent, surplus_text,
 };
+use zvt_runs::tcp::SILENCE_SECONDS;
 use zvt_runs::{EndFault, NetFault};
 use zvt_stream::{Endpoint, Stream};
-use zvt_runs::tcp::SILENCE_SECONDS;
 use zvt_text::Text;
 use zvt_tool::PlayOptions;
 use zvt_tool::statuses::{BAD, DEVICE, DONE, MEMORY, TRACE, WORDS};

@@ -4,8 +4,8 @@ use std::net::TcpStream;
 use std::os::fd::RawFd;
 use std::thread;
 use std::time::Duration;
-use zvt_tap::Arrivals;
 use zvt_runs::tcp::Door;
+use zvt_tap::Arrivals;
 
 /// How long the tap waits after the system refused it a connection, as where it has no descriptor left.
 const REFUSED_SECONDS: u64 = 1;

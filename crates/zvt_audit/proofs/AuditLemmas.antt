@@ -23,8 +23,8 @@ use Rattle.zvt_audit.specs.Audited.{AnswersAuditBy, AnswersBooks, AnswersReadBy,
 use Rattle.zvt_audit.specs.Currencies.{agreed, currencies_of, named_by, one_currency}
 use Rattle.zvt_audit.specs.Ends.{AreEndLines, lines_of}
 use Rattle.zvt_audit.specs.Json.{books_in}
-use Rattle.zvt_json.specs.declared.form.Form.{Form}
-use Rattle.zvt_json.specs.declared.form.Form.TheVariants.{Text}
+use Rattle.zvt_text.specs.declared.form.Form.{Form}
+use Rattle.zvt_text.specs.declared.form.Form.TheVariants.{Text}
 use Rattle.zvt_audit.specs.Happened.{happenings_of, log_of}
 use Rattle.zvt_audit.specs.Orders.{are_swapped, is_order_from, orders_from}
 use Rattle.zvt_audit.specs.declared.auditor.Auditor.{Auditor}

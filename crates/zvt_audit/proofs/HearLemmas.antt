@@ -20,7 +20,7 @@ use Rattle.zvt_audit.specs.Audited.{AnswersFollowed, AnswersReadBy, hears, wants
 use Rattle.zvt_audit.specs.Heard.{AnswersHearing, AnswersTurn, HasAudited, HasHeard, HearingFaults}
 use Rattle.zvt_audit.specs.declared.follow.Audit.{Audit}
 use Rattle.zvt_audit.specs.declared.auditor.Auditor.{Auditor}
-use Rattle.zvt_json.specs.declared.form.Form.{Form as Written}
+use Rattle.zvt_text.specs.declared.form.Form.{Form as Written}
 use Rattle.zvt_audit.specs.declared.summary.AuditSummary.{AuditSummary}
 use Rattle.zvt_audit.proofs.AuditLemmas.{keeps_same, no_write}
 

@@ -23,7 +23,7 @@ use Rattle.zvt_audit.specs.Ends.{AreEndLines, Lines, lines_of}
 use Rattle.zvt_audit.specs.Happened.{happenings_of, log_of}
 use Rattle.zvt_audit.specs.Json.{books_in}
 use Rattle.zvt_audit.specs.Orders.{are_swapped, noticed}
-use Rattle.zvt_json.specs.declared.form.Form.{Form}
+use Rattle.zvt_text.specs.declared.form.Form.{Form}
 use Rattle.zvt_audit.specs.declared.auditor.Auditor.{Auditor}
 use Rattle.zvt_audit.specs.declared.currencies.NamedCurrency.TheVariants.{Absent}
 use Rattle.zvt_audit.specs.declared.orders.Orders.{Orders}

@@ -13,8 +13,8 @@ use Rattle.zvt_till.specs.declared.outcomes.Cause.{Cause}
 use Rattle.zvt_trace.specs.declared.fault.Tally.{Tally}
 use Rattle.zvt_audit.specs.Booked.{books_text, total}
 use Rattle.zvt_audit.specs.Ends.{Lines}
-use Rattle.zvt_json.specs.declared.form.Form.{Form}
-use Rattle.zvt_json.specs.declared.form.Form.TheVariants.{Text, Json}
+use Rattle.zvt_text.specs.declared.form.Form.{Form}
+use Rattle.zvt_text.specs.declared.form.Form.TheVariants.{Text, Json}
 
 -- the receipt number, where the payment has one, and what comes after it
 abbrev pub with_receipt : Option (List ℕ) → Members → Members

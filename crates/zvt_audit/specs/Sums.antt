@@ -3,8 +3,8 @@ use Rattle.std.specs.Prelude.{◌≡◌, ℕ, ◌==◌, List, [], ◌∷◌, ◌
 use Rattle.std.specs.Fmt.{decimal, digits}
 use Rattle.serde_json.specs.Data.{Data, object, no_members, member}
 use Rattle.zvt_json.specs.Strings.{count_value, line_text}
-use Rattle.zvt_json.specs.declared.form.Form.{Form}
-use Rattle.zvt_json.specs.declared.form.Form.TheVariants.{Text, Json}
+use Rattle.zvt_text.specs.declared.form.Form.{Form}
+use Rattle.zvt_text.specs.declared.form.Form.TheVariants.{Text, Json}
 use Rattle.zvt_audit.specs.declared.sum.Sum.{Sum}
 
 -- the total, and of how many files, where not all could be audited

@@ -14,7 +14,7 @@ use crate::summary::{AuditSummary, connected, write_books};
 use std::alloc::{AllocError, Global};
 use zvt_grammar::Lengths;
 use zvt_io::{Sink, Source};
-use zvt_json::Form;
+use zvt_text::Form;
 use zvt_trace::{Direction, Scope, TraceFault, Walker, read_chunk};
 
 /// How many bytes are read at once.

@@ -8,8 +8,7 @@ use crate::ends::Ends;
 use crate::{booked, objects};
 use std::alloc::AllocError;
 use zvt_bcd::Currency;
-use zvt_json::Form;
-use zvt_text::Text;
+use zvt_text::{Form, Text};
 use zvt_till::Books;
 use zvt_trace::Tally;
 

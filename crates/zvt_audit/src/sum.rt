@@ -3,8 +3,7 @@ ghost use Rattle.std.specs.Prelude.{◌≡◌, ◌+◌, ◌++◌, ◌^◌, ◌<�
 ghost use Rattle.zvt_audit.specs.Sums.{sum_in, sum_json, sum_text};
 
 use std::alloc::AllocError;
-use zvt_json::Form;
-use zvt_text::Text;
+use zvt_text::{Form, Text};
 
 /// The sum of the audits of several traces, or of the books of several tills.
 #[derive(Clone, Copy, Debug, PartialEq, Eq)]

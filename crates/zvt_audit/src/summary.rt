@@ -16,8 +16,7 @@ use crate::{booked, form};
 use std::alloc::{AllocError, Global};
 use zvt_grammar::Lengths;
 use zvt_io::Sink;
-use zvt_json::Form;
-use zvt_text::Text;
+use zvt_text::{Form, Text};
 use zvt_till::{Bookkeeping, Happening};
 use zvt_trace::{Scope, Tally, TraceFault, walk};
 

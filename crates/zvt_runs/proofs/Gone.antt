@@ -5,8 +5,8 @@ use Rattle.std.specs.Prelude.{codes, OnOk}
 use Rattle.std.specs.declared.alloc.AllocError.{AllocError}
 use Rattle.zvt_stream.specs.declared.line.LineFault.{LineFault}
 use Rattle.zvt_text.specs.Writing.{Adds}
-use Rattle.zvt_json.specs.declared.form.Form.{Form}
-use Rattle.zvt_json.specs.declared.form.Form.TheVariants as forms
+use Rattle.zvt_text.specs.declared.form.Form.{Form}
+use Rattle.zvt_text.specs.declared.form.Form.TheVariants as forms
 use Rattle.zvt_runs.specs.Reporting.{Reports}
 use Rattle.zvt_term.specs.declared.ledger.Row.{Row}
 use Rattle.zvt_runs.specs.LedgerRows.{rows_text}

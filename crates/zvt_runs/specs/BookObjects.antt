@@ -6,8 +6,8 @@ use Rattle.hex.specs.Hex.{encode_upper, encode_with}
 use Rattle.json.specs.Print.{escape, escape_byte}
 use Rattle.serde_json.specs.Data.{Data, string, boolean, object, Members, no_members, member}
 use Rattle.zvt_json.specs.Strings.{count_value, hex_value, line_text}
-use Rattle.zvt_json.specs.declared.form.Form.{Form}
-use Rattle.zvt_json.specs.declared.form.Form.TheVariants.{Text, Json}
+use Rattle.zvt_text.specs.declared.form.Form.{Form}
+use Rattle.zvt_text.specs.declared.form.Form.TheVariants.{Text, Json}
 use Rattle.zvt_text.specs.MessageTexts.{four_digits}
 use Rattle.zvt_till.specs.Marks.{total}
 use Rattle.zvt_till.specs.Names.{cause_name}

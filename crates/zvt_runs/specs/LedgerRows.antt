@@ -5,8 +5,8 @@ use Rattle.std.specs.List.{flat_map}
 use Rattle.json.specs.Print.{escape_byte}
 use Rattle.serde_json.specs.Data.{Data, object, no_members, member}
 use Rattle.zvt_json.specs.Strings.{count_value, line_text}
-use Rattle.zvt_json.specs.declared.form.Form.{Form}
-use Rattle.zvt_json.specs.declared.form.Form.TheVariants.{Text, Json}
+use Rattle.zvt_text.specs.declared.form.Form.{Form}
+use Rattle.zvt_text.specs.declared.form.Form.TheVariants.{Text, Json}
 use Rattle.zvt_term.specs.declared.ledger.Row.{Row}
 
 -- an approval of an amount, whose trace and receipt number are both this number

@@ -2,7 +2,7 @@
 use Rattle.std.specs.Prelude.{◌==◌, not, ℕ, Bool, true, false, List, Option, Some, None, Result, Ok, Err}
 use Rattle.std.specs.List.{flat_map, list_any}
 use Rattle.std.specs.String.{string_bytes}
-use Rattle.zvt_json.specs.declared.form.Form.{Form}
+use Rattle.zvt_text.specs.declared.form.Form.{Form}
 use Rattle.zvt_till.specs.View.{TillValue}
 use Rattle.zvt_till.specs.declared.line.RunFault.{RunFault}
 use Rattle.zvt_till.specs.declared.line.RunFault.TheVariants.{Order, Line, Book as BookBroke}

@@ -6,8 +6,8 @@ use Rattle.json.specs.Print.{escape_byte}
 use Rattle.serde_json.specs.Data.{Data, string, object, Members, no_members, member}
 use Rattle.zvt_json.specs.Fields.{words_of}
 use Rattle.zvt_json.specs.Strings.{byte_value, count_value, hex_value, line_text}
-use Rattle.zvt_json.specs.declared.form.Form.{Form}
-use Rattle.zvt_json.specs.declared.form.Form.TheVariants.{Text, Json}
+use Rattle.zvt_text.specs.declared.form.Form.{Form}
+use Rattle.zvt_text.specs.declared.form.Form.TheVariants.{Text, Json}
 use Rattle.zvt_text.specs.Results.{meaning_of}
 use Rattle.zvt_stream.specs.declared.line.LineFault.TheVariants.{Turns}
 use Rattle.zvt_till.specs.Names.{cause_name, refusal_name}

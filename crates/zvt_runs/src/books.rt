@@ -14,9 +14,8 @@ use crate::steps::say_total;
 use std::alloc::{AllocError, Global};
 use zvt_bcd::Amount;
 use zvt_io::Sink;
-use zvt_json::Form;
 use zvt_kept::{Note, Recovered};
-use zvt_text::Text;
+use zvt_text::{Form, Text};
 use zvt_till::{Cause, Doubt, Entry, Numbers};
 
 /// Writes a till's book: one line per entry, with the state of its reversals, then one per unclear payment, with the

@@ -6,7 +6,7 @@ ghost use Rattle.zvt_runs.specs.Plans.{AddsStep, PlansOrStops, words_of};
 use crate::arguments::{Ends, Step, step_of};
 use crate::fault::EndFault;
 use std::alloc::{AllocError, Global};
-use zvt_json::Form;
+use zvt_text::Form;
 
 /// A step, and the word that names it.
 #[derive(Drop)]

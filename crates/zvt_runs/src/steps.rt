@@ -20,8 +20,7 @@ use crate::outcomes::outcome_text;
 use crate::plans::{Planned, StepOptions, StepRun};
 use std::alloc::{AllocError, Global};
 use zvt_io::Sink;
-use zvt_json::Form;
-use zvt_text::Text;
+use zvt_text::{Form, Text};
 use zvt_till::{BookFault, Keeper, OrderRefusal, Outcome, RunFault, Till};
 
 /// A line on which each step of a till is made from end to end.

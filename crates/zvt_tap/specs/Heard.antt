@@ -6,7 +6,7 @@ use Rattle.zvt_audit.specs.Audited.{AnswersReadBy}
 use Rattle.zvt_audit.specs.Heard.{HasAudited, IsAuditing}
 use Rattle.zvt_audit.specs.declared.follow.Audit.{Audit}
 use Rattle.zvt_audit.specs.declared.summary.AuditSummary.{AuditSummary}
-use Rattle.zvt_json.specs.declared.form.Form.TheVariants.{Text}
+use Rattle.zvt_text.specs.declared.form.Form.TheVariants.{Text}
 use Rattle.zvt_trace.specs.Chunks.{IsBetweenLines}
 use Rattle.zvt_trace.specs.declared.fault.TraceFault.{TraceFault}
 

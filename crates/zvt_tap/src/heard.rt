@@ -8,7 +8,7 @@ use std::marker::Model;
 use zvt_audit::{Audit, AuditSummary};
 use zvt_grammar::Lengths;
 use zvt_io::Sink;
-use zvt_json::Form;
+use zvt_text::Form;
 use zvt_trace::{Direction, ListenerError, Observer, TraceFault};
 
 /// The audit of a line so far. After a fault it hears nothing more, and misses nothing.

@@ -5,6 +5,7 @@ mod bytes;
 pub mod cursor;
 mod details;
 mod digits;
+mod form;
 mod heads;
 pub mod laws;
 mod lines;
@@ -15,6 +16,7 @@ pub mod words;
 mod write;
 
 pub use bytes::{is_plain, plain_first};
+pub use form::Form;
 pub use heads::kind_name;
 pub use text::{Says, Text};
 pub use write::{

@@ -9,7 +9,7 @@ use Rattle.std.specs.Io.KnownBytes.{Appends}
 use Rattle.zvt_trace.specs.Written.{AppendsPrefix}
 use Rattle.zvt_trace.specs.declared.fault.Tally.{Tally}
 use Rattle.zvt_trace.specs.declared.fault.TraceFault.TheVariants.{Write}
-use Rattle.zvt_json.specs.declared.form.Form.{Form}
+use Rattle.zvt_text.specs.declared.form.Form.{Form}
 use Rattle.zvt_tool.specs.Checked.{ChecksVector, Part}
 use Rattle.zvt_tool.specs.Got.{got_in, got_text}
 use Rattle.zvt_tool.specs.Vectors.{AnswersAs}

@@ -7,7 +7,7 @@ use Rattle.zvt_trace.specs.declared.fault.Tally.{Tally}
 use Rattle.zvt_trace.specs.declared.fault.TraceFault.{TraceFault}
 use Rattle.zvt_trace.specs.declared.fault.TraceFault.TheVariants.{Memory, Read, TooLong, Trace, Write}
 use Rattle.zvt_trace.specs.declared.fault.TraceLineError.{TraceLineError}
-use Rattle.zvt_json.specs.declared.form.Form.{Form}
+use Rattle.zvt_text.specs.declared.form.Form.{Form}
 use Rattle.zvt_tool.specs.Got.{got_in}
 use Rattle.zvt_tool.specs.Vectors.{AnswersAs, Meaning, Means, comment, vector}
 

@@ -5,7 +5,7 @@ use Rattle.std.specs.Io.KnownBytes.{Keeps}
 use Rattle.zvt_grammar.specs.Reading.{Reading}
 use Rattle.zvt_grammar.specs.Lengths.{reading_of}
 use Rattle.zvt_audit.specs.Audited.{AnswersAuditBy}
-use Rattle.zvt_json.specs.declared.form.Form.TheVariants.{Text}
+use Rattle.zvt_text.specs.declared.form.Form.TheVariants.{Text}
 use Rattle.zvt_show.specs.Written.{AnswersTraceBy}
 use Rattle.zvt_show.specs.declared.render.Style.{Style}
 use Rattle.zvt_trace.specs.declared.fault.Tally.{Tally}

@@ -4,8 +4,8 @@ use Rattle.std.specs.Fmt.{decimal, digits}
 use Rattle.json.specs.Print.{escape_byte}
 use Rattle.serde_json.specs.Data.{Data, string, object, no_members, member}
 use Rattle.zvt_json.specs.Strings.{count_value, line_text}
-use Rattle.zvt_json.specs.declared.form.Form.{Form}
-use Rattle.zvt_json.specs.declared.form.Form.TheVariants.{Text, Json}
+use Rattle.zvt_text.specs.declared.form.Form.{Form}
+use Rattle.zvt_text.specs.declared.form.Form.TheVariants.{Text, Json}
 
 -- the line of that number, and what the reader answers
 abbrev pub got_text : (number : ℕ) → (answer : List ℕ) → List ℕ

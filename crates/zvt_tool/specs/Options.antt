@@ -6,8 +6,8 @@ use Rattle.clap.specs.declared.builder.action.ArgAction.TheVariants.{Append, Set
 use Rattle.clap.specs.declared.builder.value_parser.ValueParser.TheVariants as parser
 use Rattle.zvt_grammar.specs.declared.lengths.Lengths.{Lengths}
 use Rattle.zvt_grammar.specs.declared.lengths.Lengths.TheVariants.{Shortest, Padded}
-use Rattle.zvt_json.specs.declared.form.Form.{Form}
-use Rattle.zvt_json.specs.declared.form.Form.TheVariants as form
+use Rattle.zvt_text.specs.declared.form.Form.{Form}
+use Rattle.zvt_text.specs.declared.form.Form.TheVariants as form
 use Rattle.zvt_tool.specs.declared.options.CommandOption.{CommandOption}
 use Rattle.zvt_tool.specs.declared.options.CommandOption.TheVariants as option
 use Rattle.zvt_tool.specs.declared.options.CommandRow.{CommandRow}

@@ -5,7 +5,7 @@ use Rattle.zvt_grammar.specs.declared.lengths.Lengths.{Lengths}
 use Rattle.zvt_grammar.specs.declared.lengths.Lengths.TheVariants.{Shortest}
 use Rattle.zvt_show.specs.declared.render.Style.{Style}
 use Rattle.zvt_show.specs.declared.render.Style.TheVariants.{Show, Join, Receipts, Json, JsonReceipts}
-use Rattle.zvt_json.specs.declared.form.Form.TheVariants as form
+use Rattle.zvt_text.specs.declared.form.Form.TheVariants as form
 use Rattle.zvt_trace.specs.declared.listener.Scope.{Scope}
 use Rattle.zvt_trace.specs.declared.listener.Scope.TheVariants.{OneMessage, OneSide}
 use Rattle.zvt_tool.specs.Given.{IsByFlag, IsFlagOf, words_of}

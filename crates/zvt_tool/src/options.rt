@@ -8,7 +8,7 @@ ghost use Rattle.zvt_tool.specs.Options.{rule_for, several_rule, tid_rule};
 use clap::{Arg, ArgAction, value_parser};
 use std::alloc::Global;
 use zvt_grammar::Lengths;
-use zvt_json::Form;
+use zvt_text::Form;
 
 /// A command: its name, the texts before and after its usage, and its options.
 #[derive(Clone, Copy)]

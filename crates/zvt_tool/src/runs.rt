@@ -15,10 +15,10 @@ use crate::options::lengths_by;
 use std::alloc::Global;
 use std::net::{Net, TcpListener, TcpStream};
 use zvt_io::{Failed, Sink};
-use zvt_json::Form;
 use zvt_runs::tcp::{LoopRun, SILENCE_SECONDS, TerminalRun, TillRun};
 use zvt_runs::{EndFault, Ends, NoNotes, StepOptions, plan};
 use zvt_term::Verdict;
+use zvt_text::Form;
 
 /// Where a terminal listens.
 const LOCAL_HOST: &str = "127.0.0.1";

@@ -15,8 +15,8 @@ use crate::options::{CommandOption, CommandRow, form_by, lengths_by};
 use clap::ArgMatches;
 use std::alloc::{AllocError, Global};
 use zvt_grammar::Lengths;
-use zvt_json::Form;
 use zvt_show::Style;
+use zvt_text::Form;
 use zvt_trace::Scope;
 
 /// The output of a command on traces or on vectors.

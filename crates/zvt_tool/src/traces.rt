@@ -14,8 +14,8 @@ use std::alloc::Global;
 use zvt_audit::audit_trace;
 use zvt_grammar::Lengths;
 use zvt_io::{Sink, Source};
-use zvt_json::Form;
 use zvt_show::{Style, render_trace};
+use zvt_text::Form;
 use zvt_trace::{Scope, Tally, TraceFault, read_trace};
 
 /// Writes each whole message of the trace as text: its direction and name, and a line for each field. A stream that is

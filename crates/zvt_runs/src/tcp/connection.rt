@@ -4,13 +4,13 @@ ghost use Rattle.std.specs.Duration.{as_nanos};
 ghost use Rattle.std.specs.IoError.{error_kind};
 ghost use Rattle.zvt_runs.specs.Connecting.{given_by, why_of};
 
+use crate::NetFault;
 use std::io;
 use std::io::ErrorKind;
 use std::net::{HostAddrs, Net, SocketAddr, TcpListener, TcpStream, ToSocketAddrs};
 use std::os::fd::{AsRawFd, RawFd};
 use std::time::Duration;
 use zvt_io::GhostCount;
-use crate::NetFault;
 
 /// Default timeout of a till in seconds: for connecting, for each read and for each write. If the terminal is silent
 /// for longer, the read fails.

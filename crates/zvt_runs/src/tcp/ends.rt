@@ -4,6 +4,7 @@ ghost use Rattle.zvt_grammar.specs.Lengths.{reading_of};
 ghost use Rattle.zvt_stream.specs.StreamState.{at_start, start_in};
 ghost use Rattle.zvt_term.specs.Terminal.{new_terminal};
 
+use crate::BothEnds;
 use crate::tcp::silence::Socket;
 use crate::tcp::trace_file::{FileTrace, file_trace};
 use std::alloc::{AllocError, Global};
@@ -12,7 +13,6 @@ use std::io::Stderr;
 use std::net::TcpStream;
 use zvt_grammar::Lengths;
 use zvt_io::Over;
-use crate::BothEnds;
 use zvt_show::Shown;
 use zvt_stream::{Endpoint, Stream};
 use zvt_term::{DEFAULT_TID, Served, Terminal, Verdict};

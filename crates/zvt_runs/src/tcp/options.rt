@@ -1,10 +1,10 @@
 //! The options of runs over TCP.
+use crate::{Planned, StepOptions};
 use std::fs::File;
 use std::io::Stderr;
 use zvt_grammar::Lengths;
-use zvt_json::Form;
-use crate::{Planned, StepOptions};
 use zvt_term::Verdict;
+use zvt_text::Form;
 
 /// The run of a till: the terminal that it connects to, its steps, how its line is read, traced and shown, and how its
 /// steps are reported.

@@ -11,10 +11,9 @@ use serde_json::{Value, json};
 use std::alloc::{AllocError, Global};
 use std::net::TcpListener;
 use zvt_io::Sink;
-use zvt_json::Form;
 use zvt_stream::LineFault;
 use zvt_term::{Row, Terminal};
-use zvt_text::Text;
+use zvt_text::{Form, Text};
 
 /// Reports in this form the address at which the terminal listens. A device that fails is no fault of the service.
 pub(crate) fn report_address<W: Sink>(

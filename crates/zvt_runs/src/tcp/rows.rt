@@ -8,9 +8,8 @@ ghost use Rattle.zvt_runs.specs.LedgerRows.{rows_text};
 use crate::tcp::reports::line;
 use serde_json::{Value, json};
 use std::alloc::{AllocError, Global};
-use zvt_json::Form;
 use zvt_term::Row;
-use zvt_text::Text;
+use zvt_text::{Form, Text};
 
 /// Adds a line in this form for each of these rows, which the ledger got from the till of this number.
 pub(crate) fn say_rows(

@@ -13,11 +13,11 @@ use crate::tcp::options::{LoopRun, TillRun};
 use crate::tcp::shown::shown_by;
 use crate::tcp::silence::{by_silence, waited};
 use crate::tcp::trace_file::by_trace;
+use crate::{EndFault, NoteSource, StepRun, run_both_ends, run_till_end};
 use std::alloc::Global;
 use std::net::{Net, TcpListener, TcpStream};
 use zvt_grammar::Lengths;
 use zvt_io::Sink;
-use crate::{EndFault, NoteSource, StepRun, run_both_ends, run_till_end};
 use zvt_till::Keeper;
 
 /// Runs the steps between a till, alone or with a book, and a terminal that are both in this process. It listens at a

@@ -8,8 +8,8 @@ use std::alloc::Global;
 use std::io::Stderr;
 use zvt_grammar::Lengths;
 use zvt_io::{Over, Sink};
-use zvt_json::Form;
 use zvt_show::{Shown, Style};
+use zvt_text::Form;
 
 /// What shows a line on standard error in this form, if that is given. The messages have such lengths.
 pub(crate) fn shown_by(

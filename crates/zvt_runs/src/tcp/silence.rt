@@ -2,10 +2,10 @@
 ghost use Rattle.std.specs.Prelude.{◌≡◌, false, Option, ℕ};
 ghost use Rattle.zvt_runs.specs.Traced.{by_silence};
 
+use crate::EndFault;
 use crate::tcp::ends::TillLine;
 use std::io::{self, ErrorKind, Read, Write};
 use std::net::TcpStream;
-use crate::EndFault;
 
 /// A connection that knows whether its last read failed since nothing came for as long as it waits.
 #[derive(Clone, Copy)]

@@ -8,12 +8,12 @@ use crate::tcp::connection::{Door, listen};
 use crate::tcp::ends::{is_broken, terminal_end_of};
 use crate::tcp::options::TerminalRun;
 use crate::tcp::reports::{GoneTill, report_address, report_till};
+use crate::{EndFault, serve};
 use std::alloc::Global;
 use std::fs::File;
 use std::net::{Net, TcpListener, TcpStream};
 use zvt_grammar::Lengths;
 use zvt_io::Sink;
-use crate::{EndFault, serve};
 use zvt_stream::LineFault;
 use zvt_term::{Served, Terminal};
 

@@ -2,10 +2,10 @@
 ghost use Rattle.std.specs.Prelude.{◌≡◌, IfOk, is_some};
 ghost use Rattle.zvt_runs.specs.Traced.{by_trace};
 
+use crate::EndFault;
 use std::alloc::{AllocError, Global};
 use std::fs::File;
 use zvt_io::Over;
-use crate::EndFault;
 use zvt_trace::TraceWriter;
 
 /// Writes a trace to its file, if there is one.

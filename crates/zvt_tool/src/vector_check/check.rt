@@ -10,7 +10,7 @@ use crate::vector_check::got::got;
 use crate::vector_check::line::{BadLine, VectorLine, read_line};
 use std::alloc::Global;
 use zvt_io::{Sink, Source};
-use zvt_json::Form;
+use zvt_text::Form;
 use zvt_trace::{Tally, TraceFault, next_line, read_trace};
 
 /// Compares each vector with the result of the message reader (`zvt_apdu::scan`). If they differ, writes a line in

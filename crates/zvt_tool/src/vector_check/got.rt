@@ -7,7 +7,7 @@ ghost use Rattle.zvt_tool.specs.Got.{got_in, got_text, got_value};
 
 use serde_json::{Value, json};
 use std::alloc::{AllocError, Global};
-use zvt_json::Form;
+use zvt_text::Form;
 
 /// The line in this form for a vector at that line, which the reader answers so.
 pub(crate) fn got(

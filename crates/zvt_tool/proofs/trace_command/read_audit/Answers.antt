@@ -1,7 +1,7 @@
 use Rattle.std.proofs.Common.{ap}
 use Rattle.std.proofs.lemmas.Result.{IfOk-weaker}
 use Rattle.clap.specs.Words.{found_of, rows_of}
-use Rattle.zvt_json.specs.declared.form.Form.{Form}
+use Rattle.zvt_text.specs.declared.form.Form.{Form}
 use Rattle.zvt_tool.specs.Options.{form_by}
 use Rattle.zvt_tool.specs.declared.trace_command.TraceWork.TheVariants.{Audit}
 use Rattle.zvt_tool.proofs.ByFlags.{by_form}
