@@ -1,8 +1,9 @@
-//! Tests of what no contract can say, through public calls: of digits, objects, fields, messages and streams; of the till,
-//! its snapshot and its journal, and of the simulated terminal; of runs and of devices that fail.
+//! Tests of what no contract can say, through public calls: of digits, objects, fields, messages and streams; of the
+//! till, its snapshot and its journal, and of the simulated terminal; of runs and of devices that fail.
 //!
-//! Scripts test the rest: `zvt vectors examples/vectors.txt` which bytes are refused, and where, `tests/chunking.py` lines
-//! that are cut into pieces, `tests/cli_output.py` what the program prints, and `tests/cli_help.py` its command line.
+//! Scripts test the rest: `zvt vectors examples/vectors.txt` which bytes are refused, and where, `tests/chunking.py`
+//! lines that are cut into pieces, `tests/cli_output.py` what the program prints, and `tests/cli_help.py` its command
+//! line.
 #![tactic(auto)]
 
 #[cfg(test)]

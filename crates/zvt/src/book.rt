@@ -30,7 +30,8 @@ const NO_BOOK: &str =
 
 /// What is reported of a book whose file is no longer the one that was opened.
 const DISPLACED: &str =
-    "the file of the book is no longer the one that was opened: it was moved, deleted, replaced or changed, so nothing more was sent";
+    "the file of the book is no longer the one that was opened: it was moved, deleted, replaced or changed, so \
+        nothing more was sent";
 
 /// What is reported of a book for whose next record the disk has no room.
 const FULL_DISK: &str =
@@ -179,7 +180,8 @@ fn report_left(rt: &HostRuntime, path: &str, records: usize) -> io::Result<()> {
     let left = size.saturating_sub(records as u64).saturating_sub(1);
     if left > 0 {
         eprintln!(rt;
-            "zvt: '{path}': {left} bytes of an unfinished record were left out: a till is writing it, or a crash left them"
+            "zvt: '{path}': {left} bytes of an unfinished record were left out: a till is writing it, or a crash \
+                left them"
         )?;
     }
     Ok(())

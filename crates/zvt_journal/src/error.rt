@@ -33,13 +33,15 @@ pub enum JournalFileError {
         remove that line to have them back, or all that comes after it to give them up")]
     RecordsBehind { line: usize, records: usize },
     /// More bytes come after the whole lines up to the first empty one than a crash leaves.
-    #[error("{bytes} bytes follow the first empty line, more than a crash can leave behind: if an editor inserted that line, delete it")]
+    #[error("{bytes} bytes follow the first empty line, more than a crash can leave behind: if an editor inserted \
+        that line, delete it")]
     TooMuchAfter { bytes: usize },
     /// The bytes that are to be cut could not be kept in the file beside it, so they were not cut.
     #[error("cannot save the incomplete record to the file of the same name plus '.cut', so it was not removed: {0}")]
     CutNotKept(io::Error),
     /// The name of the file can't be made durable, since its folder can't be opened or synced. No file was made.
-    #[error("cannot make the name of this file durable, for which its folder has to be readable and on a disk that syncs folders: {0}")]
+    #[error("cannot make the name of this file durable, for which its folder has to be readable and on a disk \
+        that syncs folders: {0}")]
     FolderNotSynced(io::Error),
     /// The file could not be opened, read, written or made durable.
     #[error("cannot open, read or write this file: {0}")]

@@ -22,14 +22,16 @@ pub enum ScriptLineError {
     #[error("{0}")]
     Trace(TraceLineError),
     /// It begins like a mark, but is not a valid one.
-    #[error("expected a mark, e.g. '#~ silent', '#~ 1500', '#~ listen 2000', '#~ bind 87 n1', '#~ same 37 n1' or '#~ use 87 n1'")]
+    #[error("expected a mark, e.g. '#~ silent', '#~ 1500', '#~ listen 2000', '#~ bind 87 n1', '#~ same 37 n1' or \
+        '#~ use 87 n1'")]
     Mark,
     /// It is a mark with a name that cannot be used here.
     #[error("{0}")]
     Name(NameFault),
     /// It is a line of the other side, and no message starts with its bytes up to and including the one at `at`,
     /// counted from 0.
-    #[error("invalid at byte {at} ({why}): no message starts like this. Give a valid message or prefix, or leave the line empty after '<' or '>' to accept any message")]
+    #[error("invalid at byte {at} ({why}): no message starts like this. Give a valid message or prefix, or leave \
+        the line empty after '<' or '>' to accept any message")]
     NoMessage { at: usize, why: Why },
 }
 

@@ -26,7 +26,8 @@ pub enum NameFault {
     #[error("the name has a number of another size: those of 0B and 37 have three bytes, and that of 87 has two")]
     Size,
     /// A `use` does not come before an own line that ends with the field.
-    #[error("no own line that ends with this field comes next: give one, of 258 bytes at most, e.g. '> 06 30 06 00 00 00 87 00 01'")]
+    #[error("no own line that ends with this field comes next: give one, of 258 bytes at most, e.g. '> 06 30 06 \
+        00 00 00 87 00 01'")]
     NoField,
 }
 

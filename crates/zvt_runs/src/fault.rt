@@ -48,14 +48,17 @@ pub enum EndFault {
     Trace,
     /// The journal of the till's book could not be written. Nothing was sent from then on. The order that ran ended as
     /// after a failed connection. The book's file has what happened before.
-    #[error("cannot write the book; the run was stopped and nothing more was sent. Check the disk and its free space, then inspect the file with 'zvt book'")]
+    #[error("cannot write the book; the run was stopped and nothing more was sent. Check the disk and its free \
+        space, then inspect the file with 'zvt book'")]
     Book,
     /// All steps were made and the total was written, but a step did not succeed, and the run checks that. The line of
     /// the step says what became of it.
     #[error("a step did not succeed: its line says what became of it")]
     Unsuccessful,
     /// The word at this place, counted from 0, names no step. Nothing was sent or written.
-    #[error("invalid step {number}: expected 'register', 'pay:N', 'reverse:N', 'close' or, in 'zvt loop', 'decline:N:XX', where N is an amount in cents, as 'pay:1000' for 10.00, or the number of an entry; a reference, as in 'pay:1000:ref=A-1009', has 1 to 40 printable characters and no space", number = from_one(.at))]
+    #[error("invalid step {number}: expected 'register', 'pay:N', 'reverse:N', 'close' or, in 'zvt loop', \
+        'decline:N:XX', where N is an amount in cents, as 'pay:1000' for 10.00, or the number of an entry; a \
+        reference, as in 'pay:1000:ref=A-1009', has 1 to 40 printable characters and no space", number = from_one(.at))]
     BadStep { at: usize },
     /// There was no connection. Nothing was written.
     #[error("no connection: {0}")]

@@ -93,7 +93,8 @@ fn say_no_space(text: &mut Text, word: &str) -> Result<(), AllocError>
     text.word(b"zvt: ")?;
     text.word(word.as_bytes())?;
     text.word(
-        b" was not sent (NoSpace): the disk of the book has no room for the records of a payment: free some space, then run the step again\n",
+        b" was not sent (NoSpace): the disk of the book has no room for the records of a payment: free some \
+            space, then run the step again\n",
     )
 }
 
@@ -143,7 +144,8 @@ fn say_payment(
     say_why(text, cause)?;
     say_heard(text, numbers)?;
     text.word(
-        b". It may have been charged or not: look at the terminal's journal or its last receipt before you order it again\n",
+        b". It may have been charged or not: look at the terminal's journal or its last receipt before you order \
+            it again\n",
     )
 }
 

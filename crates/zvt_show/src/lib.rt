@@ -1,7 +1,8 @@
 //! The text of traces of the line between a till and its terminal.
 //!
 //! [`render_trace`] writes the text of a trace in memory in a [`Style`], and takes the lengths that the trace may have.
-//! [`follow_trace`] writes the text of a trace while it comes. [`Shown`] writes the text of a line while its chunks pass.
+//! [`follow_trace`] writes the text of a trace while it comes. [`Shown`] writes the text of a line while its chunks
+//! pass.
 #![tactic(auto)]
 
 pub mod diagnostics;

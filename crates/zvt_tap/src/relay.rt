@@ -119,7 +119,8 @@ fn turn<R: Source, W: Sink, K: Observer, V: Observer>(
     ends: &mut Ends<R, W>,
     log: &mut Watched<K, V>,
 ) -> Result<bool, TapFault>
-    ensures passed { AnswersTurn from (λ bytes. Records K.observes K.misses V.observes V.misses log.old from bytes log.new)
+    ensures passed { AnswersTurn from
+        (λ bytes. Records K.observes K.misses V.observes V.misses log.old from bytes log.new)
         (λ why bytes. Loses K.observes K.misses V.observes V.misses log.old from bytes why log.new)
         (log.new ≡ log.old)
         (sides (R.remaining ends.old.till) (R.remaining ends.old.terminal) (W.written ends.old.to_terminal)
@@ -144,7 +145,8 @@ fn pass<R: Source, W: Sink, K: Observer, V: Observer>(
     writer: &mut W,
     log: &mut Watched<K, V>,
 ) -> Result<bool, TapFault>
-    ensures passed { AnswersPass from (λ bytes. Records K.observes K.misses V.observes V.misses log.old from bytes log.new)
+    ensures passed { AnswersPass from
+        (λ bytes. Records K.observes K.misses V.observes V.misses log.old from bytes log.new)
         (λ why bytes. Loses K.observes K.misses V.observes V.misses log.old from bytes why log.new)
         (log.new ≡ log.old) (R.remaining reader.old) (R.remaining reader.new) (W.written writer.old)
         (W.written writer.new) result }

@@ -77,8 +77,8 @@ where
     in_run(loop_alone(rt, alloc, &run, writer))
 }
 
-/// Connects a till to its terminal and runs the steps that the words name, as [`zvt_runs::tcp::run_till`] does. The till has
-/// the default settings and timeout. With `loose` it reads lengths in any form that holds them.
+/// Connects a till to its terminal and runs the steps that the words name, as [`zvt_runs::tcp::run_till`] does. The
+/// till has the default settings and timeout. With `loose` it accepts lengths in any form.
 ///
 /// `BadStep` and `Net` come before anything is written.
 pub fn run_till<R, W>(
@@ -154,8 +154,8 @@ where
     zvt_runs::tcp::run_till(rt, alloc, run, &mut till, &NoNotes, writer, &mut Unreported)
 }
 
-/// Listens at this port of 127.0.0.1 and serves one till to the end of its connection, like [`zvt_runs::tcp::run_terminal`].
-/// With `loose`, the terminal accepts lengths in any form. Reports nothing.
+/// Listens at this port of 127.0.0.1 and serves one till to the end of its connection, like
+/// [`zvt_runs::tcp::run_terminal`]. With `loose`, the terminal accepts lengths in any form. Reports nothing.
 pub fn run_terminal<R>(
     rt: &R,
     alloc: Global,

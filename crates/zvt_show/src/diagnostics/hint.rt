@@ -191,7 +191,8 @@ impl fmt::Display for Hint {
             }
             Hint::Unfinished => {
                 f.write_str(
-                    "a crash left this of a record: 'zvt book --records FILE' writes the whole records of a journal as a trace",
+                    "a crash left this of a record: 'zvt book --records FILE' writes the whole records of a \
+                        journal as a trace",
                 )
             }
             Hint::Character {

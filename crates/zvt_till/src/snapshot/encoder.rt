@@ -4,7 +4,8 @@ ghost use Rattle.std.specs.List.{All};
 ghost use Rattle.zvt_apdu.specs.Briefs.{digits};
 ghost use Rattle.zvt_till.specs.SnapshotEncoded.{cause_code, receipt_bytes, doubt_bytes, doubt_code, entry_bytes};
 ghost use Rattle.zvt_till.specs.SnapshotEncoded.{unclear_bytes, outcome_row, outcome_bytes, body_bytes, counts_bytes};
-ghost use Rattle.zvt_till.specs.SnapshotEncoded.{left_book, open_rows, saved, saved_in, settings_bytes, summed, IsEntry};
+ghost use Rattle.zvt_till.specs.SnapshotEncoded.{left_book, open_rows, saved, saved_in, settings_bytes, summed};
+ghost use Rattle.zvt_till.specs.SnapshotEncoded.{IsEntry};
 ghost use Rattle.zvt_till.specs.SnapshotEncoded.{IsKept, IsOutcome, IsReceipt, IsUnclear};
 ghost use Rattle.zvt_till.specs.Till.{step};
 
