@@ -8,7 +8,7 @@ use zvt_journal::{DeviceError, Journal, Memory, open};
 pub fn print_records(rt: &HostRuntime, record: &[u8]) -> io::Result<()> {
     match kept(rt.alloc(), record) {
         Ok(bytes) => println!(rt; "records: {bytes} bytes recovered"),
-        Err(fault) => println!(rt; "records: {fault:?}"),
+        Err(fault) => println!(rt; "records: {fault}"),
     }
 }
 

@@ -4,22 +4,27 @@ ghost use Rattle.zvt_journal.specs.declared.device.DeviceError.TheVariants.{Fail
 ghost use Rattle.zvt_journal.specs.Device.{Only, Follows, Torn, Swapped, Cut, Over, Elapses, HasCause};
 
 use std::alloc::{AllocError, AllocFailed};
+use thiserror::Error;
 
-/// Why a journal can't go on.
-#[derive(Clone, Copy, Debug, PartialEq, Eq)]
+/// Why a record was not added.
+#[derive(Clone, Copy, Debug, Drop, PartialEq, Eq, Error)]
 pub enum DeviceError {
-    /// Memory ran out. Nothing was written.
+    /// An allocation failed. Nothing was written.
+    #[error("out of memory: nothing was written")]
     Memory,
     /// A call on the file failed. The result of a further read is unknown, so another process has to open the file
     /// anew.
+    #[error("the journal could not be written: check its disk, then open it again in another process")]
     Failed,
     /// The file has 2^60 bytes or more, or the record more than [`MAX_RECORD_LEN`](crate::MAX_RECORD_LEN). Nothing was
     /// written.
+    #[error("the journal or the record is too large: nothing was written")]
     Full,
 }
 
 /// No disk space could be reserved for the records of a payment. The file is as it was, and can still be written.
-#[derive(Clone, Copy, Debug, PartialEq, Eq)]
+#[derive(Clone, Copy, Debug, Drop, PartialEq, Eq, Error)]
+#[error("the disk has no room for the records of a payment: free some space")]
 pub struct NoSpace;
 
 impl From<NoSpace> for DeviceError {

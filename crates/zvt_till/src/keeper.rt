@@ -10,23 +10,28 @@ ghost use Rattle.zvt_till.specs.declared.orders.Outgoing.{Outgoing};
 use crate::orders::{Order, OrderRefusal, Outgoing};
 use crate::till::Till;
 use std::alloc::Global;
+use thiserror::Error;
 use zvt_stream::Machine;
 
 /// Why a record could not be added to the book.
-#[derive(Clone, Copy, Debug, PartialEq, Eq)]
+#[derive(Clone, Copy, Debug, Drop, PartialEq, Eq, Error)]
 pub enum BookFault {
     /// The disk has no room for the records of the order. Nothing was written or sent, and the till is unchanged.
+    #[error("the disk has no room for the records of the order: free some space, then send the order again")]
     NoSpace,
     /// The book could not be written. The till has lost its line, and nothing more may be sent.
+    #[error("the book could not be written: check its disk, then open it again")]
     Failed,
 }
 
 /// Why an order was not accepted. Nothing may be sent.
-#[derive(Clone, Copy, Debug, PartialEq, Eq)]
+#[derive(Clone, Copy, Debug, Drop, PartialEq, Eq, Error)]
 pub enum Untaken {
     /// The till refused it. Nothing changed.
+    #[error("the till refused the order: {0}")]
     Order(OrderRefusal),
     /// The till would have accepted it, but its record could not be added to the book.
+    #[error("the order was not sent: {0}")]
     Book(BookFault),
 }
 

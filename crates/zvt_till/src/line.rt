@@ -10,6 +10,7 @@ use crate::orders::{Order, OrderRefusal};
 use crate::outcomes::Outcome;
 use crate::till::Till;
 use std::alloc::{AllocError, Global};
+use thiserror::Error;
 use zvt_apdu::{ApduView, MAX_BRIEF_LEN};
 use zvt_io::{Sink, Source};
 use zvt_stream::{Answers, LineFault, Machine, Stream, Until, pump, send};
@@ -54,16 +55,19 @@ impl Machine for Till {
 }
 
 /// Why an order did not run to its end.
-#[derive(Clone, Copy, Debug, PartialEq, Eq)]
+#[derive(Clone, Copy, Debug, Drop, PartialEq, Eq, Error)]
 pub enum RunFault {
     /// The till refused it. Nothing was sent or read, and the till is unchanged.
+    #[error("the till refused the order: {0}")]
     Order(OrderRefusal),
     /// The line broke, and the till was notified. The till's last outcome tells how the order ended. Give the line up:
     /// a new one needs a new stream.
+    #[error("the line broke: {0}. The till's last outcome tells how the order ended")]
     Line(LineFault),
     /// A record could not be added to the book. After `NoSpace` nothing was sent or read, and the till is unchanged.
     /// After `Failed` nothing more was sent, the till has lost its line, and its last outcome tells how the order
     /// ended. A till alone never returns this.
+    #[error("{0}")]
     Book(BookFault),
 }
 

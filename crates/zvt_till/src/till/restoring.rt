@@ -10,14 +10,17 @@ use crate::numbers::Numbers;
 use crate::outcomes::{Cause, Outcome};
 use crate::used_traces::UsedTraces;
 use std::alloc::Global;
+use thiserror::Error;
 use zvt_bcd::Amount;
 
 /// Why rows cannot be restored.
-#[derive(Clone, Copy, Debug, PartialEq, Eq)]
+#[derive(Clone, Copy, Debug, Drop, PartialEq, Eq, Error)]
 pub enum RestoreError {
     /// There are more than `MAX_BOOK_ENTRIES` rows of a kind, or a trace number appears twice in the book.
+    #[error("no till has these rows: there are too many, or a trace number appears twice")]
     Impossible,
     /// An allocation failed.
+    #[error("out of memory")]
     Memory,
 }
 
