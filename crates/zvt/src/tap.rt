@@ -185,13 +185,14 @@ fn tap_one<W: Write + Drop>(
     trace: &mut TraceFile<'_>,
     screen: &mut Screen<W>,
 ) -> u8 {
-    let device = trace.file.map(|file| {
-        Over::new(Noted {
+    let device = match trace.file {
+        Some(file) => Some(Over::new(Noted {
             rt,
             file,
             required: trace.required,
-        })
-    });
+        })),
+        None => None,
+    };
     let Ok(tracing) = Tracing::new(rt.alloc(), device, trace.failed, trace.required) else {
         return report_fault(rt, &TraceFault::Memory);
     };
