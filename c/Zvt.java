@@ -878,7 +878,7 @@ public final class Zvt {
             }
             if (held.length - end > MOST_AFTER) {
                 throw new BookException(held.length - end + " bytes follow the first empty line of " + path
-                    + ", more than a crash can leave behind: if an editor inserted that line, delete it", null);
+                    + ", more than a crash can leave: if an editor inserted that line, delete it", null);
             }
             return end;
         }

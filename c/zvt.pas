@@ -1157,7 +1157,7 @@ begin
     Result := At + 1;
   end;
   if Length(Held) - Result > MostAfter then
-    raise EZvtBook.CreateFmt('%d bytes follow the first empty line of %s, more than a crash can leave behind: if an editor inserted that line, delete it',
+    raise EZvtBook.CreateFmt('%d bytes follow the first empty line of %s, more than a crash can leave: if an editor inserted that line, delete it',
       [Length(Held) - Result, FPath]);
 end;
 

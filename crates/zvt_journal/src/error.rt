@@ -33,7 +33,7 @@ pub enum JournalFileError {
         remove that line to have them back, or all that comes after it to give them up")]
     RecordsBehind { line: usize, records: usize },
     /// More bytes come after the whole lines up to the first empty one than a crash leaves.
-    #[error("{bytes} bytes follow the first empty line, more than a crash can leave behind: if an editor inserted \
+    #[error("{bytes} bytes follow the first empty line, more than a crash can leave: if an editor inserted \
         that line, delete it")]
     TooMuchAfter { bytes: usize },
     /// The bytes that are to be cut could not be kept in the file beside it, so they were not cut.
