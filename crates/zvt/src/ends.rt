@@ -11,12 +11,12 @@ use crate::settings::verdict;
 use crate::{book, trace_file};
 use std::fs::File;
 use std::io;
-use zvt_io::Over;
+use zvt_io::{Over, Sink};
 use zvt_journal::FileDevice;
 use zvt_kept::KeptTill;
 use zvt_runs::tcp::{LoopRun, TerminalRun, run_loop, run_terminal};
-use zvt_runs::{Clocked, Ends, NoNotes, Planned, StepOptions, plan};
-use zvt_till::{Till, TillSettings};
+use zvt_runs::{Clocked, EndFault, Ends, NoNotes, NoteSource, Planned, StepOptions, plan};
+use zvt_till::{Keeper, Till, TillSettings};
 use zvt_tool::TerminalOptions;
 use zvt_tool::options::{connections_by, form_by, lengths_by};
 use zvt_tool::statuses::WORDS;
@@ -46,14 +46,51 @@ pub fn both_ends(
         plan: plan.as_slice(),
         options,
     };
-    let status = loop_status(rt, &run, &settings, kept)?;
+    let status = run_status(rt, &run, &settings, kept)?;
     Ok(trace_file::mend_after(rt, trace, run.trace, status)?)
 }
 
-/// Runs both ends with the till of a book, or with a new till, and returns the exit status.
-fn loop_status(
+/// The steps of a run, for a till alone or one with a book.
+pub trait TillSteps {
+    /// Makes the steps.
+    fn make<K, N, W, E>(
+        &self,
+        rt: &HostRuntime,
+        till: &mut K,
+        notes: &N,
+        writer: &mut W,
+        report: &mut E,
+    ) -> Result<(), EndFault>
+    where
+        K: Keeper,
+        N: NoteSource<K>,
+        W: Sink,
+        E: Sink;
+}
+
+impl TillSteps for LoopRun<'_, '_> {
+    fn make<K, N, W, E>(
+        &self,
+        rt: &HostRuntime,
+        till: &mut K,
+        notes: &N,
+        writer: &mut W,
+        report: &mut E,
+    ) -> Result<(), EndFault>
+    where
+        K: Keeper,
+        N: NoteSource<K>,
+        W: Sink,
+        E: Sink,
+    {
+        run_loop(rt, rt.alloc(), self, till, notes, writer, report)
+    }
+}
+
+/// Makes the steps with the till of a book, or with a new till, and returns the exit status.
+pub fn run_status<R: TillSteps>(
     rt: &HostRuntime,
-    run: &LoopRun<'_, '_>,
+    run: &R,
     settings: &TillSettings,
     kept: Option<KeptTill<FileDevice>>,
 ) -> io::Result<u8> {
@@ -62,27 +99,11 @@ fn loop_status(
     let answer = match kept {
         None => {
             let mut till = new_till(rt, settings);
-            run_loop(
-                rt,
-                rt.alloc(),
-                run,
-                &mut till,
-                &NoNotes,
-                &mut writer,
-                &mut report,
-            )
+            run.make(rt, &mut till, &NoNotes, &mut writer, &mut report)
         }
         Some(mut till) => {
             let notes = Clocked { clock: rt };
-            let answer = run_loop(
-                rt,
-                rt.alloc(),
-                run,
-                &mut till,
-                &notes,
-                &mut writer,
-                &mut report,
-            );
+            let answer = run.make(rt, &mut till, &notes, &mut writer, &mut report);
             book::report_failure(rt, till.device())?;
             answer
         }

@@ -2,22 +2,17 @@
 ghost use Rattle.std.specs.Prelude.{◌≡◌};
 ghost use Rattle.zvt.specs.Settings.{RunsAsAsked};
 
-use crate::book;
-use crate::ends::{RunFiles, new_till, planned, run_files};
+use crate::ends::{RunFiles, TillSteps, planned, run_files, run_status};
 use crate::exit::Exit;
-use crate::finish::finish_run;
-use crate::output::Output;
 use crate::reports::{SOME_SECONDS, TERMINAL_PORT, report, report_invalid};
 use crate::settings::settings;
 use crate::trace_file::mend_after;
 use std::fs::File;
 use std::io;
-use zvt_io::Over;
-use zvt_journal::FileDevice;
-use zvt_kept::KeptTill;
+use zvt_io::Sink;
 use zvt_runs::tcp::{TillRun, run_till};
-use zvt_runs::{Clocked, Ends, NoNotes, Planned, StepOptions};
-use zvt_till::TillSettings;
+use zvt_runs::{EndFault, Ends, NoteSource, Planned, StepOptions};
+use zvt_till::Keeper;
 use zvt_tool::TillOptions;
 use zvt_tool::options::{form_by, lengths_by};
 use zvt_tool::statuses::WORDS;
@@ -39,7 +34,7 @@ pub fn till(rt: &HostRuntime, options: &TillOptions<'_>) -> Result<u8, Exit> {
     if options.steps.is_empty() {
         report(rt, NO_STEPS)?;
     }
-    let status = till_status(rt, &run, &settings, kept)?;
+    let status = run_status(rt, &run, &settings, kept)?;
     Ok(mend_after(rt, options.trace, run.trace, status)?)
 }
 
@@ -84,42 +79,21 @@ fn report_zero(rt: &HostRuntime, options: &TillOptions<'_>) -> io::Result<bool> 
     Ok(false)
 }
 
-/// Runs the till of a book, or a new till, and returns the exit status.
-fn till_status(
-    rt: &HostRuntime,
-    run: &TillRun<'_, '_>,
-    settings: &TillSettings,
-    kept: Option<KeptTill<FileDevice>>,
-) -> io::Result<u8> {
-    let mut writer = Over::new(Output::new(io::writer(rt)));
-    let mut report = Over::new(rt.stderr());
-    let answer = match kept {
-        None => {
-            let mut till = new_till(rt, settings);
-            run_till(
-                rt,
-                rt.alloc(),
-                run,
-                &mut till,
-                &NoNotes,
-                &mut writer,
-                &mut report,
-            )
-        }
-        Some(mut till) => {
-            let notes = Clocked { clock: rt };
-            let answer = run_till(
-                rt,
-                rt.alloc(),
-                run,
-                &mut till,
-                &notes,
-                &mut writer,
-                &mut report,
-            );
-            book::report_failure(rt, till.device())?;
-            answer
-        }
-    };
-    finish_run(rt, writer.inner.broken_pipe, answer)
+impl TillSteps for TillRun<'_, '_> {
+    fn make<K, N, W, E>(
+        &self,
+        rt: &HostRuntime,
+        till: &mut K,
+        notes: &N,
+        writer: &mut W,
+        report: &mut E,
+    ) -> Result<(), EndFault>
+    where
+        K: Keeper,
+        N: NoteSource<K>,
+        W: Sink,
+        E: Sink,
+    {
+        run_till(rt, rt.alloc(), self, till, notes, writer, report)
+    }
 }
