@@ -1,5 +1,7 @@
 -- Why bytes spell one list of fields: no field begins another.
-use Rattle.std.proofs.Common.{◌≡◌, ◌≢◌, ℕ, ◌+◌, ◌<◌, ◌≤◌, Bool, true, false, cond, Option, Some, None, List, [], ◌∷◌, ◌++◌, length, option_map, ◌==◌, refl, sym, ◌∙◌, ap, subst, append_assoc, arith, length-append}
+use Rattle.std.proofs.Common.{◌≡◌, ◌≢◌, ℕ, ◌+◌, ◌<◌, ◌≤◌, Bool, true, false, cond, Option, Some, None, List, [], ◌∷◌, ◌++◌, length, option_map, ◌==◌, ◌&&◌, refl, sym, ◌∙◌, ap, subst, append_assoc, arith, length-append}
+use Rattle.std.proofs.Math.Dec.{leb}
+use Rattle.std.proofs.lemmas.Bool.{and_parts, leb-true}
 use Rattle.zvt_bcd.specs.LengthDigits.{counted}
 use Rattle.zvt_grammar.specs.Reading.{Reading}
 use Rattle.zvt_tlv.specs.Grammar.{Objects}
@@ -19,9 +21,24 @@ IsSane (Some Ll) = Unit {0}
 IsSane (Some Lll) = Unit {0}
 IsSane (Some Tree) = Unit {0}
 
-abbrev AllSane : List BmpRow → Type 0
-AllSane [] = Unit {0}
-AllSane (one ∷ rows) = IsSane (Some one.shape) × AllSane rows
+-- The same as a test, so that the table's rows are tested by computing.
+abbrev is_sane : Shape → Bool
+is_sane (Fixed n) = leb 1 n && leb n 255
+is_sane (Digits n) = leb 1 n && leb n 255
+is_sane Ll = true
+is_sane Lll = true
+is_sane Tree = true
+
+sane_shape : (s : Shape) → is_sane s ≡ true → IsSane (Some s)
+sane_shape (Fixed n) is = let parts = and_parts (leb 1 n) (leb n 255) is in (leb-true 1 n parts.0, omega (arith, leb-true n 255 parts.1))
+sane_shape (Digits n) is = let parts = and_parts (leb 1 n) (leb n 255) is in (leb-true 1 n parts.0, omega (arith, leb-true n 255 parts.1))
+sane_shape Ll is = tt
+sane_shape Lll is = tt
+sane_shape Tree is = tt
+
+abbrev all_sane : List BmpRow → Bool
+all_sane [] = true
+all_sane (one ∷ rows) = is_sane one.shape && all_sane rows
 
 abbrev shape_in : Option BmpRow → Option Shape
 shape_in one = option_map (λ row. row.shape) one
@@ -30,13 +47,15 @@ either : (b : Bool) (one : BmpRow) (other : Option BmpRow) → IsSane (Some one.
 either true one other p q = p
 either false one other p q = q
 
-sane_rows : (bmp : ℕ) (rows : List BmpRow) → AllSane rows → IsSane (shape_in (look_up bmp rows))
-sane_rows bmp [] h = tt
-sane_rows bmp (one ∷ rows) h = either (bmp == one.bmp) one (look_up bmp rows) h.0 (sane_rows bmp rows h.1)
+sane_rows : (bmp : ℕ) (rows : List BmpRow) → all_sane rows ≡ true → IsSane (shape_in (look_up bmp rows))
+sane_rows bmp [] all = tt
+sane_rows bmp (one ∷ rows) all =
+    let parts = and_parts (is_sane one.shape) (all_sane rows) all in
+    either (bmp == one.bmp) one (look_up bmp rows) (sane_shape one.shape parts.0) (sane_rows bmp rows parts.1)
 
 pub sane : (bmp : ℕ) → IsSane (shape_of bmp)
 unfolding shape_of
-sane bmp = sane_rows bmp table ((omega arith, omega arith), ((omega arith, omega arith), ((omega arith, omega arith), ((omega arith, omega arith), ((omega arith, omega arith), (tt, ((omega arith, omega arith), ((omega arith, omega arith), ((omega arith, omega arith), ((omega arith, omega arith), ((omega arith, omega arith), ((omega arith, omega arith), (tt, (tt, (tt, ((omega arith, omega arith), ((omega arith, omega arith), ((omega arith, omega arith), (tt, (tt, ((omega arith, omega arith), ((omega arith, omega arith), ((omega arith, omega arith), (tt, ((omega arith, omega arith), ((omega arith, omega arith), (tt, ((omega arith, omega arith), ((omega arith, omega arith), ((omega arith, omega arith), (tt, ((omega arith, omega arith), (tt, (tt, ((omega arith, omega arith), (tt, ((omega arith, omega arith), (tt, ((omega arith, omega arith), tt)))))))))))))))))))))))))))))))))))))))
+sane bmp = sane_rows bmp table refl
 
 -- what comes before a content says how long it is, and of what kind
 pub record SameHead (digits digits' : Bool) (n n' : ℕ) (size size' x y : List ℕ) : Type 0 where
