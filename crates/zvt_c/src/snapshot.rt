@@ -8,8 +8,8 @@ use crate::answer::{ZvtAnswer, bare, found};
 use crate::handle::ZvtTill;
 use crate::session::Session;
 use std::alloc::Global;
-use zvt_till::snapshot::{LoadError, load, save};
 use zvt_stream::Stream;
+use zvt_till::snapshot::{LoadError, load, save};
 use zvt_till::{Happening, Till};
 
 /// Writes what a till is saved in where it fits, and answers its size, or None where memory was refused.
