@@ -26,7 +26,7 @@ heard_as part hears own step (event ∷ events) old new heard =
     let middle = heard.0 in
     (part middle, step old event middle heard.1, heard_as part hears own step events middle new heard.2)
 
-failed_as : {S T : Type 0} (part : S → T) (hears : Hears S) (own : Hears T) (fails : Fails S) (own_fails : Fails T) → SaysLess part hears own fails own_fails → (why : ListenerError) (So : List At → Type 0) (old new : S) → FailsIn hears fails why So old new → FailsIn own own_fails why So (part old) (part new)
+pub failed_as : {S T : Type 0} (part : S → T) (hears : Hears S) (own : Hears T) (fails : Fails S) (own_fails : Fails T) → SaysLess part hears own fails own_fails → (why : ListenerError) (So : List At → Type 0) (old new : S) → FailsIn hears fails why So old new → FailsIn own own_fails why So (part old) (part new)
 failed_as part hears own fails own_fails less why So old new failed = record {
   events = failed.events;
   middle = part failed.middle;
@@ -82,7 +82,7 @@ part_kept part hears fails keeps (event ∷ events) old new heard =
     let middle = heard.0 in
     part_kept part hears fails keeps events middle new heard.2 ∙ keeps.by_event old event middle heard.1
 
-failed_kept : {S T : Type 0} (part : S → T) (hears : Hears S) (fails : Fails S) → Keeps part hears fails → (why : ListenerError) (So : List At → Type 0) (old new : S) → FailsIn hears fails why So old new → part new ≡ part old
+pub failed_kept : {S T : Type 0} (part : S → T) (hears : Hears S) (fails : Fails S) → Keeps part hears fails → (why : ListenerError) (So : List At → Type 0) (old new : S) → FailsIn hears fails why So old new → part new ≡ part old
 failed_kept {S = S} part hears fails keeps why So old new failed = by failed.stops ∙ part_kept part hears fails keeps failed.events old failed.middle failed.heard
   where
     by : Stops fails why So failed.events failed.middle new → part new ≡ part failed.middle

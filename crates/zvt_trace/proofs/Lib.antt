@@ -5,6 +5,7 @@ pub mod EventLemmas
 pub mod FeedLemmas
 pub mod InputLemmas
 pub mod KeptLemmas
+pub mod LentLemmas
 pub mod LineLemmas
 pub mod PairLemmas
 mod PartRows

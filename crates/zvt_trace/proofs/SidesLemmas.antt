@@ -5,6 +5,7 @@ use Rattle.std.proofs.lemmas.Bool.{false≢true}
 use Rattle.zvt_grammar.specs.Reading.{Reading}
 use Rattle.zvt_trace.specs.declared.side.SideReader.{SideReader}
 use Rattle.zvt_trace.specs.Listening.{BesideBegins, EmitsEnd, EmitsLine, Fails, FailsIn, FollowBoth, FollowsUntil, Hears, HearsBeside, HearsEnd, HearsLine, HearsPiece, PieceBegins, is_stopped}
+use Rattle.zvt_trace.specs.Lending.{side_of, with_side}
 use Rattle.zvt_trace.specs.Meanings.{lost, piece, comment}
 use Rattle.zvt_trace.specs.TraceEvent.{At, on, unread}
 use Rattle.zvt_trace.specs.TraceEvent as trace_event
@@ -31,7 +32,7 @@ leaves_all r WholeLine line from (running bytes) beside going = (refl, refl)
 leaves_all r WholeLine line from (skipping size left) beside going = (refl, refl)
 leaves_all r WholeLine line from stopped beside going = absurd (false≢true (sym (going refl)))
 
-pub goes_on : {S : Type 0} {r : Reading} (hears : Hears S) (scope : Scope) (line : ℕ) (from : Direction) (side beside : Side) (bytes : List ℕ) (state others : SideReader) (old new : S)
+goes_on : {S : Type 0} {r : Reading} (hears : Hears S) (scope : Scope) (line : ℕ) (from : Direction) (side beside : Side) (bytes : List ℕ) (state others : SideReader) (old new : S)
     → HearsPiece r hears scope line from side bytes state old new → Follows r others beside → (scope ≡ WholeLine → is_everything state.skipped ≡ false) → HearsBeside r hears scope line from side beside bytes state others false old new
 goes_on {r = r} hears scope line from side beside bytes state others old new heard follows going = record {
   events = heard.events;
@@ -55,7 +56,7 @@ is_end (running bytes) e = absurd (false≢true e)
 is_end (skipping size left) e = absurd (false≢true e)
 is_end stopped e = refl
 
-pub gives_up : {S : Type 0} {r : Reading} (hears : Hears S) (scope : Scope) (line : ℕ) (from there : Direction) (side beside : Side) (bytes : List ℕ) (state others : SideReader) (old middle new : S)
+gives_up : {S : Type 0} {r : Reading} (hears : Hears S) (scope : Scope) (line : ℕ) (from there : Direction) (side beside : Side) (bytes : List ℕ) (state others : SideReader) (old middle new : S)
     → scope ≡ WholeLine → there ≡ other from → HearsPiece r hears scope line from side bytes state old middle → is_everything state.skipped ≡ true → HearsEnd hears (SideEnds r line there beside) 1 middle new
     → HearsBeside r hears scope line from side beside bytes state others true old new
 gives_up {r = r} hears scope line from there side beside bytes state others old middle new is_whole is_other heard over cut =
@@ -104,12 +105,12 @@ beside_begins {r = r} scope line from side beside bytes others events follows be
       emits = prefix_before events begins.emits (λ all emits. (leaves.1, record { own = all; others = leaves.1; emits = emits; leaves = leaves.2; is_all = refl }));
     }
 
-pub piece_fails : {S : Type 0} {r : Reading} (hears : Hears S) (fails : Fails S) (why : ListenerError) (scope : Scope) (line : ℕ) (from : Direction) (side beside : Side) (bytes : List ℕ) (others : SideReader) (old new : S)
+piece_fails : {S : Type 0} {r : Reading} (hears : Hears S) (fails : Fails S) (why : ListenerError) (scope : Scope) (line : ℕ) (from : Direction) (side beside : Side) (bytes : List ℕ) (others : SideReader) (old new : S)
     → FailsIn hears fails why (PieceBegins r scope line from side bytes) old new → Follows r others beside → FailsIn hears fails why (BesideBegins r scope line from side beside bytes) old new
 piece_fails hears fails why scope line from side beside bytes others old new failed follows =
     fails_as hears fails why old new failed (λ events so. beside_begins scope line from side beside bytes others events follows so)
 
-pub cut_off_fails : {S : Type 0} {r : Reading} (hears : Hears S) (fails : Fails S) (why : ListenerError) (scope : Scope) (line : ℕ) (from there : Direction) (side beside : Side) (bytes : List ℕ) (state : SideReader) (old middle new : S)
+cut_off_fails : {S : Type 0} {r : Reading} (hears : Hears S) (fails : Fails S) (why : ListenerError) (scope : Scope) (line : ℕ) (from there : Direction) (side beside : Side) (bytes : List ℕ) (state : SideReader) (old middle new : S)
     → scope ≡ WholeLine → there ≡ other from → HearsPiece r hears scope line from side bytes state old middle → is_everything state.skipped ≡ true → FailsIn hears fails why (PrefixOf (SideEnds r line there beside)) middle new
     → FailsIn hears fails why (BesideBegins r scope line from side beside bytes) old new
 cut_off_fails {r = r} hears fails why scope line from there side beside bytes state old middle new is_whole is_other heard over failed =
@@ -189,61 +190,89 @@ pub unheard_ends : {S : Type 0} {r : Reading} (hears : Hears S) (fails : Fails S
 unheard_ends hears fails scope line from bytes sides state old new (Ok done) follow rejected heard = unheard hears scope line from bytes sides state old new follow rejected heard
 unheard_ends hears fails scope line from bytes sides state old new (Err why) follow rejected failed = unheard_fails hears fails why scope line from bytes sides state old new follow rejected failed
 
--- a piece of the till is heard
-pub till_heard : {S : Type 0} {r : Reading} (hears : Hears S) (scope : Scope) (line : ℕ) (from : Direction) (bytes : List ℕ) (sides : Sides) (start state : BothSides) (stops : Bool) (old new : S) → from ≡ FromTill
-    → HearsBeside r hears scope line from sides.till sides.terminal bytes state.till start.terminal stops old new → state.terminal ≡ start.terminal → state.rejected ≡ stops
-    → HearsLine r hears scope line (piece from bytes) sides state old new
-till_heard {r = r} hears scope line from bytes sides start state stops old new is heard same over =
-    let trace_event = rw is at heard in rw is (record {
-      events = trace_event.events;
-      after = both_sides FromTill trace_event.after trace_event.beside_after;
-      emits = (trace_event.after, trace_event.beside_after, trace_event.emits, refl);
-      heard = trace_event.heard;
-      follow = record {
-        till = subst (λ (b : Bool). FollowsUntil r b state.till trace_event.after) (sym over) trace_event.follows;
-        terminal = subst (λ (b : Bool). FollowsUntil r b state.terminal trace_event.beside_after) (sym over) (subst (λ (s : SideReader). FollowsUntil r stops s trace_event.beside_after) (sym same) trace_event.follows_beside);
-      };
-      few = omega (arith, trace_event.few);
-    })
+-- ---- a piece of one of the sides
 
--- and one of the terminal
-pub terminal_heard : {S : Type 0} {r : Reading} (hears : Hears S) (scope : Scope) (line : ℕ) (from : Direction) (bytes : List ℕ) (sides : Sides) (start state : BothSides) (stops : Bool) (old new : S) → from ≡ FromTerminal
-    → HearsBeside r hears scope line from sides.terminal sides.till bytes state.terminal start.till stops old new → state.till ≡ start.till → state.rejected ≡ stops
-    → HearsLine r hears scope line (piece from bytes) sides state old new
-terminal_heard {r = r} hears scope line from bytes sides start state stops old new is heard same over =
-    let trace_event = rw is at heard in rw is (record {
-      events = trace_event.events;
-      after = both_sides FromTerminal trace_event.after trace_event.beside_after;
-      emits = (trace_event.after, trace_event.beside_after, trace_event.emits, refl);
-      heard = trace_event.heard;
-      follow = record {
-        till = subst (λ (b : Bool). FollowsUntil r b state.till trace_event.beside_after) (sym over) (subst (λ (s : SideReader). FollowsUntil r stops s trace_event.beside_after) (sym same) trace_event.follows_beside);
-        terminal = subst (λ (b : Bool). FollowsUntil r b state.terminal trace_event.after) (sym over) trace_event.follows;
-      };
-      few = omega (arith, trace_event.few);
-    })
+-- what was read of this side, and of the one that faces it
+abbrev pub own : Direction → Sides → Side
+own FromTill sides = sides.till
+own FromTerminal sides = sides.terminal
 
-pub till_fails : {S : Type 0} {r : Reading} (hears : Hears S) (fails : Fails S) (why : ListenerError) (scope : Scope) (line : ℕ) (from : Direction) (bytes : List ℕ) (sides : Sides) (old new : S) → from ≡ FromTill
-    → FailsIn hears fails why (BesideBegins r scope line from sides.till sides.terminal bytes) old new → FailsIn hears fails why (MeaningBegins r scope line (piece from bytes) sides) old new
-till_fails hears fails why scope line from bytes sides old new is failed =
-    let trace_event = rw is at failed in
-    rw is (fails_as hears fails why old new trace_event (λ events so. record {
+abbrev pub facing : Direction → Sides → Side
+facing from sides = own (other from) sides
+
+pub follows_own : {r : Reading} (from : Direction) (state : BothSides) (sides : Sides) → FollowBoth r state sides → state.rejected ≡ false → Follows r (side_of from state) (own from sides)
+follows_own FromTill state sides follow going = until _ state.rejected state.till sides.till going follow.till
+follows_own FromTerminal state sides follow going = until _ state.rejected state.terminal sides.terminal going follow.terminal
+
+side_heard : {S : Type 0} {r : Reading} (hears : Hears S) (scope : Scope) (line : ℕ) (from : Direction) (bytes : List ℕ) (sides : Sides) (state : BothSides) (reader : SideReader) (stops : Bool) (old new : S)
+    → HearsBeside r hears scope line from (own from sides) (facing from sides) bytes reader (side_of (other from) state) stops old new
+    → HearsLine r hears scope line (piece from bytes) sides (let both = with_side from state reader in record both { rejected = stops }) old new
+side_heard hears scope line FromTill bytes sides state reader stops old new heard = record {
+  events = heard.events;
+  after = both_sides FromTill heard.after heard.beside_after;
+  emits = (heard.after, heard.beside_after, heard.emits, refl);
+  heard = heard.heard;
+  follow = record { till = heard.follows; terminal = heard.follows_beside };
+  few = omega (arith, heard.few);
+}
+side_heard hears scope line FromTerminal bytes sides state reader stops old new heard = record {
+  events = heard.events;
+  after = both_sides FromTerminal heard.after heard.beside_after;
+  emits = (heard.after, heard.beside_after, heard.emits, refl);
+  heard = heard.heard;
+  follow = record { till = heard.follows_beside; terminal = heard.follows };
+  few = omega (arith, heard.few);
+}
+
+side_fails : {S : Type 0} {r : Reading} (hears : Hears S) (fails : Fails S) (why : ListenerError) (scope : Scope) (line : ℕ) (from : Direction) (bytes : List ℕ) (sides : Sides) (old new : S)
+    → FailsIn hears fails why (BesideBegins r scope line from (own from sides) (facing from sides) bytes) old new → FailsIn hears fails why (MeaningBegins r scope line (piece from bytes) sides) old new
+side_fails {r = r} hears fails why scope line from bytes sides old new failed = fails_as hears fails why old new failed (begins from)
+  where
+    begins : (from : Direction) (events : List At) → BesideBegins r scope line from (own from sides) (facing from sides) bytes events → MeaningBegins r scope line (piece from bytes) sides events
+    begins FromTill events so = record {
       prefix = piece FromTill so.first;
       after = both_sides FromTill so.after so.beside_after;
       begins = (so.first, so.more, refl, so.cut);
       emits = prefix_after [] events so.emits (λ all emits. (so.after, so.beside_after, emits, refl));
-    }))
-
-pub terminal_fails : {S : Type 0} {r : Reading} (hears : Hears S) (fails : Fails S) (why : ListenerError) (scope : Scope) (line : ℕ) (from : Direction) (bytes : List ℕ) (sides : Sides) (old new : S) → from ≡ FromTerminal
-    → FailsIn hears fails why (BesideBegins r scope line from sides.terminal sides.till bytes) old new → FailsIn hears fails why (MeaningBegins r scope line (piece from bytes) sides) old new
-terminal_fails hears fails why scope line from bytes sides old new is failed =
-    let trace_event = rw is at failed in
-    rw is (fails_as hears fails why old new trace_event (λ events so. record {
+    }
+    begins FromTerminal events so = record {
       prefix = piece FromTerminal so.first;
       after = both_sides FromTerminal so.after so.beside_after;
       begins = (so.first, so.more, refl, so.cut);
       emits = prefix_after [] events so.emits (λ all emits. (so.after, so.beside_after, emits, refl));
-    }))
+    }
+
+pub side_goes_on : {S : Type 0} {r : Reading} (hears : Hears S) (scope : Scope) (line : ℕ) (from : Direction) (bytes : List ℕ) (sides : Sides) (state : BothSides) (reader : SideReader) (old new : S) → FollowBoth r state sides → state.rejected ≡ false
+    → HearsPiece r hears scope line from (own from sides) bytes reader old new → (scope ≡ WholeLine → is_everything reader.skipped ≡ false)
+    → HearsLine r hears scope line (piece from bytes) sides (with_side from state reader) old new
+side_goes_on {r = r} hears scope line from bytes sides state reader old new follow going heard reads =
+    subst (λ (both : BothSides). HearsLine r hears scope line (piece from bytes) sides both old new) (sym (same from))
+    (side_heard hears scope line from bytes sides state reader false old new
+    (goes_on hears scope line from (own from sides) (facing from sides) bytes reader (side_of (other from) state) old new heard (follows_own (other from) state sides follow going) reads))
+  where
+    same : (from : Direction) → with_side from state reader ≡ (let both = with_side from state reader in record both { rejected = false })
+    same FromTill = rw going refl
+    same FromTerminal = rw going refl
+
+pub side_gives_up : {S : Type 0} {r : Reading} (hears : Hears S) (scope : Scope) (line : ℕ) (from there : Direction) (bytes : List ℕ) (sides : Sides) (state : BothSides) (reader : SideReader) (old middle new : S)
+    → scope ≡ WholeLine → there ≡ other from → HearsPiece r hears scope line from (own from sides) bytes reader old middle → is_everything reader.skipped ≡ true → HearsEnd hears (SideEnds r line there (facing from sides)) 1 middle new
+    → HearsLine r hears scope line (piece from bytes) sides (let both = with_side from state reader in record both { rejected = true }) old new
+side_gives_up hears scope line from there bytes sides state reader old middle new whole is heard over cut =
+    side_heard hears scope line from bytes sides state reader true old new
+    (gives_up hears scope line from there (own from sides) (facing from sides) bytes reader (side_of (other from) state) old middle new whole is heard over cut)
+
+pub side_piece_fails : {S : Type 0} {r : Reading} (hears : Hears S) (fails : Fails S) (why : ListenerError) (scope : Scope) (line : ℕ) (from : Direction) (bytes : List ℕ) (sides : Sides) (state : BothSides) (old new : S) → FollowBoth r state sides → state.rejected ≡ false
+    → FailsIn hears fails why (PieceBegins r scope line from (own from sides) bytes) old new → FailsIn hears fails why (MeaningBegins r scope line (piece from bytes) sides) old new
+side_piece_fails hears fails why scope line from bytes sides state old new follow going failed =
+    side_fails hears fails why scope line from bytes sides old new
+    (piece_fails hears fails why scope line from (own from sides) (facing from sides) bytes (side_of (other from) state) old new failed (follows_own (other from) state sides follow going))
+
+pub side_end_fails : {S : Type 0} {r : Reading} (hears : Hears S) (fails : Fails S) (why : ListenerError) (scope : Scope) (line : ℕ) (from there : Direction) (bytes : List ℕ) (sides : Sides) (reader : SideReader) (old middle new : S)
+    → scope ≡ WholeLine → there ≡ other from → HearsPiece r hears scope line from (own from sides) bytes reader old middle → is_everything reader.skipped ≡ true → FailsIn hears fails why (PrefixOf (SideEnds r line there (facing from sides))) middle new
+    → FailsIn hears fails why (MeaningBegins r scope line (piece from bytes) sides) old new
+side_end_fails hears fails why scope line from there bytes sides reader old middle new whole is heard over failed =
+    side_fails hears fails why scope line from bytes sides old new
+    (cut_off_fails hears fails why scope line from there (own from sides) (facing from sides) bytes reader old middle new whole is heard over failed)
 
 -- ---- the end of the line
 

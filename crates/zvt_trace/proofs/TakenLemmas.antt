@@ -8,22 +8,17 @@ use Rattle.zvt_grammar.specs.Reading.{Reading}
 use Rattle.zvt_trace.specs.ChunkLaw.{sent, spelled_line}
 use Rattle.zvt_trace.specs.Chunks.{AnswersFeed, IsWhole, ReadTo}
 use Rattle.zvt_trace.specs.Lines.{piece_text}
-use Rattle.zvt_trace.specs.Listening.{Fails, FailsIn, Hears, HearsLine, WalksLine, WalksOn, fault_of}
-use Rattle.zvt_trace.specs.Meanings.{bytes_of, piece}
-use Rattle.zvt_trace.specs.Emitting.{MeaningBegins}
-use Rattle.zvt_trace.specs.Trace.{Sides}
+use Rattle.zvt_trace.specs.Listening.{Fails, Hears, WalksOn}
+use Rattle.zvt_trace.specs.Meanings.{SpellsBytes, bytes_of, meaning_of, piece}
 use Rattle.zvt_trace.specs.declared.direction.Direction.{Direction}
 use Rattle.zvt_trace.specs.declared.direction.Direction.TheVariants.{FromTill, FromTerminal}
-use Rattle.zvt_trace.specs.declared.listener.ListenerError.{ListenerError}
 use Rattle.zvt_trace.specs.declared.listener.Scope.{Scope}
 use Rattle.zvt_trace.specs.TraceEvent.{At}
 use Rattle.zvt_trace.specs.declared.chunks.Walker.{Walker}
 use Rattle.zvt_trace.specs.declared.fault.TraceFault.{TraceFault}
-use Rattle.zvt_trace.specs.declared.walker.BothSides.{BothSides}
 use Rattle.zvt_trace.proofs.ChunkLaws.{first_line, line_means}
 use Rattle.zvt_trace.proofs.ChunkLemmas.{last_append}
-use Rattle.zvt_trace.proofs.SpelledLemmas.{no_bytes_of}
-use Rattle.zvt_trace.proofs.WalkedLemmas.{line_failed}
+use Rattle.zvt_trace.proofs.SpelledLemmas.{no_bytes_of, no_text}
 use Rattle.zvt_trace.proofs.WalkerLemmas.{lines_failed, lines_read, rest_held}
 
 length_with : (digits bytes : List ℕ) → length (encode_with digits bytes) ≡ 2 * length bytes
@@ -55,21 +50,14 @@ piece_whole from bytes = subst IsWhole (sym (piece_is from bytes)) (last_append 
 all_bytes : (bytes : List ℕ) → bytes ++ bytes_of [] ≡ bytes
 all_bytes bytes = ap (λ (b : List ℕ). bytes ++ b) no_bytes_of ∙ append-nil bytes
 
--- the events of the bytes are those of the line
-pub piece_walked : {S : Type 0} {r : Reading} (hears : Hears S) (fails : Fails S) (scope : Scope) (number : ℕ) (from : Direction) (bytes : List ℕ) (sides : Sides) (state : BothSides) (old new : S) → IsBytes bytes
-    → HearsLine r hears scope number (piece from (bytes ++ bytes_of [])) sides state old new → WalksLine r hears fails scope number (spelled_line (sent from bytes)) sides state old new (Ok tt)
-piece_walked {r = r} hears fails scope number from bytes sides state old new is heard = (
-  piece from bytes,
-  line_means (sent from bytes) is,
-  omega (arith, line_size from bytes),
-  subst (λ (b : List ℕ). HearsLine r hears scope number (piece from b) sides state old new) (all_bytes bytes) heard,
+-- the bytes are what the line says
+pub piece_reads : (from : Direction) (bytes : List ℕ) → IsBytes bytes
+    → (meaning_of (spelled_line (sent from bytes)) ≡ Ok (piece from (bytes ++ bytes_of []))) × (length (bytes ++ bytes_of []) ≤ length (spelled_line (sent from bytes))) × SpellsBytes []
+piece_reads from bytes is = (
+  line_means (sent from bytes) is ∙ ap (λ (b : List ℕ). Ok (piece from b)) (sym (all_bytes bytes)),
+  omega (arith, ap (λ (b : List ℕ). length b) (all_bytes bytes), line_size from bytes),
+  no_text,
 )
-
-pub piece_failed : {S : Type 0} {r : Reading} (hears : Hears S) (fails : Fails S) (why : ListenerError) (scope : Scope) (number : ℕ) (from : Direction) (bytes : List ℕ) (sides : Sides) (state : BothSides) (old new : S) → IsBytes bytes
-    → FailsIn hears fails why (MeaningBegins r scope number (piece from (bytes ++ bytes_of [])) sides) old new → WalksLine r hears fails scope number (spelled_line (sent from bytes)) sides state old new (Err (fault_of why))
-piece_failed {r = r} hears fails why scope number from bytes sides state old new is wrong =
-    line_failed hears fails why scope number (spelled_line (sent from bytes)) (piece from bytes) sides state old new (line_means (sent from bytes) is)
-    (subst (λ (b : List ℕ). FailsIn hears fails why (MeaningBegins r scope number (piece from b) sides) old new) (all_bytes bytes) wrong)
 
 -- a whole text was read where no line had begun
 pub all_taken : {S : Type 0} (r : Reading) (hears : Hears S) (fails : Fails S) (scope : Scope) (bytes text : List ℕ) (earlier : List At) (old new : Walker) (x y : S) (answer : Result Unit TraceFault) → new.begun.items ≡ []

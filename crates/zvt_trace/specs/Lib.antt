@@ -3,6 +3,7 @@ pub mod Chunks
 pub mod Decoding
 pub mod Lines
 pub mod Listening
+pub mod Lending
 pub mod Pairs
 pub mod Meanings
 pub mod Observing

@@ -168,10 +168,6 @@ pub record BesideBegins (r : Reading) (scope : Scope) (line : ℕ) (from : Direc
   pub cut : bytes ≡ first ++ more
   pub emits : PrefixOf (λ all. EmitsBeside r scope line from side beside first all after beside_after) events
 
-abbrev pub EmitsThere : {S : Type 0} → Reading → Hears S → Fails S → Scope → ℕ → Direction → (side beside : Side) → List ℕ → (reader other : SideReader) → (old new : S) → Result Bool ListenerError → Type 0
-EmitsThere r hears fails scope line from side beside bytes reader other old new (Ok stops) = HearsBeside r hears scope line from side beside bytes reader other stops old new
-EmitsThere r hears fails scope line from side beside bytes reader other old new (Err why) = FailsIn hears fails why (BesideBegins r scope line from side beside bytes) old new
-
 -- ---- one line of the trace
 
 -- what the line emits was heard, and the streams go on after it

@@ -44,9 +44,13 @@ SpellsBytes text = IsSome (spells (without_spaces text))
 abbrev pub bytes_of : List ℕ → List ℕ
 bytes_of text = unwrap_or (spells (without_spaces text)) []
 
--- all bytes of a piece: those that are read, and those that its text spells
+-- these bytes, and those that the text after them spells
+abbrev pub bytes_with : (bytes undecoded : List ℕ) → List ℕ
+bytes_with bytes undecoded = bytes ++ bytes_of undecoded
+
+-- all bytes of a piece
 abbrev pub bytes_in : Piece → List ℕ
-bytes_in content = content.bytes.now ++ bytes_of content.undecoded.now
+bytes_in content = bytes_with content.bytes.now content.undecoded.now
 
 -- the first digits of a text are that many pairs, and the buffer begins with their bytes
 abbrev pub ReadsPairs : (text : List ℕ) (count : ℕ) (buffer : List ℕ) → Type 0

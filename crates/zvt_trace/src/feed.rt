@@ -1,17 +1,15 @@
 //! Feeds the pieces of a trace to the readers of their sides.
 ghost use Rattle.std.specs.Prelude.{◌≡◌, ◌<◌, ◌≤◌, ◌+◌, length, IfOk, OnOk};
 ghost use Rattle.zvt_grammar.specs.Lengths.{reading_of};
-ghost use Rattle.zvt_trace.specs.Meanings.{SpellsBytes, bytes_in};
+ghost use Rattle.zvt_trace.specs.Meanings.{SpellsBytes, bytes_in, bytes_with};
 ghost use Rattle.zvt_trace.specs.Trace.{Side};
-ghost use Rattle.zvt_trace.specs.Listening.{EmitsBytes, EmitsFirst, EmitsPiece, EmitsThere};
+ghost use Rattle.zvt_trace.specs.Listening.{EmitsBytes, EmitsFirst, EmitsPiece};
 ghost use Rattle.zvt_trace.specs.Written.{Follows, ReadsBy};
 
 use crate::direction::Direction;
-use crate::emit::{
-    WalkOptions, emit_message, emit_refusal, emit_resumed, emit_truncation, emit_unread,
-};
+use crate::emit::{WalkOptions, emit_message, emit_refusal, emit_resumed, emit_unread};
 use crate::line::CHUNK;
-use crate::listener::{Listener, ListenerError, Scope};
+use crate::listener::{Listener, ListenerError};
 use crate::side::{Opening, SideReader};
 use crate::spelled;
 use zvt_stream::{FedView, FeedError};
@@ -144,16 +142,18 @@ fn feed_any_piece<L: Listener>(
     line: u64,
     from: Direction,
     reader: &mut SideReader,
-    piece: Piece<'_>,
+    bytes: &[u8],
+    undecoded: &[u8],
 ) -> Result<(), ListenerError>
     requires reading { ReadsBy (reading_of options.now.lengths) reader.old }
-    requires spelled { SpellsBytes piece.undecoded.now }
+    requires spelled { SpellsBytes undecoded.now }
     ensures reading { OnOk result (ReadsBy (reading_of options.now.lengths) reader.new) }
     ensures emits { (side : Side) → Follows (reading_of options.now.lengths) reader.old side
         → EmitsPiece (reading_of options.now.lengths) L.hears L.fails options.now.scope line from side
-        (bytes_in piece.entry) reader.new listener.old listener.new result }
+        (bytes_with bytes.now undecoded.now) reader.new listener.old listener.new result }
 {
     let reads = reader.reads();
+    let piece = Piece { bytes, undecoded };
     let any = feed_parts(listener, options, line, from, reader, piece)?;
     if reads || any {
         return Ok(());
@@ -163,7 +163,7 @@ fn feed_any_piece<L: Listener>(
 
 /// Emits the events of a piece, also that it is not read. Most sides are read, and most pieces have no text left.
 #[inline(always)]
-fn feed_piece<L: Listener>(
+pub(crate) fn feed_piece<L: Listener>(
     listener: &mut L,
     options: &WalkOptions,
     line: u64,
@@ -178,40 +178,12 @@ fn feed_piece<L: Listener>(
         → EmitsPiece (reading_of options.now.lengths) L.hears L.fails options.now.scope line from side
         (bytes_in piece.entry) reader.new listener.old listener.new result }
 {
-    if !piece.undecoded.is_empty() {
-        return feed_any_piece(listener, options, line, from, reader, piece);
+    let Piece { bytes, undecoded } = piece;
+    if !undecoded.is_empty() || !reader.reads() {
+        // Through a listener lent once more: so what each byte runs through has one caller, and is inlined there.
+        let mut lent = listener;
+        return feed_any_piece(&mut lent, options, line, from, reader, bytes, undecoded);
     }
-    if !reader.reads() {
-        return feed_any_piece(listener, options, line, from, reader, piece);
-    }
-    feed_bytes(listener, options, line, from, reader, piece.bytes)?;
+    feed_bytes(listener, options, line, from, reader, bytes)?;
     Ok(())
-}
-
-/// Emits the events of a piece of a side, and what its refusal cuts off of the other side. Returns whether neither side
-/// is read any more.
-#[inline(always)]
-pub(crate) fn feed_side<L: Listener>(
-    listener: &mut L,
-    options: &WalkOptions,
-    line: u64,
-    from: Direction,
-    reader: &mut SideReader,
-    other: &SideReader,
-    piece: Piece<'_>,
-) -> Result<bool, ListenerError>
-    requires reading { ReadsBy (reading_of options.now.lengths) reader.old }
-    requires spelled { SpellsBytes piece.undecoded.now }
-    ensures reading { OnOk result (ReadsBy (reading_of options.now.lengths) reader.new) }
-    ensures emits { (side beside : Side) → Follows (reading_of options.now.lengths) reader.old side
-        → Follows (reading_of options.now.lengths) other.now beside → EmitsThere (reading_of options.now.lengths)
-        L.hears L.fails options.now.scope line from side beside (bytes_in piece.entry) reader.new other.now listener.old
-        listener.new result }
-{
-    feed_piece(listener, options, line, from, reader, piece)?;
-    if reader.has_stopped() && options.scope == Scope::WholeLine {
-        emit_truncation(listener, line, from.other(), &other.stream)?;
-        return Ok(true);
-    }
-    Ok(false)
 }

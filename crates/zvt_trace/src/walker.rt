@@ -1,10 +1,12 @@
 //! The walk over a whole trace, and both sides of its line.
 ghost use Rattle.std.specs.Prelude.{◌≡◌, ◌<◌, ◌≤◌, ◌+◌, ◌*◌, ◌++◌, [], ℕ, List, length, IfOk, OnOk};
+ghost use Rattle.std.specs.Borrow.{sem};
 ghost use Rattle.std.specs.Str.Lines.{lines};
 ghost use Rattle.zvt_grammar.specs.Reading.{Reading};
 ghost use Rattle.zvt_grammar.specs.Lengths.{reading_of};
 ghost use Rattle.zvt_trace.specs.Meanings.{GoesOn, Reads, SpellsBytes, bytes_in, meant_by};
 ghost use Rattle.zvt_trace.specs.Meanings as meaning;
+ghost use Rattle.zvt_trace.specs.Lending.{LendsSide, side_of};
 ghost use Rattle.zvt_trace.specs.Trace.{Sides, new_line};
 ghost use Rattle.zvt_trace.specs.Emitting.{LineEnds};
 ghost use Rattle.zvt_trace.specs.TraceEvent.{At};
@@ -19,7 +21,7 @@ use crate::direction::Direction;
 use crate::emit::{WalkOptions, emit_truncation, emit_unread};
 use crate::event::TraceEvent;
 use crate::fault::{Tally, TraceFault, TraceLineError};
-use crate::feed::{Piece, feed_side};
+use crate::feed::{Piece, feed_piece};
 use crate::line::{CHUNK, Plain, TraceLine, plain_piece, read_line};
 use crate::lines::next_line;
 use crate::listener::{Listener, ListenerError, Scope};
@@ -113,14 +115,18 @@ impl Progress {
         let mut rest = text;
         'lines: while !rest.is_empty() {
             number += 1;
-            rest = emit_first(
-                &mut both,
-                &options,
-                &mut self.sides,
-                number,
-                &mut buffer,
-                rest,
-            )?;
+            let sides = &mut self.sides;
+            let Some(plain) = plain_piece(&mut buffer, rest) else {
+                rest = emit_other(&mut both, &options, sides, number, &mut buffer, rest)?;
+                continue 'lines;
+            };
+            let Plain { from, count, after } = plain;
+            let piece = Piece {
+                bytes: &buffer[..count],
+                undecoded: &[],
+            };
+            sides.feed_piece(&mut both, &options, number, from, piece)?;
+            rest = after;
         }
         self.number = number;
         self.tally = both.first;
@@ -151,12 +157,12 @@ impl Progress {
             first: self.tally,
             second: listener,
         };
-        let piece = Piece {
+        let line = TraceLine::Piece {
+            from,
             bytes,
             undecoded: &[],
         };
-        self.sides
-            .feed_piece(&mut both, &options, number, from, piece)?;
+        emit_line(&mut both, &options, &mut self.sides, number, Ok(line))?;
         self.number = number;
         self.tally = both.first;
         self.size += 2 * bytes.len() as u64 + 3;
@@ -176,39 +182,6 @@ impl Progress {
         };
         self.sides.emit_end(&mut both, self.number)?;
         Ok(both.first)
-    }
-}
-
-/// Emits the events of the first line of this text, which has this number, and returns the text after it. Most lines
-/// have the plain form.
-#[inline(always)]
-fn emit_first<'t, L: Listener>(
-    listener: &mut L,
-    options: &WalkOptions,
-    sides: &mut BothSides,
-    number: u64,
-    buffer: &mut [u8],
-    rest: &'t [u8],
-) -> Result<&'t [u8], TraceFault>
-    requires reading { TakeBy (reading_of options.now.lengths) sides.old }
-    requires some { 0 < length rest.now }
-    ensures reading { OnOk result (TakeBy (reading_of options.now.lengths) sides.new) }
-    ensures emits { (state : Sides) → FollowBoth (reading_of options.now.lengths) sides.old state
-        → WalksFirst (λ after. after.now) (reading_of options.now.lengths) L.hears L.fails options.now.scope number
-        rest.now state sides.new listener.old listener.new result }
-    ensures less { IfOk result (λ after. length after.now < length rest.now) }
-    ensures size { length buffer.new ≡ length buffer.old }
-{
-    match plain_piece(buffer, rest) {
-        Some(Plain { from, count, after }) => {
-            let piece = Piece {
-                bytes: &buffer[..count],
-                undecoded: &[],
-            };
-            sides.feed_piece(listener, options, number, from, piece)?;
-            Ok(after)
-        }
-        None => emit_other(listener, options, sides, number, buffer, rest),
     }
 }
 
@@ -255,7 +228,9 @@ fn emit_line<L: Listener>(
         Ok(line) => line,
         Err(what) => return Err(TraceFault::Trace { line: number, what }),
     };
-    sides.emit(listener, options, number, &line)?;
+    // Through a listener lent once more, as in `feed_piece`.
+    let mut lent = listener;
+    sides.emit(&mut lent, options, number, &line)?;
     Ok(())
 }
 
@@ -277,6 +252,18 @@ impl BothSides {
             till: SideReader::new(alloc, lengths),
             terminal: SideReader::new(alloc, lengths),
             rejected: false,
+        }
+    }
+
+    /// The reader of this side.
+    #[inline(always)]
+    fn side(&mut self, from: Direction) -> &mut SideReader
+        ensures* writes_back { sem 𝓛 (LendsSide self.entry from result) }
+        ensures value { result.now ≡ side_of from self.old }
+    {
+        match from {
+            Direction::FromTill => &mut self.till,
+            Direction::FromTerminal => &mut self.terminal,
         }
     }
 
@@ -347,16 +334,16 @@ impl BothSides {
         if self.rejected {
             return emit_unread(listener, line, from);
         }
-        let BothSides { till, terminal, .. } = self;
-        let stops = match from {
-            Direction::FromTill => {
-                feed_side(listener, options, line, from, till, terminal, piece)?
-            }
-            Direction::FromTerminal => {
-                feed_side(listener, options, line, from, terminal, till, piece)?
-            }
-        };
-        self.rejected = stops;
+        let reader = self.side(from);
+        feed_piece(listener, options, line, from, reader, piece)?;
+        if reader.has_stopped() && options.scope == Scope::WholeLine {
+            let other = match from {
+                Direction::FromTill => &self.terminal,
+                Direction::FromTerminal => &self.till,
+            };
+            emit_truncation(listener, line, from.other(), &other.stream)?;
+            self.rejected = true;
+        }
         Ok(())
     }
 
