@@ -29,10 +29,6 @@ takes_more a b c x y first second = λ log judged. subst (λ (l : List Happening
 pub takes_no : (books : BooksSoFar) (happened : List Happening) → happened ≡ [] → Takes books books happened
 takes_no books happened none = subst (λ (l : List Happening). Takes books books l) (sym none) (takes_none books)
 
-unordered : (orders : Orders) (event : TraceEvent) → is_order_from FromTill event ≡ false → is_order_from FromTerminal event ≡ false → orders ≡ noticed orders event
-unordered orders event till terminal =
-    ap₂ (λ (a b : Bool). record { till = a; terminal = b }) (or-false orders.till ∙ ap (λ (b : Bool). orders.till || b) (sym till)) (or-false orders.terminal ∙ ap (λ (b : Bool). orders.terminal || b) (sym terminal))
-
 -- an event by which nothing happened, and that is no order
 pub becomes_same : (old : Auditor) (line : ℕ) (event : TraceEvent) → happenings_of event ≡ [] → is_order_from FromTill event ≡ false → is_order_from FromTerminal event ≡ false → named_by event ≡ None → Becomes old (on line event) old
 becomes_same old line event none till terminal unnamed = (

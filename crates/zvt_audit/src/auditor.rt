@@ -8,7 +8,7 @@ use zvt_apdu::{ApduView, Kind};
 use zvt_till::{Bookkeeping, Happening};
 use zvt_trace::{Direction, Listener, ListenerError, TraceEvent};
 
-/// Judges the events of a trace as happenings of a till. It notices who sends orders, which currencies the till names,
+/// Turns the events of a trace into the log of a till. It also notes who sends orders, which currencies the till names,
 /// and at which lines payments end.
 #[derive(Drop)]
 pub(crate) struct Auditor {
@@ -93,7 +93,7 @@ impl Auditor {
         }
     }
 
-    /// Observes bytes that are no message.
+    /// Records bytes that are not a message.
     #[inline(never)]
     fn malform(&mut self, line: u64) -> Result<(), AllocError>
         ensures { OnOk result (BecomesBy self.old (Malformed ∷ []) line self.new) }
@@ -102,7 +102,7 @@ impl Auditor {
         self.ends.notice(&self.books, line)
     }
 
-    /// The connection is lost, and a new one is up.
+    /// Records the loss of the connection. The next one is up at once.
     #[inline(never)]
     fn lose(&mut self, line: u64) -> Result<(), AllocError>
         ensures { OnOk result (BecomesBy self.old (Lost ∷ Connected ∷ []) line self.new) }

@@ -1,4 +1,4 @@
-//! The text of a log's books.
+//! Writes the books of a log as text.
 ghost use Rattle.std.specs.Prelude.{◌≡◌, ◌++◌, OnOk};
 ghost use Rattle.zvt_till.specs.Judging.{books_value, rows_value, row_value};
 ghost use Rattle.zvt_audit.specs.Booked.{booked_line, books_text, total, unclear_line};
@@ -8,7 +8,7 @@ use zvt_bcd::Amount;
 use zvt_text::Text;
 use zvt_till::{Booked, Books, Cause};
 
-/// One line per completed payment, then one per unclear payment, then the sum of the completed ones.
+/// Writes one line per completed payment, then one per unclear payment, then the sum of the completed ones.
 pub(crate) fn write(text: &mut Text, books: &Books) -> Result<(), AllocError>
     ensures { OnOk result (text.new ≡ text.old ++ books_text (books_value books.now)) }
 {
@@ -24,7 +24,7 @@ pub(crate) fn write(text: &mut Text, books: &Books) -> Result<(), AllocError>
     text.push(b'\n')
 }
 
-/// The line of a payment that was completed.
+/// Writes the line of a completed payment.
 fn booked_row(text: &mut Text, row: &Booked) -> Result<(), AllocError>
     ensures { OnOk result (text.new ≡ text.old ++ booked_line (row_value row.now)) }
 {
@@ -35,7 +35,7 @@ fn booked_row(text: &mut Text, row: &Booked) -> Result<(), AllocError>
     text.push(b'\n')
 }
 
-/// The line of an unclear payment.
+/// Writes the line of an unclear payment.
 fn unclear_row(text: &mut Text, row: &(Amount, Cause)) -> Result<(), AllocError>
     ensures { OnOk result (text.new ≡ text.old ++ unclear_line row.now) }
 {
@@ -47,7 +47,7 @@ fn unclear_row(text: &mut Text, row: &(Amount, Cause)) -> Result<(), AllocError>
     text.push(b'\n')
 }
 
-/// The sum of the payments that were completed.
+/// Returns the sum of the completed payments.
 pub(crate) fn total(rows: &[Booked]) -> u128
     ensures { result ≡ total (rows_value rows.now) }
 {

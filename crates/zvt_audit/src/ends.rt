@@ -36,7 +36,7 @@ impl Ends {
     }
 }
 
-/// Adds the line where there are more rows than lines.
+/// Adds the line if there are more rows than lines.
 fn add_end(lines: &mut Vec<u64>, rows: usize, line: u64) -> Result<(), AllocError>
     ensures { OnOk result (lines.new.items ≡ with_end lines.old.items rows line) }
 {

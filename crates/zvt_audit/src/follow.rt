@@ -17,7 +17,7 @@ use zvt_io::{Sink, Source};
 use zvt_text::Form;
 use zvt_trace::{Direction, Scope, TraceFault, Walker, read_chunk};
 
-/// How many bytes are read at once.
+/// The number of bytes that are read at once.
 const CHUNK: usize = 65_536;
 
 /// Writes the books of a trace at its end, as [`audit_trace`] does.
@@ -43,7 +43,7 @@ pub fn follow_audit<R: Source, W: Sink>(
     audit.finish(alloc, form, writer)
 }
 
-/// An audit that has heard all that the reader brings, as it comes.
+/// Audits everything that the reader returns.
 fn hear_all<R: Source>(alloc: Global, lengths: Lengths, reader: &mut R) -> Result<Audit, TraceFault>
     ensures hears { (taken : List ℕ) × Consumes (R.remaining reader.old) (R.remaining reader.new) taken
         × AnswersHearing (reading_of lengths) taken (R.remaining reader.new) result }
@@ -94,7 +94,7 @@ impl Audit {
         self.walker.feed(&mut self.auditor, chunk)
     }
 
-    /// Processes bytes of a side like the line of a trace that spells them. No line may have begun.
+    /// Processes bytes of a side like the line of a trace that spells them. No line may be unfinished.
     pub fn take(&mut self, from: Direction, bytes: &[u8]) -> Result<(), TraceFault>
         requires ready { IsAuditing self.old }
         requires between { IsBetweenLines self.old.walker }

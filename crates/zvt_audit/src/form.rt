@@ -1,4 +1,4 @@
-//! The books of a trace in either form.
+//! Writes the books of a trace in either form.
 ghost use Rattle.std.specs.Prelude.{◌≡◌, ◌++◌, OnOk};
 ghost use Rattle.zvt_till.specs.Judging.{books_value};
 ghost use Rattle.zvt_audit.specs.Ends.{lines_of};
@@ -12,8 +12,7 @@ use zvt_text::{Form, Text};
 use zvt_till::Books;
 use zvt_trace::Tally;
 
-/// Writes the books of a trace in this form. The currency, and the lines at which payments ended, are in the JSON
-/// alone.
+/// Writes the books of a trace in this form. Only the JSON has the currency, and the lines at which payments ended.
 pub(crate) fn write(
     text: &mut Text,
     form: Form,

@@ -7,7 +7,7 @@ use zvt_apdu::{ApduView, Kind};
 use zvt_field::FieldsView;
 use zvt_till::Sent;
 
-/// The authorisation that these fields order: of their amount, where that appears exactly once and is not zero.
+/// Returns the authorisation that these fields order: of their amount, if there is exactly one and it is not zero.
 fn paid(fields: &FieldsView<'_>) -> Sent
     ensures { Some result ≡ ordered (authorisation fields.now) }
 {
@@ -17,7 +17,7 @@ fn paid(fields: &FieldsView<'_>) -> Sent
     }
 }
 
-/// The order that a till gives by this message, if it gives one.
+/// Returns the order that a till gives with this message, if any.
 pub(crate) fn ordered(apdu: &ApduView<'_>) -> Option<Sent>
     ensures { result ≡ ordered apdu.now }
 {

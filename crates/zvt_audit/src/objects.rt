@@ -16,7 +16,7 @@ use zvt_text::Text;
 use zvt_till::{Booked, Books, Cause};
 use zvt_trace::Tally;
 
-/// One object per completed payment, then one per unclear payment, and a last one for the whole trace.
+/// Writes one object per completed payment, then one per unclear payment, and a last one for the whole trace.
 pub(crate) fn write(
     text: &mut Text,
     tally: Tally,
@@ -36,7 +36,7 @@ pub(crate) fn write(
     summary(text, tally, currency, total(books.booked.as_slice()))
 }
 
-/// The line of a payment that was completed.
+/// Writes the object of a completed payment.
 fn booked_row(text: &mut Text, row: &Booked, line: Option<u64>) -> Result<(), AllocError>
     ensures { OnOk result (text.new ≡ text.old ++ booked_text (row_value row.now) line) }
 {
@@ -49,7 +49,7 @@ fn booked_row(text: &mut Text, row: &Booked, line: Option<u64>) -> Result<(), Al
     text.word(b"}}\n")
 }
 
-/// The line at which the payment ended, where it has ended.
+/// Adds the line at which the payment ended, if it has.
 fn ended_at(text: &mut Text, line: Option<u64>) -> Result<(), AllocError>
     ensures { OnOk result (text.new ≡ text.old ++ line_part line) }
 {
@@ -60,7 +60,7 @@ fn ended_at(text: &mut Text, line: Option<u64>) -> Result<(), AllocError>
     text.number(number)
 }
 
-/// The receipt number, where the payment has one.
+/// Adds the receipt number, if there is one.
 fn receipt(text: &mut Text, receipt: Option<[u8; 2]>) -> Result<(), AllocError>
     ensures { OnOk result (text.new ≡ text.old ++ receipt_part receipt) }
 {
@@ -72,14 +72,14 @@ fn receipt(text: &mut Text, receipt: Option<[u8; 2]>) -> Result<(), AllocError>
     text.push(b'"')
 }
 
-/// Bytes in hexadecimal. JSON escapes none of these digits.
+/// Adds bytes in hexadecimal, which needs no escapes.
 fn digits(text: &mut Text, bytes: &[u8]) -> Result<(), AllocError>
     ensures { Adds result text.old text.new (escape (encode_upper bytes.now)) }
 {
     zvt_text::hexadecimal(text, bytes)
 }
 
-/// The line of an unclear payment.
+/// Writes the object of an unclear payment.
 fn unclear_row(text: &mut Text, row: &(Amount, Cause), line: Option<u64>) -> Result<(), AllocError>
     ensures { OnOk result (text.new ≡ text.old ++ unclear_text row.now line) }
 {
@@ -93,7 +93,7 @@ fn unclear_row(text: &mut Text, row: &(Amount, Cause), line: Option<u64>) -> Res
     text.word(b"}}\n")
 }
 
-/// The line of the whole trace.
+/// Writes the object of the whole trace.
 fn summary(
     text: &mut Text,
     tally: Tally,
@@ -112,7 +112,7 @@ fn summary(
     text.word(b"}\n")
 }
 
-/// The currency, where the trace has one.
+/// Adds the currency, if the trace has one.
 fn currency_member(text: &mut Text, currency: Option<Currency>) -> Result<(), AllocError>
     ensures { OnOk result (text.new ≡ text.old ++ currency_part currency) }
 {

@@ -50,7 +50,7 @@ impl Orders {
     }
 }
 
-/// Whether a till gives an order by this message.
+/// Whether this message of a till is an order.
 fn is_order(apdu: &ApduView<'_>) -> bool
     ensures { result ≡ is_order apdu.now }
 {

@@ -24,7 +24,7 @@ use zvt_trace::{Scope, Tally, TraceFault, walk};
 #[derive(Clone, Copy, Debug, PartialEq, Eq)]
 pub struct AuditSummary {
     pub tally: Tally,
-    /// The sum of the payments that were completed, in the smallest unit of the currency.
+    /// The sum of the completed payments, in the smallest unit of the currency.
     pub total: u128,
     /// The number of payments whose outcome is unknown.
     pub unclear: u64,
@@ -33,11 +33,11 @@ pub struct AuditSummary {
 }
 
 /// Writes the books of the trace: one line per completed payment, then one per unclear payment, then the total of the
-/// completed ones in the smallest unit of the currency. Payments that were taken back count too. The trace may have
-/// such lengths.
+/// completed ones in the smallest unit of the currency. Payments that were taken back count too. `lengths` selects the
+/// accepted forms of length.
 ///
-/// The till's orders and the terminal's messages are judged as a till's log that begins with its connection. After
-/// refused bytes of either side, neither side is read until the connection is lost. A stream that is refused or cut
+/// The till's orders and the terminal's messages are read as the log of a till that starts connected. After refused
+/// bytes of either side, neither side is read until the connection is lost. A stream that is refused or cut
 /// off counts as bad.
 ///
 /// Writes the text once, at the end. Writes nothing if a line can't be read or an allocation fails.
@@ -58,7 +58,7 @@ pub fn audit_trace<W: Sink>(
     write_books(alloc, form, auditor, tally, writer)
 }
 
-/// An auditor of a till that is connected, and has noticed neither an order nor a currency.
+/// Creates an auditor of a connected till that has heard nothing.
 pub(crate) fn connected(alloc: Global) -> Result<Auditor, AllocError>
     ensures { IfOk result IsConnected }
 {
@@ -72,7 +72,7 @@ pub(crate) fn connected(alloc: Global) -> Result<Auditor, AllocError>
     })
 }
 
-/// Writes the books of an auditor that has heard all, in this form.
+/// Writes the books of an auditor at the end of its trace, in this form.
 pub(crate) fn write_books<W: Sink>(
     alloc: Global,
     form: Form,

@@ -12,11 +12,6 @@ pub after_nothing : (held : Option (List ℕ)) (block : List ℕ) → block ≡ 
 after_nothing None block none = refl
 after_nothing (Some bytes) block none = rw none (ap (λ b. Some b) (append-nil bytes))
 
--- the block grew
-pub block_grew : (held : Option (List ℕ)) (old new text : List ℕ) → Appends (Some old) (Some new) text → Appends (after held old) (after held new) text
-block_grew None old new text grown = tt
-block_grew (Some bytes) old new text grown = ap (λ b. bytes ++ b) grown ∙ sym (append_assoc bytes old text)
-
 -- the last block is written, and the device has all
 pub all_written : (first held next : Option (List ℕ)) (block all : List ℕ) → Appends first (after held block) all → Appends held next block → Appends first next all
 all_written None held next block all so written = tt

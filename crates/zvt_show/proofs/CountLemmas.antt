@@ -78,17 +78,6 @@ lines_more unread scope side events event one counts =
       last = sym (last_line_more before event.line);
     })
 
--- nothing was left unread
-pub none_unread : (unread : Unread) → unread.count ≡ 0 → unread.last ≡ 0 → CountsLines unread []
-none_unread unread count last = record { count = count; last = last }
-
-pub after_kept : (scope : Scope) (trailing : SkippedLines) (events : List At) (event : At) → unread_lines scope FromTill (event ∷ []) ≡ [] → unread_lines scope FromTerminal (event ∷ []) ≡ []
-    → CountsAfter scope trailing events → CountsAfter scope trailing (events ++ event ∷ [])
-after_kept scope trailing events event till terminal counts = record {
-  till = lines_kept trailing.till scope FromTill events event till counts.till;
-  terminal = lines_kept trailing.terminal scope FromTerminal events event terminal counts.terminal;
-}
-
 -- a piece that is not read is counted for one side
 pub till_more : (scope : Scope) (trailing : SkippedLines) (events : List At) (line : ℕ) (from : Direction) → counted_side scope from ≡ FromTill
     → CountsAfter scope trailing events → CountsAfter scope (record trailing { till = one_more trailing.till line }) (events ++ on line (trace_event.unread from) ∷ [])

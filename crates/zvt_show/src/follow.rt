@@ -1,4 +1,4 @@
-//! The text of a trace that comes piece by piece, as from a pipe or a file that grows.
+//! The text of a trace that arrives in chunks, from a pipe or a growing file.
 ghost use Rattle.std.specs.Prelude.{[], ◌≡◌, ◌<◌, ◌≤◌, ◌++◌, ℕ, List, Option, length, Err, OnOk, false, true};
 ghost use Rattle.std.specs.Io.KnownBytes.{Consumes};
 ghost use Rattle.std.specs.Str.Lines.{lines};
@@ -19,12 +19,12 @@ use zvt_grammar::Lengths;
 use zvt_io::{Sink, Source};
 use zvt_trace::{Direction, Scope, Tally, TraceFault, Walker, read_chunk};
 
-/// How many bytes are read at once.
+/// The number of bytes that are read at once.
 const CHUNK: usize = 65_536;
 
-/// Writes the text of a trace in this style, as [`render_trace`] does, while the trace comes.
+/// Writes the text of a trace in this style, as [`render_trace`] does, while the trace arrives.
 ///
-/// After each read the text of all lines that have ended is written, before the next read. The trace may have any
+/// After each read, writes the text of all complete lines before it reads again. The trace may have any
 /// length; a line has at most as many bytes as a trace in memory.
 ///
 /// [`render_trace`]: crate::render_trace
@@ -74,7 +74,7 @@ impl Follower {
         }
     }
 
-    /// Writes the text of all lines that end in this chunk, also of those before a fault.
+    /// Writes the text of all lines that end in this chunk, up to a fault.
     pub fn feed<W: Sink>(&mut self, writer: &mut W, chunk: &[u8]) -> Result<(), TraceFault>
         requires following { IsFollowing self.old }
         requires few { length chunk.now ≤ limit }
@@ -97,7 +97,7 @@ impl Follower {
         answer
     }
 
-    /// Writes the text of a line of the trace that spells these bytes of a side, where no line has begun.
+    /// Writes the text of the line that spells these bytes of a side. No line may be unfinished.
     pub fn take<W: Sink>(
         &mut self,
         writer: &mut W,
@@ -126,7 +126,7 @@ impl Follower {
         answer
     }
 
-    /// Writes the text of a last line without a line feed, and of messages that are cut off.
+    /// Writes the text of a last line without a line feed, and of incomplete messages.
     pub fn finish<W: Sink>(self, writer: &mut W) -> Result<Tally, TraceFault>
         requires following { IsFollowing self }
         ensures writes { (r : Reading) (scope : Scope) (style : Style) (bytes : List ℕ) (first : Option (List ℕ))

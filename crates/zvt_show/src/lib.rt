@@ -1,8 +1,7 @@
-//! The text of traces of the line between a till and its terminal.
+//! Shows the line between a till and its terminal as text.
 //!
-//! [`render_trace`] writes the text of a trace in memory in a [`Style`], and takes the lengths that the trace may have.
-//! [`follow_trace`] writes the text of a trace while it comes. [`Shown`] writes the text of a line while its chunks
-//! pass.
+//! [`render_trace`] writes a trace in memory in a [`Style`]. [`follow_trace`] writes a trace while it arrives. [`Shown`]
+//! is an observer that writes a line while its chunks pass.
 #![tactic(auto)]
 
 pub mod diagnostics;

@@ -1,4 +1,4 @@
-//! The text of a trace, which is written in blocks.
+//! Writes the text of a trace in blocks.
 ghost use Rattle.std.specs.Prelude.{[], ◌≡◌, ◌<◌, ◌≤◌, length, Err, IfErr, OnErr, OnOk};
 ghost use Rattle.std.specs.Io.KnownBytes.{Appends, Keeps};
 ghost use Rattle.std.specs.Str.Lines.{lines};
@@ -15,14 +15,14 @@ use zvt_io::Sink;
 use zvt_text::Text;
 use zvt_trace::{Listener, ListenerError, Scope, Tally, TraceEvent, TraceFault, walk};
 
-/// The size from which a block of text is written.
+/// A block of text that has reached this size is written.
 const BLOCK: usize = 65_536;
 
 /// Writes the text of a trace: each message, and each refusal, cut and loss. Output goes out in blocks; the last block
 /// is written even if the walk fails. In the styles `Json` and `JsonReceipts` each line of the text is one JSON value.
 ///
-/// A refusal leaves as much unread as the scope says. The trace may have such lengths. In the style `Join` each whole
-/// message is written in its one strict spelling. A stream that is refused or cut off counts as bad.
+/// `scope` says what a refusal leaves unread, `lengths` selects the accepted forms of length. The style `Join` writes
+/// each complete message in its one strict spelling. A stream that is refused or cut off counts as bad.
 pub fn render_trace<W: Sink>(
     alloc: Global,
     style: Style,
@@ -46,7 +46,7 @@ pub fn render_trace<W: Sink>(
     answer
 }
 
-/// The text of events that is not written yet. The text of each event joins the block whole or not at all.
+/// The text that is not written yet. The text of each event joins the block whole or not at all.
 #[derive(Drop)]
 pub(crate) struct Pages {
     alloc: Global,
@@ -55,7 +55,7 @@ pub(crate) struct Pages {
 }
 
 impl Pages {
-    /// Pages of this style, without text.
+    /// Creates pages of this style without text.
     pub(crate) fn new(alloc: Global, style: Style) -> Pages
         ensures style { result.style ≡ style }
         ensures empty { result.block ≡ [] }
@@ -76,7 +76,7 @@ impl Pages {
     }
 }
 
-/// Writes the text of events to a device. Both are lent.
+/// Writes the text of events to a borrowed device.
 #[derive(Drop)]
 pub(crate) struct Printer<'p, W> {
     pub(crate) pages: &'p mut Pages,

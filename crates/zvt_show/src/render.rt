@@ -17,7 +17,7 @@ use zvt_grammar::{Lengths, Why};
 use zvt_text::Text;
 use zvt_trace::{Direction, Refusal, TraceEvent};
 
-/// How the events of a trace are written.
+/// The styles in which the events of a trace are written.
 #[derive(Clone, Copy, Debug, PartialEq, Eq)]
 pub enum Style {
     /// Each message with its fields, and each event of a side or of the line.
@@ -36,7 +36,7 @@ impl Style {
     ghost use Rattle.std.specs.Prelude.{option_map};
     ghost use Rattle.zvt_show.specs.Lines.{mark_of};
 
-    /// What comes before a line that is no part of a trace, where such lines are written at all.
+    /// Returns the start of a line about a side or the line, or `None` in a style without such lines.
     fn mark(self) -> Option<&'static str>
         ensures { option_map (λ mark. mark.now) result ≡ mark_of self }
     {
@@ -83,7 +83,7 @@ fn json(
     zvt_json::event(text, alloc, line, trace_event)
 }
 
-/// Adds a print line of the terminal as a line of JSON, and nothing of another event.
+/// Adds a print line of the terminal as a line of JSON. Adds nothing for another event.
 #[inline(never)]
 fn json_receipt(
     text: &mut Text,
@@ -228,7 +228,8 @@ fn receipt(text: &mut Text, from: Direction, apdu: &ApduView<'_>) -> Result<(), 
     }
 }
 
-/// The first words of a line that is no part of a trace. They are not in the text yet, so that it takes the line whole.
+/// Returns the first words of a line about a side. The line is built apart, so that the text takes it whole or not at
+/// all.
 fn begun(alloc: Global, mark: &str, from: Direction, words: &[u8]) -> Result<Text, AllocError>
     ensures { IfOk result (λ line. line ≡ mark.now ++ direction_text from ++ words.now) }
 {
@@ -280,7 +281,7 @@ fn truncated(
     text.word(line.bytes())
 }
 
-/// Adds the line of a side that is read on after a refused message.
+/// Adds the line of a side whose reading resumes after a refused message.
 fn resumed(
     text: &mut Text,
     alloc: Global,
@@ -300,7 +301,7 @@ fn resumed(
     text.word(line.bytes())
 }
 
-/// Adds the line of a loss.
+/// Adds the line of a lost connection.
 fn lost(text: &mut Text, style: Style) -> Result<(), AllocError>
     ensures { Adds result text.old text.new (lost_text style) }
 {

@@ -1,4 +1,4 @@
-//! The text of a line, which is shown while the line goes on.
+//! The text of a running line.
 ghost use Rattle.std.specs.Prelude.{◌≡◌, ◌++◌, ◌∷◌, [], codes, ℕ, List, Option};
 ghost use Rattle.zvt_grammar.specs.Lengths.{reading_of};
 ghost use Rattle.zvt_grammar.specs.Reading.{Reading};
@@ -13,8 +13,8 @@ use zvt_grammar::Lengths;
 use zvt_io::Sink;
 use zvt_trace::{Direction, ListenerError, Observer, Scope, Tally, TraceFault};
 
-/// Shows the text of a line on its output while the line goes on: what `zvt show` prints of the line's trace. After a
-/// fault it shows nothing more, and misses nothing.
+/// Shows a running line on its output, as `zvt show` prints the trace of the line. After a fault it shows nothing more,
+/// but still observes every chunk.
 #[derive(Drop)]
 pub struct Shown<W> {
     follower: Follower,
@@ -22,10 +22,10 @@ pub struct Shown<W> {
     output: W,
 }
 
-/// What came of showing a line, and the output that has its text.
+/// The result of showing a line, and the output with its text.
 #[derive(Drop)]
 pub struct ShownToEnd<W> {
-    /// How many messages were shown, and how many streams were refused or cut off.
+    /// The number of messages shown, and of streams refused or cut off; or the first fault.
     pub shown: Result<Tally, TraceFault>,
     pub output: W,
 }
@@ -47,7 +47,8 @@ impl<W> Model for Shown<W> {
 impl<W: Sink + Drop> Shown<W> {
     ghost use Rattle.zvt_show.specs.Shown.{HasShown};
 
-    /// Shows nothing yet. The text has this style, and the line's messages have such lengths.
+    /// Creates an observer that has shown nothing. `style` is the style of the text, `lengths` the accepted forms of
+    /// length.
     pub fn new(alloc: Global, style: Style, lengths: Lengths, output: W) -> Shown<W>
         ensures shown { HasShown W.written (reading_of lengths) style [] (W.written output) result }
         ensures output { result.output ≡ output }
@@ -59,7 +60,7 @@ impl<W: Sink + Drop> Shown<W> {
         }
     }
 
-    /// Shows that the line has ended, and what is cut off there.
+    /// Shows the end of the line, and the messages that it cuts off.
     pub fn end(self) -> ShownToEnd<W>
         ensures { (r : Reading) (style : Style) (trace : List ℕ) (first : Option (List ℕ))
             → HasShown W.written r style trace first self → AnswersShown r style (trace ++ (codes "!" ++ 10 ∷ []))
@@ -75,7 +76,7 @@ impl<W: Sink + Drop> Shown<W> {
     }
 }
 
-/// Shows that the line has ended, and what is cut off there, unless showing has failed before.
+/// Shows the end of the line, and the messages that it cuts off, unless showing has failed before.
 fn show_end<W: Sink>(
     follower: Follower,
     fault: Option<TraceFault>,

@@ -49,9 +49,6 @@ module _ (r : Reading) (high low n : ℕ) (l : Layout) (e : l ≡ layout_of high
   abbrev begun : (size b : List ℕ) → (high < 256) × (low < 256) → IsFrameLength r n size → b ≡ high ∷ low ∷ (size ++ []) → Begun r n [] b
   begun size b small q w = record { high = high; low = low; size = size; whole = w; are_bytes = small; is_size = q; fills = fills }
 
-  pub data_none : n ≡ 0 → BeginsData r high low n (Ok (Ends 0))
-  data_none z = (fills, λ size b small q w. (refl, record { n = n; inside = []; begun = begun size b small q w; full = sym z }))
-
   pub data_payload : n ≢ 0 → l.fields ≡ false → BeginsData r high low n (Ok (Within stage.Payload n))
   data_payload nz f = (fills, λ size b small q w. (refl, omega (arith, nz), record { n = n; inside = []; begun = begun size b small q w; no_fields = ap (λ (k : Layout). k.fields) (sym e) ∙ f; filled = omega arith }))
 

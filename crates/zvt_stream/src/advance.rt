@@ -16,7 +16,7 @@ use arrayvec::ArrayVec;
 use zvt_grammar::{Lengths, Why};
 use zvt_tlv::TagAt;
 
-/// Judges a byte of a part that few bytes play.
+/// Judges a byte whose role is rare.
 #[cold]
 #[inline(never)]
 pub(crate) fn rare_step(
@@ -60,7 +60,7 @@ pub(crate) fn rare_step(
     }
 }
 
-/// Goes where a byte after the control bytes leads.
+/// Moves on after a byte that follows the control bytes.
 #[inline]
 pub(crate) fn follow(
     goes: &mut Goes,
@@ -81,7 +81,7 @@ pub(crate) fn follow(
     }
 }
 
-/// Continues in the innermost level that lacks bytes, or reports the end of the message.
+/// Continues in the innermost incomplete level, or reports the end of the message.
 #[inline]
 fn settle(goes: &mut Goes, levels: &mut Levels) -> Judged
     ensures { (r : Reading) (bytes : List ℕ) → Between r goes.old.left (outer_of levels.old) bytes

@@ -166,7 +166,7 @@ impl Held {
     }
 }
 
-/// Raises the capacity to at least `least` bytes. Where it is less, it is at least doubled.
+/// Raises the capacity to at least `least` bytes, and at least doubles it if it has to grow.
 #[cold]
 fn grow(room: &mut Vec<u8>, least: usize) -> Result<(), AllocError>
     ensures ok { OnOk result ((least ≤ length room.new.items)

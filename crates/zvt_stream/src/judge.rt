@@ -1,7 +1,7 @@
 //! The judge of a line's bytes: `Judge::step` looks at each of them once, and it alone counts.
 //!
-//! The functions of a run and of a step are `#[inline(always)]`: no byte costs a call. The compiler drops that from a
-//! function that becomes too large, so the bytes of rare parts are judged apart. `bench/throughput` counts the
+//! The functions of a run and of a step are `#[inline(always)]`: no byte costs a call. The compiler drops the hint from
+//! a function that becomes too large, so bytes with rare roles are judged apart. `bench/throughput` counts the
 //! instructions for a byte.
 
 ghost use Rattle.std.specs.Prelude.{◌≡◌, ℕ, ◌+◌, ◌≤◌, List, [], ◌++◌, length, take};
@@ -279,7 +279,8 @@ fn run(
     DecodeRun::Open
 }
 
-/// Judges the next byte, and counts it. A byte of a rare part is judged in `kept`: a call would keep `goes` in memory.
+/// Judges the next byte, and counts it. A byte with a rare role is judged in `kept`, because a call would keep `goes`
+/// in memory.
 #[inline(always)]
 fn step(
     lengths: Lengths,

@@ -195,7 +195,7 @@ impl Stream {
     /// Consumes input up to the end of the next message, or the whole piece if no message ends in it. Invalid input is
     /// reported by the call that contains the offending byte; every later call returns `Stopped`.
     ///
-    /// Each byte is judged once. The message is built of the bytes that are held.
+    /// Each byte is judged once. The message is built from the bytes held.
     pub fn feed(&mut self, alloc: Global, piece: &[u8]) -> Result<Fed, FeedError>
         ensures fed { IfOk result (λ fed. Feeds self.old piece.now fed self.new) }
         ensures stopped { self.old.stopped ≡ true → IsErrOf result FeedError.Stopped }
@@ -234,8 +234,8 @@ impl Stream {
         }
     }
 
-    /// Takes bytes as `feed` does, and lends the message until the next feed instead of building it. It asks for memory
-    /// only where the longest message that the piece may end has no room.
+    /// Takes bytes as `feed` does, and lends the message until the next feed instead of building it. Allocates only if
+    /// the buffer has no room for the longest message that the piece may end.
     #[inline(always)]
     pub fn feed_view(&mut self, piece: &[u8]) -> Result<FedView, FeedError>
         ensures fed { IfOk result (λ fed. Lends self.old piece.now fed self.new) }
@@ -313,7 +313,7 @@ impl Stream {
     }
 }
 
-/// The message that what is held is: nothing is held then. Where memory is refused the first bytes are, so many.
+/// Takes the message out of the buffer. If an allocation fails, the first `before` bytes stay.
 fn message(
     alloc: Global,
     held: &mut Held,
@@ -338,7 +338,7 @@ fn message(
     }
 }
 
-/// The message that the bytes are.
+/// Builds the message from its bytes.
 fn whole(alloc: Global, bytes: &[u8], lengths: Lengths) -> Result<Apdu, AllocError>
     requires { IsMessageIn (reading_of lengths) bytes.now }
     ensures { IfOk result (λ apdu. Spells (reading_of lengths) apdu bytes.now) }

@@ -301,9 +301,6 @@ pub rest_left : {S : Type 0} (r : Reading) (hears : Hears S) (fails : Fails S) (
 rest_left r hears fails line from reader known some_left size zero now is some skips = absurd (omega (arith, some, (same_rest known some_left size 0 (sym is ∙ skips.1)).1))
 rest_left r hears fails line from reader known some_left size (suc left) now is some skips = (refl, (skips.0, (skips.1, omega arith)), refl)
 
-pub none_to_rest : {S : Type 0} (r : Reading) (hears : Hears S) (fails : Fails S) (line : ℕ) (from : Direction) (reader : SideReader) (size left : ℕ) (now : S) → is_rest reader.skipped ≡ false → SkipsTo reader size left → EmitsRest r hears fails line from size left reader now now (Ok false)
-none_to_rest r hears fails line from reader size left now none skips = absurd (false≢true (sym none ∙ ap is_rest skips.1))
-
 -- ---- the end of a side
 
 pub none_cut : {S : Type 0} (r : Reading) (hears : Hears S) (line : ℕ) (from : Direction) (side : Side) (state : StreamState) (now : S) → StreamFollows r state side → state.held ≡ [] → HearsEnd hears (SideEnds r line from side) 1 now now

@@ -18,9 +18,6 @@ hears_append hears (event ∷ a) b x y z some later = (some.0, some.1, hears_app
 pub hears_one : {S : Type 0} (hears : Hears S) (event : At) (x y : S) → hears x event y → HearsAll hears x (event ∷ []) y
 hears_one hears event x y heard = (y, heard, refl)
 
-pub hears_event : {S : Type 0} (hears : Hears S) (events : List At) (event : At) (x y : S) → events ≡ event ∷ [] → hears x event y → HearsAll hears x events y
-hears_event hears events event x y is heard = subst (λ (es : List At). HearsAll hears x es y) (sym is) (hears_one hears event x y heard)
-
 pub hears_push : {S : Type 0} (hears : Hears S) (a : List At) (event : At) (x y z : S) → HearsAll hears x a y → hears y event z → HearsAll hears x (a ++ event ∷ []) z
 hears_push hears a event x y z so heard = hears_append hears a (event ∷ []) x y z so (hears_one hears event y z heard)
 

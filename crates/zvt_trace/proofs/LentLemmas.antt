@@ -52,8 +52,3 @@ module _ {L M : Type 0} (now : M → L) (name : M → ℕ) (hears : Hears L) (fa
     follow = heard.follow;
     few = heard.few;
   }
-
-  pub line_lent : (r : Reading) (scope : Scope) (number : ℕ) (meaning : Meaning) (sides : Sides) (state : BothSides) (old new : M) (y : L) (answer : Result Unit ListenerError) → (name old ≡ name new → y ≡ now new)
-      → EmitsLine r (LentHears now name hears fails) (LentFails now name hears fails) scope number meaning sides state old new answer → EmitsLine r hears fails scope number meaning sides state (now old) y answer
-  line_lent r scope number meaning sides state old new y (Ok done) is heard = heard_line r scope number meaning sides state old new y is heard
-  line_lent r scope number meaning sides state old new y (Err why) is failed = failed_lent why _ old new y is failed

@@ -1,4 +1,4 @@
-//! A trace that comes chunk by chunk, as from a pipe or a file that grows.
+//! Traces that arrive in chunks, from a pipe or a growing file.
 ghost use Rattle.std.specs.Prelude.{◌≡◌, ◌≤◌, ◌+◌, ◌++◌, [], ℕ, List, length, IfErr, OnOk};
 ghost use Rattle.std.specs.Str.Lines.{lines};
 ghost use Rattle.zvt_grammar.specs.Lengths.{reading_of};
@@ -18,11 +18,11 @@ use crate::walker::Progress;
 use std::alloc::Global;
 use zvt_grammar::Lengths;
 
-/// The most bytes of a trace that comes chunk by chunk.
+/// The maximum size of a trace that arrives in chunks, in bytes.
 const MOST: u64 = 1 << 62;
 
 /// Walks over a trace that arrives in chunks. Emits the events of each complete line at once, and holds the bytes of
-/// an unfinished line. It may be given what a line spells in place of the line.
+/// an unfinished line. It also accepts the bytes that a line spells in place of the line.
 #[derive(Drop)]
 pub struct Walker {
     progress: Progress,
@@ -30,7 +30,7 @@ pub struct Walker {
 }
 
 impl Walker {
-    /// Creates a walker that has read nothing. Its streams accept lengths in this form.
+    /// Creates a walker for a new trace that accepts lengths in these forms.
     pub fn new(alloc: Global, scope: Scope, lengths: Lengths) -> Walker
         ensures read { HasRead (reading_of lengths) scope [] [] result }
         ensures ready { IsReady result }
@@ -46,7 +46,7 @@ impl Walker {
 
     /// Emits all events of the lines that end in this chunk, and holds the bytes of an unfinished line.
     ///
-    /// A line is too long if it has more bytes than a trace in memory may have. After a fault, do not use the walker
+    /// A line is too long if it is longer than a whole trace in memory may be. After a fault, do not use the walker
     /// again.
     pub fn feed<L: Listener>(&mut self, listener: &mut L, chunk: &[u8]) -> Result<(), TraceFault>
         requires ready { IsReady self.old }
@@ -75,7 +75,7 @@ impl Walker {
         }
     }
 
-    /// Emits all events of a line that spells these bytes of a side, where no line has begun.
+    /// Emits the events of the line that spells these bytes of a side. No line may be unfinished.
     pub fn take<L: Listener>(
         &mut self,
         listener: &mut L,
@@ -115,7 +115,7 @@ impl Walker {
         progress.finish(listener)
     }
 
-    /// Emits what the line says that was begun, once its end has come.
+    /// Emits the events of the unfinished line, now that its end has arrived.
     fn complete<L: Listener>(&mut self, listener: &mut L, end: &[u8]) -> Result<(), TraceFault>
         requires ready { IsReady self.old }
         requires fits { self.old.progress.size + (length self.old.begun.items + length end.now) ≤ most }
@@ -136,7 +136,7 @@ impl Walker {
         Ok(())
     }
 
-    /// Emits what the lines say that end in this chunk, where no line has begun before it.
+    /// Emits the events of the lines that end in this chunk, when no line was unfinished before it.
     fn begin<L: Listener>(&mut self, listener: &mut L, chunk: &[u8]) -> Result<(), TraceFault>
         requires sound { IsSound self.old.progress }
         requires fits { self.old.progress.size + length chunk.now ≤ most }
@@ -157,7 +157,7 @@ impl Walker {
         }
     }
 
-    /// Holds these bytes of a line that has begun.
+    /// Holds these bytes of an unfinished line.
     fn hold(&mut self, bytes: &[u8]) -> Result<(), TraceFault>
         requires small { length self.old.begun.items ≤ limit }
         ensures held { OnOk result (self.new.begun.items ≡ self.old.begun.items ++ bytes.now) }

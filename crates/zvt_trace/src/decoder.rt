@@ -76,7 +76,7 @@ impl Line {
         self.sides.lose(listener, &self.options, number)
     }
 
-    /// Emits which messages are cut off because no more is to come, with this number.
+    /// Emits the messages that the end of the line cuts off, with this number.
     pub fn finish<L: Listener>(&self, listener: &mut L, number: u64) -> Result<(), ListenerError>
         ensures emits { (sides : Sides) → Stands self.now sides → EmitsEnd L.hears L.fails
             (LineEnds (line_reading self.now) number sides) 2 listener.old listener.new result }

@@ -1,7 +1,7 @@
-//! Who sends.
+//! The two sides of a line.
 use std::fmt;
 
-/// Who sends.
+/// The side that sends.
 #[derive(Clone, Copy, Debug, PartialEq, Eq)]
 pub enum Direction {
     FromTill,
@@ -13,7 +13,7 @@ impl Direction {
     ghost use Rattle.zvt_trace.specs.Lines.{direction_text};
     ghost use Rattle.zvt_trace.specs.Emitting.{other};
 
-    /// How a trace marks it.
+    /// Returns the mark of this side in a trace.
     pub fn sign(self) -> &'static str
         ensures { result.now ≡ direction_text self }
     {
@@ -23,7 +23,7 @@ impl Direction {
         }
     }
 
-    /// The other side.
+    /// Returns the other side.
     pub(crate) fn other(self) -> Direction
         ensures { result ≡ other self }
     {

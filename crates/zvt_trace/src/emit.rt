@@ -1,4 +1,4 @@
-//! Emits to a listener what one side of the line sends.
+//! Passes the events of one side of the line to a listener.
 ghost use Rattle.std.specs.Prelude.{◌≡◌, ◌<◌, ◌≤◌, ◌+◌, ◌++◌, List, ℕ, suc, length, slice_index, false, true, Some};
 ghost use Rattle.std.specs.Prelude.{IfOk, OnOk, MatchResult};
 ghost use Rattle.zvt_grammar.specs.Reading.{Reading};
@@ -21,7 +21,7 @@ use zvt_apdu::view;
 use zvt_grammar::{Lengths, Why};
 use zvt_stream::{Stream, Truncated};
 
-/// How a trace is walked: its memory, what a refusal leaves unread, and the lengths that its streams take.
+/// The options of a walk: its allocator, what a refusal leaves unread, and the accepted forms of length.
 #[derive(Clone, Copy)]
 pub(crate) struct WalkOptions {
     pub(crate) alloc: Global,
@@ -29,7 +29,7 @@ pub(crate) struct WalkOptions {
     pub(crate) lengths: Lengths,
 }
 
-/// Emits the whole message that the stream holds.
+/// Emits the complete message in the stream.
 #[inline(always)]
 pub(crate) fn emit_message<L: Listener>(
     listener: &mut L,
@@ -57,7 +57,7 @@ pub(crate) fn emit_message<L: Listener>(
     listener.hear(line, &trace_event)
 }
 
-/// Emits that the message of a side is refused at this byte. `bytes` is the part of it that arrived last.
+/// Emits the refusal of a message at its byte `place`. `bytes` is the part of the message that arrived last.
 #[cold]
 #[inline(never)]
 pub(crate) fn emit_refusal<L: Listener>(
@@ -87,7 +87,7 @@ pub(crate) fn emit_refusal<L: Listener>(
     listener.hear(line, &TraceEvent::Refused { from, refusal })
 }
 
-/// Emits that a piece is not read.
+/// Emits the event of a piece that is not read.
 #[cold]
 #[inline(never)]
 pub(crate) fn emit_unread<L: Listener>(
@@ -102,7 +102,7 @@ pub(crate) fn emit_unread<L: Listener>(
     listener.hear(line, &TraceEvent::Unread { from })
 }
 
-/// If no byte of a refused message is left, emits that reading resumes. Returns whether it does.
+/// If no byte of a refused message is left, emits that reading resumes. Returns whether it did.
 #[cold]
 #[inline(never)]
 pub(crate) fn emit_resumed<L: Listener>(
@@ -132,7 +132,7 @@ pub(crate) fn emit_resumed<L: Listener>(
     }
 }
 
-/// If this side holds an unfinished message, emits that it is cut off.
+/// If this side holds an unfinished message, emits its cut-off.
 #[cold]
 #[inline(never)]
 pub(crate) fn emit_truncation<L: Listener>(

@@ -8,11 +8,11 @@ use zvt_stream::Head;
 /// The index at which a message is refused, and the reason.
 #[derive(Clone, Copy)]
 pub struct Refusal {
-    /// The control bytes of the message, as far as they have come.
+    /// The control bytes of the message, as far as they have arrived.
     pub head: Head,
     /// The first byte after which no message can follow.
     pub byte: u8,
-    /// The place of that byte, counted from 0 at the first byte of the message.
+    /// The offset of that byte from the start of the message.
     pub place: usize,
     pub why: Why,
 }
@@ -20,19 +20,19 @@ pub struct Refusal {
 /// An event at a line of a trace.
 #[derive(Drop)]
 pub enum TraceEvent<'a> {
-    /// A whole message, and its bytes: with such lengths a spelling of it.
+    /// A complete message, and its bytes, which spell it with lengths of these forms.
     Message {
         from: Direction,
         apdu: ApduView<'a>,
         bytes: &'a [u8],
         lengths: Lengths,
     },
-    /// No message begins with the bytes that a side sent.
+    /// No message starts with the bytes of this side.
     Refused {
         from: Direction,
         refusal: Refusal,
     },
-    /// A piece that is not read, after a refusal.
+    /// A piece after a refusal, which is not read.
     Unread {
         from: Direction,
     },

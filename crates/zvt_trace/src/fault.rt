@@ -1,4 +1,4 @@
-//! The answer of a command on a trace, and its faults.
+//! The tally of a trace, and its faults.
 ghost use Rattle.std.specs.Prelude.{◌≡◌};
 ghost use Rattle.zvt_trace.specs.declared.fault.TraceFault.TheVariants.{Memory, Write};
 
@@ -8,7 +8,7 @@ use std::fmt;
 use thiserror::Error;
 use zvt_io::Failed;
 
-/// How many whole messages were read, and how many streams were refused or cut off.
+/// The number of complete messages, and of streams that were refused or cut off.
 #[derive(Clone, Copy, Debug, PartialEq, Eq)]
 pub struct Tally {
     pub messages: u64,
@@ -16,7 +16,7 @@ pub struct Tally {
 }
 
 impl Tally {
-    /// Nothing was counted.
+    /// Creates a tally at zero.
     pub(crate) fn none() -> Tally
         ensures { (result.messages ≡ 0) × (result.bad ≡ 0) }
     {
@@ -27,12 +27,12 @@ impl Tally {
     }
 }
 
-/// The fault of a line of a trace.
+/// What is wrong with a line of a trace.
 #[derive(Clone, Copy, Debug, PartialEq, Eq)]
 pub enum TraceLineError {
-    /// It is no piece, no comment and no loss.
+    /// The line is no piece, no comment and no loss.
     Form,
-    /// What follows the direction is no hexadecimal text.
+    /// The text after the direction is not hexadecimal.
     Hex,
 }
 
@@ -55,7 +55,7 @@ impl fmt::Display for TraceLineError {
 /// The reason why a command on a trace ended early. Output for earlier lines has already been written.
 #[derive(Debug, Drop, Error)]
 pub enum TraceFault {
-    /// A line of the trace, counted from 1, can't be read.
+    /// A line of the trace is not valid. Lines are counted from 1.
     #[error("line {line} of the trace: {what}")]
     Trace { line: u64, what: TraceLineError },
     /// Nothing was written.

@@ -14,22 +14,22 @@ use crate::side::{Opening, SideReader};
 use crate::spelled;
 use zvt_stream::{FedView, FeedError};
 
-/// The content of a piece: its first bytes, and the text that spells the others.
+/// The content of a piece: its first bytes, and the text that spells the rest.
 #[derive(Clone, Copy)]
 pub(crate) struct Piece<'a> {
     pub(crate) bytes: &'a [u8],
     pub(crate) undecoded: &'a [u8],
 }
 
-/// Whether an event came, and the bytes after it.
+/// Whether there was an event, and the bytes after it.
 #[derive(Clone, Copy)]
 struct Next<'b> {
     any: bool,
     rest: &'b [u8],
 }
 
-/// Emits the next event in these bytes of a side: a message, a refusal, or that reading resumes. Returns the bytes
-/// after it as well. Most chunks end with a message.
+/// Emits the next event in these bytes of a side, if there is one: a message, a refusal, or that reading resumes. Most
+/// chunks end with a message.
 #[inline(always)]
 fn feed_next<'b, L: Listener>(
     listener: &mut L,
@@ -77,7 +77,7 @@ fn feed_next<'b, L: Listener>(
     }
 }
 
-/// Emits all events of these bytes of a side. Returns whether there is any.
+/// Emits all events of these bytes of a side. Returns whether there was one.
 #[inline(always)]
 fn feed_bytes<L: Listener>(
     listener: &mut L,
@@ -103,8 +103,8 @@ fn feed_bytes<L: Listener>(
     Ok(any)
 }
 
-/// Emits the events of all bytes of a piece. Its text is decoded chunk by chunk, so it takes no memory. Returns whether
-/// there is any event.
+/// Emits the events of all bytes of a piece. Decodes its text in chunks, without allocating. Returns whether there was
+/// an event.
 fn feed_parts<L: Listener>(
     listener: &mut L,
     options: &WalkOptions,
@@ -134,7 +134,7 @@ fn feed_parts<L: Listener>(
     Ok(any)
 }
 
-/// Emits the events of a piece, also that it is not read.
+/// Emits the events of a piece, or that it is not read.
 #[inline(never)]
 fn feed_any_piece<L: Listener>(
     listener: &mut L,
@@ -161,7 +161,7 @@ fn feed_any_piece<L: Listener>(
     emit_unread(listener, line, from)
 }
 
-/// Emits the events of a piece, also that it is not read. Most sides are read, and most pieces have no text left.
+/// Emits the events of a piece, or that it is not read. Most sides are read, and most pieces have no text left.
 #[inline(always)]
 pub(crate) fn feed_piece<L: Listener>(
     listener: &mut L,

@@ -1,4 +1,4 @@
-//! A trace is read whole, or chunk by chunk.
+//! Reads a trace, whole or in chunks.
 ghost use Rattle.std.specs.Prelude.{◌≡◌, ◌<◌, ◌≤◌, ◌+◌, ℕ, List, length, Err, IfOk, vec_len};
 ghost use Rattle.std.specs.Io.KnownBytes.{Consumes};
 ghost use Rattle.zvt_trace.specs.Chunks.{ReadsChunk};
@@ -8,10 +8,10 @@ use crate::fault::TraceFault;
 use std::alloc::Global;
 use zvt_io::{Failed, Source};
 
-/// The most bytes of a trace.
+/// The maximum size of a trace in memory, in bytes.
 pub(crate) const LIMIT: usize = 16_777_216;
 
-/// All that the reader gives, which is read to its end or to the first byte past the limit.
+/// Reads everything from the reader, up to its end or to the first byte past the limit.
 pub fn read_trace<R: Source>(alloc: Global, reader: &mut R) -> Result<Vec<u8>, TraceFault>
     ensures trace { ReadsTrace (R.remaining reader.old) result }
     ensures taken { (taken : List ℕ) × (length taken ≤ limit + 1) × Consumes (R.remaining reader.old)
@@ -34,7 +34,7 @@ pub fn read_trace<R: Source>(alloc: Global, reader: &mut R) -> Result<Vec<u8>, T
     Err(TraceFault::TooLong)
 }
 
-/// Reads once and adds what came to the trace: how many bytes, 0 at the end.
+/// Reads once and appends the bytes to the trace. Returns their number, which is 0 at the end.
 fn read_piece<R: Source>(
     reader: &mut R,
     buffer: &mut [u8],

@@ -1,10 +1,10 @@
 //! Traces of the line between a till and its terminal.
 //!
-//! [`read_trace`] reads one whole. [`walk`] emits to a [`Listener`] all that it says, line by line. A [`Walker`] is fed
-//! a trace chunk by chunk, as [`read_chunk`] brings it. A [`Line`] takes the bytes themselves, with no trace.
+//! [`read_trace`] reads a whole trace. [`walk`] passes its events to a [`Listener`], line by line. A [`Walker`] takes a
+//! trace in chunks, as [`read_chunk`] reads them. A [`Line`] takes the bytes of a line itself, without a trace.
 //!
-//! An [`Observer`] sees the chunks of a line while they pass. An [`Observed`] device shows its bytes to one, and a
-//! [`TraceWriter`] is one that writes a trace.
+//! An [`Observer`] sees the chunks of a line as they pass. An [`Observed`] device shows its bytes to an observer. A
+//! [`TraceWriter`] is an observer that writes a trace.
 #![tactic(auto)]
 
 mod both;

@@ -1,4 +1,4 @@
-//! One line of a trace.
+//! The lines of a trace.
 ghost use Rattle.std.specs.Prelude.{◌≡◌, ◌≤◌, length, IfOk, IfSome, Ok, Err};
 ghost use Rattle.hex.specs.Hex.{decode_of};
 ghost use Rattle.zvt_trace.specs.Meanings.{GoesOn, IsPlain, IsSign, Reads, meant_by, piece_of, size_of, without_spaces};
@@ -8,15 +8,15 @@ use crate::direction::Direction;
 use crate::fault::TraceLineError;
 use crate::spelled;
 
-/// How many bytes of a piece are read at once.
+/// The number of bytes of a piece that are decoded at once.
 pub(crate) const CHUNK: usize = 4_096;
 
 /// A line of a trace.
 #[derive(Drop)]
 pub(crate) enum TraceLine<'a, 't> {
-    /// Nothing.
+    /// A comment or an empty line.
     Comment,
-    /// Bytes were sent: those that are read, and those that the text after them spells. Only a long line has such text.
+    /// Bytes of one side: the decoded ones, and the text that spells the rest. Only a long line has such text.
     Piece {
         from: Direction,
         bytes: &'a [u8],
@@ -26,7 +26,7 @@ pub(crate) enum TraceLine<'a, 't> {
     Lost,
 }
 
-/// A piece in the plain form: `count` bytes, and what follows its line.
+/// A piece in the plain form: `count` bytes, and the text after its line.
 pub(crate) struct Plain<'t> {
     pub(crate) from: Direction,
     pub(crate) count: usize,
@@ -52,7 +52,7 @@ pub(crate) fn plain_piece<'t>(buffer: &mut [u8], rest: &'t [u8]) -> Option<Plain
     }
 }
 
-/// The side of that sign.
+/// Returns the side with this mark.
 #[inline(always)]
 fn direction(sign: u8) -> Option<Direction>
     ensures { IfSome result (IsSign sign) }
@@ -64,7 +64,7 @@ fn direction(sign: u8) -> Option<Direction>
     }
 }
 
-/// Reads a line, which has lost its line feed. Of a piece, as many bytes are read as the buffer takes.
+/// Reads a line without its line feed. Decodes as many bytes of a piece as fit into the buffer.
 #[inline(always)]
 pub(crate) fn read_line<'a, 't>(
     buffer: &'a mut [u8],
@@ -81,7 +81,7 @@ pub(crate) fn read_line<'a, 't>(
     }
 }
 
-/// Reads bytes that are spelled in hexadecimal text, as many as the buffer takes.
+/// Decodes hexadecimal text, as many bytes as fit into the buffer.
 #[inline(always)]
 fn read_piece<'a, 't>(
     buffer: &'a mut [u8],

@@ -1,4 +1,4 @@
-//! The listener to the events of a trace.
+//! Listeners to the events of a trace.
 ghost use Rattle.std.specs.Prelude.{◌≡◌, MatchResult};
 ghost use Rattle.zvt_trace.specs.TraceEvent.{At, HasItsBytes, on, event_of};
 ghost use Rattle.zvt_trace.specs.declared.listener.ListenerError.{ListenerError};
@@ -10,7 +10,7 @@ use zvt_io::Failed;
 /// How much input to skip after an invalid message.
 #[derive(Clone, Copy, Debug, PartialEq, Eq)]
 pub enum Scope {
-    /// The refused message alone, by the size that it announces. Its side is read on after it.
+    /// Only the refused message, by its announced size. Reading of its side resumes after it.
     OneMessage,
     /// The side whose bytes were refused, until the connection is lost.
     OneSide,
@@ -19,7 +19,7 @@ pub enum Scope {
     WholeLine,
 }
 
-/// Why a listener could not hear.
+/// Why a listener failed.
 #[derive(Clone, Copy, Debug, Drop, PartialEq, Eq)]
 pub enum ListenerError {
     /// An allocation failed.
@@ -48,15 +48,15 @@ impl From<Failed> for ListenerError {
     }
 }
 
-/// Hears all events of a line, one after another. It owns what it writes to.
+/// Hears all events of a line, in order. It owns its output.
 pub trait Listener {
-    /// Hearing this, a listener becomes that.
+    /// Hearing the event turns the first state into the second.
     ghost hears: { Self → At → Self → Type 0 };
 
-    /// What a failure leaves of a listener that was to hear this.
+    /// Failing at the event, for this reason, turns the first state into the second.
     ghost fails: { Self → At → ListenerError → Self → Type 0 };
 
-    /// Hears the event of that number, which in a trace is the number of its line.
+    /// Hears the event with this number, which in a trace is the number of its line.
     fn hear(&mut self, number: u64, trace_event: &TraceEvent<'_>) -> Result<(), ListenerError>
         requires { HasItsBytes trace_event.now }
         ensures { MatchResult result
@@ -64,7 +64,7 @@ pub trait Listener {
             (λ failure. fails self.old (on number (event_of trace_event.now)) failure self.new) };
 }
 
-/// A listener that is lent. It stays the same one.
+/// A borrowed listener.
 impl<L: Listener> Listener for &mut L {
     ghost hears = { λ old event new. L.hears old.now event new.now × (new.ghost_name ≡ old.ghost_name) };
 

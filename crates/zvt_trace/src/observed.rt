@@ -1,4 +1,4 @@
-//! Devices whose bytes are observed.
+//! Devices with an observer.
 ghost use Rattle.std.specs.Prelude.{◌≡◌, true, false};
 ghost use Rattle.zvt_io.specs.Devices.{CountsFailure, Reads, Writes};
 ghost use Rattle.zvt_trace.specs.Observing.{ObservesRead, ObservesWrite};
@@ -7,7 +7,7 @@ use crate::direction::Direction;
 use crate::observer::Observer;
 use zvt_io::{Failed, GhostCount, Sink, Source};
 
-/// A device whose bytes are observed: each write, and each read that brings some.
+/// A device whose bytes an observer sees: each write, and each read that returns bytes.
 ///
 /// If the observer misses a chunk, the device is no longer used: a write fails before it reaches the device, and so
 /// does every read after the current one.
@@ -15,7 +15,7 @@ use zvt_io::{Failed, GhostCount, Sink, Source};
 pub struct Observed<D, K> {
     pub device: D,
     pub observer: K,
-    /// Who sends the bytes that go through it.
+    /// The side that sends the bytes.
     pub from: Direction,
     /// Whether the observer has missed a chunk.
     pub broken: bool,
@@ -23,7 +23,7 @@ pub struct Observed<D, K> {
 }
 
 impl<D, K> Observed<D, K> {
-    /// This device, whose bytes come from this side, with its observer.
+    /// Gives the device an observer. Its bytes come from this side.
     pub fn new(from: Direction, device: D, observer: K) -> Observed<D, K>
         ensures device { result.device ≡ device }
         ensures observer { result.observer ≡ observer }

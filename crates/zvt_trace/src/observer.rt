@@ -1,4 +1,4 @@
-//! Observers of what passes on a line.
+//! Observers of the chunks that pass on a line.
 ghost use Rattle.std.specs.Prelude.{ℕ, List, MatchResult};
 ghost use Rattle.zvt_trace.specs.declared.direction.Direction.{Direction};
 ghost use Rattle.zvt_trace.specs.declared.listener.ListenerError.{ListenerError};
@@ -7,12 +7,12 @@ use crate::both::Both;
 use crate::direction::Direction;
 use crate::listener::ListenerError;
 
-/// Observes what passes on a line, chunk by chunk.
+/// Observes the chunks that pass on a line.
 pub trait Observer {
-    /// Observing this chunk, an observer becomes that.
+    /// Observing the chunk from this side turns the first state into the second.
     ghost observes: { Self → Direction → List ℕ → Self → Type 0 };
 
-    /// What an observer becomes that misses this chunk.
+    /// Missing the chunk from this side, for this reason, turns the first state into the second.
     ghost misses: { Self → Direction → List ℕ → ListenerError → Self → Type 0 };
 
     /// Observes a chunk that this side sent.

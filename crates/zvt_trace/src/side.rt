@@ -12,14 +12,14 @@ use std::alloc::Global;
 use zvt_grammar::Lengths;
 use zvt_stream::{Head, Stream};
 
-/// The first bytes of a message, as far as they have come: those that announce its size.
+/// The first bytes of a message, at most five: they announce its size.
 #[derive(Drop)]
 pub(crate) struct Opening {
     first: ArrayVec<u8, 5>,
 }
 
 impl Opening {
-    /// No message has begun.
+    /// Creates the opening of a message that has not begun.
     #[inline(always)]
     pub(crate) fn nothing() -> Opening
         ensures { IsOpening result [] }
@@ -29,7 +29,7 @@ impl Opening {
         }
     }
 
-    /// These bytes of the message come next.
+    /// Adds the next bytes of the message.
     #[inline(always)]
     pub(crate) fn add(&mut self, bytes: &[u8])
         ensures { (held : List ℕ) → IsOpening self.old held → IsOpening self.new (held ++ bytes.now) }
@@ -44,7 +44,7 @@ impl Opening {
         let _ = self.first.try_extend_from_slice(&bytes[..count]);
     }
 
-    /// The control bytes of the message, as far as they have come.
+    /// Returns the control bytes of the message, as far as they have arrived.
     pub(crate) fn head(&self) -> Head
         ensures { (held : List ℕ) → IsOpening self.now held → result ≡ head_of held }
     {
@@ -52,7 +52,7 @@ impl Opening {
         head
     }
 
-    /// The size of the whole message, where enough of it has come.
+    /// Returns the size of the whole message, once enough of it has arrived.
     fn announced(&self) -> Option<usize>
         ensures { (held : List ℕ) → IsOpening self.now held → result ≡ announced held }
     {
@@ -68,16 +68,16 @@ impl Opening {
 /// The part of a side that is not read.
 #[derive(Clone, Copy, PartialEq, Eq)]
 pub(crate) enum Skipped {
-    /// All is read.
+    /// Everything is read.
     Nothing,
     /// The last `left` bytes of a refused message of `size` bytes.
     Rest { size: usize, left: usize },
-    /// All that comes until the connection is lost.
+    /// Everything until the connection is lost.
     Everything,
 }
 
 impl Skipped {
-    /// What is skipped after a refusal at that place, where the message announces that size.
+    /// Returns what to skip after a refusal at this place of a message with this announced size.
     fn after(scope: Scope, size: Option<usize>, place: usize) -> Skipped
         ensures { result ≡ skipped_by (size_by scope place size) (suc place) }
     {
@@ -94,8 +94,7 @@ impl Skipped {
     }
 }
 
-/// The reader of one side of the line: its stream, the first bytes of the message that it holds, and the part that it
-/// skips.
+/// The reader of one side of the line: its stream, the first bytes of the unfinished message, and what to skip.
 #[derive(Drop)]
 pub(crate) struct SideReader {
     pub(crate) stream: Stream,
@@ -104,7 +103,7 @@ pub(crate) struct SideReader {
 }
 
 impl SideReader {
-    /// A side of which nothing has come.
+    /// Creates the reader of a side that has sent nothing.
     pub(crate) fn new(alloc: Global, lengths: Lengths) -> SideReader
         ensures follows { Follows (reading_of lengths) result (running []) }
         ensures reading { ReadsBy (reading_of lengths) result }
@@ -116,7 +115,7 @@ impl SideReader {
         }
     }
 
-    /// Whether all that comes next is read.
+    /// Whether the next bytes are read.
     #[inline(always)]
     pub(crate) fn reads(&self) -> bool
         ensures { result ≡ is_nothing self.now.skipped }
@@ -124,7 +123,7 @@ impl SideReader {
         self.skipped == Skipped::Nothing
     }
 
-    /// Whether nothing more is read.
+    /// Whether nothing is read until the connection is lost.
     #[inline(always)]
     pub(crate) fn has_stopped(&self) -> bool
         ensures { result ≡ is_everything self.now.skipped }
@@ -132,8 +131,8 @@ impl SideReader {
         self.skipped == Skipped::Everything
     }
 
-    /// Begins to skip as the scope demands, after a refusal at this index of the message, whose last part these bytes
-    /// are.
+    /// Starts skipping as the scope demands, after a refusal at byte `place` of the message. `bytes` is the part of the
+    /// message that arrived last.
     #[cold]
     #[inline(never)]
     pub(crate) fn refuse(&mut self, scope: Scope, bytes: &[u8], place: usize)
@@ -146,7 +145,7 @@ impl SideReader {
         self.skipped = Skipped::after(scope, self.opening.announced(), place);
     }
 
-    /// Skips the bytes that are to be skipped and returns the rest.
+    /// Skips bytes, as far as they are to be skipped, and returns the rest.
     #[cold]
     #[inline(never)]
     pub(crate) fn skip<'b>(&mut self, bytes: &'b [u8]) -> &'b [u8]

@@ -1,4 +1,4 @@
-//! Bytes that are spelled in hexadecimal text with spaces.
+//! Bytes spelled as hexadecimal text with spaces.
 ghost use Rattle.std.specs.Prelude.{◌≡◌, ◌≢◌, ◌*◌, ◌+◌, ◌++◌, ◌<◌, ◌≤◌, ℕ, List, length, slice_index, take, false};
 ghost use Rattle.std.specs.Prelude.{true, IfOk, IfSome, IsErr, MatchOption, None, Ok};
 ghost use Rattle.hex.specs.Hex.{decode_of};
@@ -42,7 +42,7 @@ pub(crate) fn read<'t>(text: &'t [u8], buffer: &mut [u8]) -> Option<(usize, &'t 
     Some((count, rest))
 }
 
-/// The bytes that the text spells, or `None` where it spells none.
+/// Returns the bytes that the text spells, or `None` if it is not hexadecimal.
 pub fn spelled_bytes(alloc: Global, text: &[u8]) -> Result<Option<Vec<u8>>, AllocError>
     ensures { IfOk result (λ found. MatchOption found (IsErr (decode_of (without_spaces text.now)))
         (λ bytes. decode_of (without_spaces text.now) ≡ Ok bytes.items)) }
@@ -78,7 +78,7 @@ pub(crate) fn is_spelled(text: &[u8]) -> bool
     true
 }
 
-/// Whether the text is digits alone. No byte ends the search, so that the compiler can look at many at once.
+/// Whether the text has only digits. The loop never ends early, so the compiler can look at many bytes at once.
 fn are_digits(text: &[u8]) -> bool
     ensures { result ≡ true → AreHex text.now }
 {
@@ -89,8 +89,8 @@ fn are_digits(text: &[u8]) -> bool
     all
 }
 
-/// Reads the first pairs of digits, up to a space or until the buffer is full. So a line without spaces is read with no
-/// test for them.
+/// Reads the first pairs of digits, up to a space or until the buffer is full. A line without spaces costs no test for
+/// spaces.
 #[inline(always)]
 pub(crate) fn read_pairs(text: &[u8], buffer: &mut [u8]) -> usize
     ensures few { (2 * result ≤ length text.now) × (result ≤ length buffer.new) }
@@ -111,7 +111,7 @@ pub(crate) fn read_pairs(text: &[u8], buffer: &mut [u8]) -> usize
     count
 }
 
-/// The text from its first byte that is no space.
+/// Returns the text after its leading spaces.
 #[inline(always)]
 fn skip_spaces(text: &[u8]) -> &[u8]
     ensures same { without_spaces result.now ≡ without_spaces text.now }
@@ -142,10 +142,10 @@ fn value(digit: u8) -> u32
     VALUES[digit as usize]
 }
 
-/// More than a byte.
+/// The value of a character that is not a digit: more than any byte.
 const NONE: u32 = 256;
 
-/// The value of each digit, and [`NONE`] for what is none.
+/// The value of each digit, and [`NONE`] for every other character.
 static VALUES: [u32; 256] = [
     NONE, NONE, NONE, NONE, NONE, NONE, NONE, NONE, NONE, NONE, NONE, NONE, NONE, NONE, NONE, NONE,
     NONE, NONE, NONE, NONE, NONE, NONE, NONE, NONE, NONE, NONE, NONE, NONE, NONE, NONE, NONE, NONE,

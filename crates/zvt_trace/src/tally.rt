@@ -1,9 +1,9 @@
-//! Counts what is heard.
+//! A listener that counts.
 use crate::event::TraceEvent;
 use crate::fault::Tally;
 use crate::listener::{Listener, ListenerError};
 
-/// Each count stops at its greatest number. It never fails.
+/// Each count saturates. A tally never fails.
 impl Listener for Tally {
     ghost use Rattle.std.specs.Prelude.{◌≡◌};
     ghost use Rattle.zvt_trace.specs.Pairs.{counted};

@@ -62,7 +62,7 @@ pub(crate) struct Progress {
 }
 
 impl Progress {
-    /// No line was read.
+    /// Creates the state before the first line.
     pub(crate) fn new(alloc: Global, scope: Scope, lengths: Lengths) -> Progress
         ensures walked { HasWalked (reading_of lengths) scope [] [] result }
         ensures sound { IsSound result }
@@ -83,14 +83,14 @@ impl Progress {
         }
     }
 
-    /// How many bytes the lines took.
+    /// Returns the size of all lines, in bytes.
     pub(crate) fn size(&self) -> u64
         ensures { result ≡ self.now.size }
     {
         self.size
     }
 
-    /// Emits all that the lines of this text say to the listener.
+    /// Emits the events of all lines of the text.
     pub(crate) fn read_lines<L: Listener>(
         &mut self,
         listener: &mut L,
@@ -134,7 +134,7 @@ impl Progress {
         Ok(())
     }
 
-    /// Emits what a line says that spells these bytes of a side.
+    /// Emits the events of the line that spells these bytes of a side.
     pub(crate) fn take<L: Listener>(
         &mut self,
         listener: &mut L,
@@ -169,7 +169,7 @@ impl Progress {
         Ok(())
     }
 
-    /// Emits what is cut off at the end of the trace, and answers the tally.
+    /// Emits the messages that the end of the trace cuts off, and returns the tally.
     pub(crate) fn finish<L: Listener>(self, listener: &mut L) -> Result<Tally, TraceFault>
         requires sound { IsSound self }
         ensures { (before : List (List ℕ)) (earlier : List At) → HasWalked (reading_by self) (scope_of self) before
@@ -185,7 +185,7 @@ impl Progress {
     }
 }
 
-/// Emits the events of the first line of the text, and returns the text behind it. The line may have any form.
+/// Emits the events of the first line of the text, in any form, and returns the rest of the text.
 #[inline(never)]
 fn emit_other<'t, L: Listener>(
     listener: &mut L,
@@ -209,7 +209,7 @@ fn emit_other<'t, L: Listener>(
     Ok(after)
 }
 
-/// Emits the events of the line with this number, if it could be read.
+/// Emits the events of the line with this number, or returns its fault.
 fn emit_line<L: Listener>(
     listener: &mut L,
     options: &WalkOptions,
@@ -234,7 +234,7 @@ fn emit_line<L: Listener>(
     Ok(())
 }
 
-/// Both sides of the line. Once a refusal has left both sides unread, neither is fed.
+/// Both sides of the line. After a refusal that stops both, neither is fed.
 #[derive(Drop)]
 pub(crate) struct BothSides {
     till: SideReader,
@@ -243,7 +243,7 @@ pub(crate) struct BothSides {
 }
 
 impl BothSides {
-    /// Both sides of a new line.
+    /// Creates both sides of a new line.
     pub(crate) fn new(alloc: Global, lengths: Lengths) -> BothSides
         ensures follows { FollowBoth (reading_of lengths) result new_line }
         ensures reading { TakeBy (reading_of lengths) result }
@@ -255,7 +255,7 @@ impl BothSides {
         }
     }
 
-    /// The reader of this side.
+    /// Returns the reader of this side.
     #[inline(always)]
     fn side(&mut self, from: Direction) -> &mut SideReader
         ensures* writes_back { sem 𝓛 (LendsSide self.entry from result) }
@@ -267,7 +267,7 @@ impl BothSides {
         }
     }
 
-    /// Emits the events of the line of that number.
+    /// Emits the events of the line with this number.
     fn emit<L: Listener>(
         &mut self,
         listener: &mut L,
@@ -296,7 +296,7 @@ impl BothSides {
         }
     }
 
-    /// Emits which messages are cut off where the connection is lost, and that it is. Both sides begin anew.
+    /// Emits the messages that the loss of the connection cuts off, and then the loss. Both sides start afresh.
     pub(crate) fn lose<L: Listener>(
         &mut self,
         listener: &mut L,
@@ -347,7 +347,7 @@ impl BothSides {
         Ok(())
     }
 
-    /// Emits which messages are cut off where the line ends.
+    /// Emits the messages that the end of the line cuts off.
     pub(crate) fn emit_end<L: Listener>(
         &self,
         listener: &mut L,

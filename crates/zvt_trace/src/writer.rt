@@ -1,4 +1,4 @@
-//! Traces that are written while a line goes on.
+//! Writes the trace of a running line.
 ghost use Rattle.std.specs.Prelude.{◌≡◌, ◌++◌, ◌∷◌, [], codes, IfOk, OnOk};
 ghost use Rattle.zvt_io.specs.Devices.{CountsFailure, Writes};
 ghost use Rattle.zvt_trace.specs.Lines.{piece_text};
@@ -16,7 +16,7 @@ const MAX_LINE: usize = 2 + 2 * 4_096 + 1;
 
 /// Writes a trace to a device: a line for each chunk that it observes.
 ///
-/// It has all memory from the start for chunks of at most 4,096 bytes, and asks for more only for a longer one.
+/// It allocates once, for chunks of at most 4,096 bytes, and again only for a longer one.
 #[derive(Drop)]
 pub struct TraceWriter<T> {
     pub device: T,
@@ -25,7 +25,7 @@ pub struct TraceWriter<T> {
 }
 
 impl<T: Drop> TraceWriter<T> {
-    /// Writes behind what this device has.
+    /// Creates a writer that appends to this device.
     pub fn new(alloc: Global, device: T) -> Result<TraceWriter<T>, AllocError>
         ensures { IfOk result (λ writer. writer.device ≡ device) }
     {
@@ -49,7 +49,7 @@ impl<T: Sink> Observer for TraceWriter<T> {
     }
 }
 
-/// Makes the line of a chunk in this buffer.
+/// Writes the line of a chunk into the buffer.
 fn spell_piece(text: &mut Text, from: Direction, bytes: &[u8]) -> Result<(), AllocError>
     ensures { OnOk result (text.new ≡ piece_text from bytes.now) }
 {
@@ -58,7 +58,7 @@ fn spell_piece(text: &mut Text, from: Direction, bytes: &[u8]) -> Result<(), All
     line(text, b" ", bytes)
 }
 
-/// Writes to the trace that the connection has ended.
+/// Records the end of the connection.
 pub fn end_trace<T: Sink>(trace: &mut T) -> Result<(), Failed>
     ensures bytes { Writes (T.written trace.old) (T.written trace.new) result (codes "!" ++ 10 ∷ []) }
     ensures failures { CountsFailure (T.failures trace.old) (T.failures trace.new) result }

@@ -1,4 +1,4 @@
-//! How much a trace has.
+//! Counts the events of a trace.
 ghost use Rattle.std.specs.Prelude.{◌≡◌, ◌++◌, OnOk};
 ghost use Rattle.zvt_trace.specs.TraceEvent.{event_of};
 ghost use Rattle.zvt_show.specs.Notes.{streams_text, summary_text};
@@ -9,7 +9,7 @@ use std::alloc::AllocError;
 use zvt_text::Text;
 use zvt_trace::TraceEvent;
 
-/// How many messages came, and how many streams were refused and cut off.
+/// The number of messages, and of streams that were refused and cut off.
 #[derive(Clone, Copy)]
 pub(crate) struct Counts {
     messages: u64,
@@ -18,7 +18,7 @@ pub(crate) struct Counts {
 }
 
 impl Counts {
-    /// Nothing was counted.
+    /// Starts at zero.
     pub(crate) fn none() -> Counts
         ensures { (result.messages ≡ 0) × (result.refused ≡ 0) × (result.cut_off ≡ 0) }
     {
@@ -41,7 +41,7 @@ impl Counts {
         }
     }
 
-    /// Says how many there are of each, where some stream was bad.
+    /// Adds the counts, if a stream was bad.
     pub(crate) fn put(&self, text: &mut Text) -> Result<(), AllocError>
         ensures { OnOk result (text.new ≡ text.old ++ summary_text self.now.messages self.now.refused
             self.now.cut_off) }
@@ -62,7 +62,7 @@ impl Counts {
     }
 }
 
-/// How many streams were bad, one at least.
+/// Adds the numbers of refused and cut-off streams. At least one of them is not zero.
 fn put_streams(text: &mut Text, refused: u64, cut_off: u64) -> Result<(), AllocError>
     ensures { OnOk result (text.new ≡ text.old ++ streams_text refused cut_off) }
 {

@@ -14,15 +14,15 @@ pub enum Hint {
     Capture,
     /// The line begins with a byte order mark.
     Mark,
-    /// The trace is a journal, and the line is what a crash left of a record.
+    /// The trace is a journal, and the line is the rest of a record that a crash cut.
     Unfinished,
-    /// The character can't be in that column, counted from 1.
+    /// The character in this column, counted from 1, is not allowed there.
     Character {
         column: usize,
         byte: u8,
         reason: Reason,
     },
-    /// A digit is missing in that column, counted from 1.
+    /// A digit is missing in this column, counted from 1.
     HalfByte {
         column: usize,
     },
@@ -37,7 +37,7 @@ pub enum Reason {
     Prefix,
     /// A colon or a dash between bytes.
     Separator,
-    /// None that is known.
+    /// No known origin.
     Plain,
 }
 
@@ -59,7 +59,7 @@ pub fn hint_on(trace: &[u8], number: u64) -> Option<Hint>
     None
 }
 
-/// Why the line of that trace can't be read.
+/// Returns why the line of the trace can't be read.
 fn hint_of(trace: &[u8], line: &[u8]) -> Option<Hint>
     ensures { result ≡ hint_of trace.now line.now }
 {
@@ -75,7 +75,7 @@ fn hint_of(trace: &[u8], line: &[u8]) -> Option<Hint>
     line_hint(line)
 }
 
-/// Whether the trace begins as a capture does.
+/// Whether the trace starts like a capture.
 fn is_capture(trace: &[u8]) -> bool
     ensures { result ≡ is_capture trace.now }
 {
@@ -94,14 +94,14 @@ fn is_marked(line: &[u8]) -> bool
         || line.starts_with(&[0xFE, 0xFF])
 }
 
-/// Whether the trace begins as a journal does, and the line with a space, as what a crash leaves of a record.
+/// Whether the trace starts like a journal, and the line with a space, like the rest of a record after a crash.
 fn is_unfinished(trace: &[u8], line: &[u8]) -> bool
     ensures { result ≡ is_unfinished trace.now line.now }
 {
     trace.starts_with(b"# zvt journal 1") && line.starts_with(b" ")
 }
 
-/// Why the line can't be read, by itself.
+/// Returns why the line can't be read, from the line alone.
 fn line_hint(line: &[u8]) -> Option<Hint>
     ensures { result ≡ line_hint line.now }
 {
@@ -113,7 +113,7 @@ fn line_hint(line: &[u8]) -> Option<Hint>
     }
 }
 
-/// Why the text after a direction can't be read.
+/// Returns why the text after a direction can't be read.
 fn piece_hint(text: &[u8]) -> Option<Hint>
     ensures { result ≡ piece_hint text.now }
 {
@@ -132,7 +132,7 @@ fn piece_hint(text: &[u8]) -> Option<Hint>
     }
 }
 
-/// Where the first character stands that is no hexadecimal digit and no space.
+/// Returns the place of the first character that is neither a hexadecimal digit nor a space.
 fn strange(text: &[u8]) -> Option<usize>
     ensures place { result ≡ position is_strange text.now }
     ensures within { IfSome result (λ at. at < length text.now) }
@@ -140,21 +140,21 @@ fn strange(text: &[u8]) -> Option<usize>
     text.iter().position(|byte| is_strange(*byte))
 }
 
-/// How many of the characters are no spaces.
+/// Returns the number of characters that are not spaces.
 fn digits(text: &[u8]) -> usize
     ensures { result ≡ count_by is_no_space text.now }
 {
     text.iter().filter(|byte| **byte != b' ').count()
 }
 
-/// Whether the character is no hexadecimal digit and no space.
+/// Whether the character is neither a hexadecimal digit nor a space.
 fn is_strange(byte: u8) -> bool
     ensures { result ≡ is_strange byte }
 {
     !byte.is_ascii_hexdigit() && byte != b' '
 }
 
-/// The hint of a character in that column, after another.
+/// Returns the hint for a character in this column, after another character.
 fn hint_at(column: usize, before: u8, byte: u8) -> Hint
     ensures { Some result ≡ hint_at column before byte }
 {
@@ -227,7 +227,7 @@ impl fmt::Display for Reason {
     }
 }
 
-/// A character as it is said.
+/// A character as a message shows it: itself, or its code.
 #[derive(Clone, Copy)]
 struct Shown(u8);
 

@@ -1,4 +1,4 @@
-//! The note of one thing that is bad.
+//! The note of one bad stream.
 ghost use Rattle.std.specs.Prelude.{◌≡◌, ◌++◌, OnOk};
 ghost use Rattle.zvt_trace.specs.TraceEvent.{event_of};
 ghost use Rattle.zvt_show.specs.Notes.{begun_text, control_part, cut_off_note, head_name, line_text, place_text};
@@ -10,7 +10,7 @@ use zvt_grammar::Why;
 use zvt_text::{Text, hexadecimal, kind_name};
 use zvt_trace::{Direction, Head, Refusal, TraceEvent};
 
-/// Says where a stream was refused or cut off, in which message, and why. Of all else nothing is said.
+/// Adds where a stream was refused or cut off, in which message, and why. Adds nothing for another event.
 pub(crate) fn put(
     text: &mut Text,
     line: u64,
@@ -28,7 +28,7 @@ pub(crate) fn put(
     }
 }
 
-/// Says where no message can go on.
+/// Adds where and why a message was refused.
 fn put_refused(
     text: &mut Text,
     line: u64,
@@ -43,7 +43,7 @@ fn put_refused(
     put_reason(text, refusal.why)
 }
 
-/// The place of the fatal byte, and this byte.
+/// Adds the place of the fatal byte, and the byte.
 fn put_place(text: &mut Text, place: usize, byte: u8) -> Result<(), AllocError>
     ensures { OnOk result (text.new ≡ text.old ++ place_text place byte) }
 {
@@ -53,7 +53,7 @@ fn put_place(text: &mut Text, place: usize, byte: u8) -> Result<(), AllocError>
     hexadecimal(text, &[byte])
 }
 
-/// The reason, and the end of the line.
+/// Adds the reason, and ends the line.
 fn put_reason(text: &mut Text, why: Why) -> Result<(), AllocError>
     ensures { OnOk result (text.new ≡ text.old ++ reason_text why) }
 {
@@ -62,7 +62,7 @@ fn put_reason(text: &mut Text, why: Why) -> Result<(), AllocError>
     text.push(b'\n')
 }
 
-/// Says where a message ends too early.
+/// Adds where a message was cut off.
 fn put_cut_off(
     text: &mut Text,
     line: u64,
@@ -78,7 +78,7 @@ fn put_cut_off(
     text.push(b'\n')
 }
 
-/// The line of the trace.
+/// Adds the number of the line.
 fn put_line(text: &mut Text, line: u64) -> Result<(), AllocError>
     ensures { OnOk result (text.new ≡ text.old ++ line_text line) }
 {
@@ -87,7 +87,7 @@ fn put_line(text: &mut Text, line: u64) -> Result<(), AllocError>
     text.word(b" of the trace: ")
 }
 
-/// The line of the trace, who sends, and the message that had begun.
+/// Adds the number of the line, the sender, and the incomplete message.
 fn put_begun(text: &mut Text, line: u64, from: Direction, head: Head) -> Result<(), AllocError>
     ensures { OnOk result (text.new ≡ text.old ++ begun_text line from head) }
 {
@@ -97,7 +97,7 @@ fn put_begun(text: &mut Text, line: u64, from: Direction, head: Head) -> Result<
     put_name(text, head)
 }
 
-/// The name of the message with these control bytes.
+/// Adds the name of the message with these control bytes.
 fn put_name(text: &mut Text, head: Head) -> Result<(), AllocError>
     ensures { OnOk result (text.new ≡ text.old ++ head_name head) }
 {
@@ -115,7 +115,7 @@ fn put_name(text: &mut Text, head: Head) -> Result<(), AllocError>
     }
 }
 
-/// The control bytes of a message that has no name of its own.
+/// Adds the control bytes of a message without a name.
 fn put_control(text: &mut Text, kind: Kind, high: u8, low: u8) -> Result<(), AllocError>
     ensures { OnOk result (text.new ≡ text.old ++ control_part kind high low) }
 {

@@ -21,7 +21,7 @@ pub(crate) struct Notes {
 }
 
 impl Notes {
-    /// The notes of no event.
+    /// Creates notes without an event.
     pub(crate) fn new(alloc: Global, scope: Scope) -> Notes
         ensures scope { result.scope ≡ scope }
         ensures text { result.text ≡ [] }
@@ -36,7 +36,7 @@ impl Notes {
         }
     }
 
-    /// Says what was not read up to the end of the trace, and how much there was.
+    /// Adds what was not read up to the end of the trace, and the counts.
     pub(crate) fn close(&mut self) -> Result<(), AllocError>
         ensures { (events : List At) → CountsAfter self.old.scope self.old.trailing events
             → OnOk result (self.new.text ≡ self.old.text ++ unread_of self.old.scope events ++ summary_text

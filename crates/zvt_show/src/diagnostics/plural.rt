@@ -5,7 +5,7 @@ ghost use Rattle.zvt_show.specs.Notes.{counted};
 use std::alloc::AllocError;
 use zvt_text::Text;
 
-/// That many of what the word names, as `1 line` or `2 lines`.
+/// Adds a count with its noun, as `1 line` or `2 lines`.
 pub(crate) fn put_many(text: &mut Text, count: u64, word: &[u8]) -> Result<(), AllocError>
     ensures { OnOk result (text.new ≡ text.old ++ counted count word.now) }
 {

@@ -10,7 +10,7 @@ use std::alloc::AllocError;
 use zvt_text::Text;
 use zvt_trace::{Direction, Scope};
 
-/// How many lines of a trace were not read, and the last of them.
+/// The number of lines of a trace that were not read, and the last such line.
 #[derive(Clone, Copy)]
 pub(crate) struct Unread {
     pub(crate) count: u64,
@@ -18,14 +18,14 @@ pub(crate) struct Unread {
 }
 
 impl Unread {
-    /// All were read.
+    /// Starts with every line read.
     fn none() -> Unread
         ensures { (result.count ≡ 0) × (result.last ≡ 0) }
     {
         Unread { count: 0, last: 0 }
     }
 
-    /// That line was not read.
+    /// Records a line that was not read.
     fn add(&mut self, line: u64)
         ensures { self.new ≡ one_more self.old line }
     {
@@ -33,7 +33,7 @@ impl Unread {
         self.last = line;
     }
 
-    /// Says how many were not read.
+    /// Adds how many lines were not read.
     fn put(&self, text: &mut Text, scope: Scope, side: Direction) -> Result<(), AllocError>
         ensures { OnOk result (text.new ≡ text.old ++ unread_note scope side self.now.count self.now.last) }
     {
@@ -45,7 +45,7 @@ impl Unread {
     }
 }
 
-/// How many lines were not read.
+/// Adds the number of lines, and the side if the other one is still read.
 fn put_count(text: &mut Text, count: u64, scope: Scope, side: Direction) -> Result<(), AllocError>
     ensures { OnOk result (text.new ≡ text.old ++ unread_count scope side count) }
 {
@@ -54,7 +54,7 @@ fn put_count(text: &mut Text, count: u64, scope: Scope, side: Direction) -> Resu
     put_mark(text, scope, side)
 }
 
-/// The last of them.
+/// Adds the last line.
 fn put_last(text: &mut Text, last: u64) -> Result<(), AllocError>
     ensures { OnOk result (text.new ≡ text.old ++ last_text last) }
 {
@@ -63,7 +63,7 @@ fn put_last(text: &mut Text, last: u64) -> Result<(), AllocError>
     text.push(b'\n')
 }
 
-/// The side, where the other one is read on.
+/// Adds the side, if the other one is still read.
 fn put_mark(text: &mut Text, scope: Scope, side: Direction) -> Result<(), AllocError>
     ensures { OnOk result (text.new ≡ text.old ++ side_mark scope side) }
 {
@@ -84,7 +84,7 @@ pub(crate) struct SkippedLines {
 }
 
 impl SkippedLines {
-    /// All was read.
+    /// Starts with every line of both sides read.
     pub(crate) fn nothing() -> SkippedLines
         ensures { (scope : _) → CountsAfter scope result [] }
     {
@@ -94,7 +94,7 @@ impl SkippedLines {
         }
     }
 
-    /// A piece in that line was not read.
+    /// Records a piece that was not read.
     pub(crate) fn add(&mut self, scope: Scope, line: u64, from: Direction)
         ensures { (events : List At) → CountsAfter scope self.old events → CountsAfter scope self.new
             (events ++ on line (trace_event.unread from) ∷ []) }
@@ -105,7 +105,7 @@ impl SkippedLines {
         }
     }
 
-    /// Says what was not read, of the till before the terminal.
+    /// Adds what was not read, first of the till and then of the terminal.
     pub(crate) fn put(&self, text: &mut Text, scope: Scope) -> Result<(), AllocError>
         ensures { (events : List At) → CountsAfter scope self.now events
             → OnOk result (text.new ≡ text.old ++ unread_of scope events) }
@@ -115,7 +115,7 @@ impl SkippedLines {
     }
 }
 
-/// The side for which a piece that is not read is counted.
+/// Returns the side for which an unread piece is counted.
 fn counted_side(scope: Scope, from: Direction) -> Direction
     ensures { result ≡ counted_side scope from }
 {

@@ -12,12 +12,12 @@ use zvt_io::Sink;
 use zvt_text::Text;
 use zvt_trace::{ListenerError, Scope, Tally, TraceFault, walk};
 
-/// Writes a line for each stream that was refused or cut off. It has the line of the trace, the sender, the name of the
-/// incomplete message, and the place in it. Of a refusal it has the fatal byte and the reason. It has no other byte of
-/// the message, since a card number may be there.
+/// Writes a line for each stream that was refused or cut off: the line of the trace, the sender, the name of the
+/// incomplete message, and the place in it. For a refusal it adds the fatal byte and the reason. It writes no other byte
+/// of the message, which may contain a card number.
 ///
-/// Another line says how many lines were not read after them, up to the next lost connection or to the end. The last
-/// line has the numbers of messages and bad streams. Writes nothing if no stream is bad.
+/// Another line says how many lines were not read after that, up to the next lost connection or the end. The last line
+/// has the numbers of messages and bad streams. Writes nothing if no stream is bad.
 ///
 /// The streams accept lengths in this form. If a line can't be read, the notes cover the lines before it. Writes the
 /// text once, at the end.
@@ -41,7 +41,7 @@ pub fn write_notes<W: Sink>(
     Ok(())
 }
 
-/// The fault of notes for which there is no memory. Each other end of a walk leaves the notes of the events before.
+/// Returns the fault of the walk if it was out of memory. After every other end, the notes of the events before stand.
 fn has_memory(answer: &Result<Tally, TraceFault>) -> Result<(), ListenerError>
     ensures had { OnOk result (answer.now ≢ Err TraceFault.Memory) }
     ensures fault { IfErr result (λ failure. failure ≡ ListenerError.Memory) }
