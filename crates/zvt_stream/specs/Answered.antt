@@ -2,7 +2,7 @@
 use Rattle.std.specs.Prelude.{ℕ, Bool, List, nat_lt}
 use Rattle.std.specs.List.{list_any, flat_map}
 
--- Their bytes, one message after another, and how many messages.
+-- The bytes of all messages, one after another, and the number of messages.
 pub record Answered : Type 0 where
   pub bytes : List ℕ
   pub count : ℕ

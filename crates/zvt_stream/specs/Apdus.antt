@@ -1,4 +1,4 @@
--- What all grammars share, said of messages: of a reading of lengths, and of their one spelling.
+-- The notions that all grammars share, for messages: by a reading of lengths, and for their one spelling.
 use Rattle.std.specs.Prelude.{ℕ, List}
 use Rattle.zvt_grammar.specs.declared.why.Why.{Why}
 use Rattle.zvt_grammar.specs.Reading.{Reading, shortest}
@@ -24,7 +24,7 @@ UnfinishedIn r = beginnings.Unfinished (grammar.Spells r)
 abbrev pub PlaceIn : Reading → List ℕ → (place : ℕ) → Type 0
 PlaceIn r = beginnings.Place (grammar.Spells r)
 
--- No message is a prefix of the bytes, and the first byte after which none can follow is at the place, for that reason.
+-- No message is a prefix of the bytes, and the first byte after which none can follow is at this place, for this reason.
 abbrev pub IsRefusedIn : Reading → List ℕ → (place : ℕ) → Why → Type 0
 IsRefusedIn r bytes place why = NoneWholeIn r bytes × PlaceIn r bytes place × WhyOf r bytes place why
 

@@ -8,7 +8,7 @@ use Rattle.zvt_stream.specs.StreamState.{StreamState, Holds}
 use Rattle.zvt_stream.specs.Feeds.{Feeds}
 use Rattle.zvt_stream.specs.declared.stream.Fed.TheVariants as fed
 
--- A piece is fed, and after each message what follows it, until all of it is taken.
+-- A piece is fed, and after each message the rest of it, until all of it is taken.
 abbrev pub FedWhole : StreamState → List ℕ → List Message → StreamState → Type 0
 FedWhole old piece [] new = Feeds old piece fed.More new
 FedWhole old piece (message ∷ messages) new = (taken : ℕ) × (middle : StreamState) × Feeds old piece (fed.Message message taken) middle × FedWhole middle (drop taken piece) messages new
@@ -22,11 +22,11 @@ FedPieces old (piece ∷ pieces) messages new = (here : List Message) × (later 
 abbrev pub AnyCutting : Type 0
 AnyCutting = (start : StreamState) (pieces : List (List ℕ)) (messages : List Message) (new : StreamState) → Holds [] start → FedPieces start pieces messages new → CutIn start.reading (concat pieces) messages new.held
 
--- A piece is fed, and after each message what follows it, until bytes are refused.
+-- A piece is fed, and after each message the rest of it, until bytes are refused.
 abbrev pub FedRefused : StreamState → List ℕ → List Message → ℕ → Why → Type 0
 FedRefused old piece [] place why = (new : StreamState) × Feeds old piece (fed.Refused place why) new
 FedRefused old piece (message ∷ messages) place why = (taken : ℕ) × (middle : StreamState) × Feeds old piece (fed.Message message taken) middle × FedRefused middle (drop taken piece) messages place why
 
--- However a line is cut into pieces, what is refused is the rest of its bytes.
+-- However a line is cut into pieces, the bytes after its last message are refused.
 abbrev pub AnyRefusal : Type 0
 AnyRefusal = (start : StreamState) (pieces : List (List ℕ)) (piece : List ℕ) (messages more : List Message) (new : StreamState) (place : ℕ) (why : Why) → Holds [] start → FedPieces start pieces messages new → FedRefused new piece more place why → (rest : List ℕ) × CutIn start.reading (concat pieces ++ piece) (messages ++ more) rest × IsRefusedIn start.reading rest place why

@@ -1,5 +1,5 @@
--- What a judge knows of the bytes that it judged: the part that the next byte plays, how many bytes of the innermost
--- level are to come, and for each level around it how many are to come after the level in it.
+-- The position of a judge: the role of the next byte, the number of bytes missing in the innermost level, and for each
+-- level around it the number missing after the level inside.
 use Rattle.std.specs.Prelude.{◌≡◌, ◌≢◌, ℕ, ◌+◌, ◌-◌, ◌<◌, ◌≤◌, suc, zero, Bool, true, false, Some, List, [], ◌∷◌, ◌++◌, length}
 use Rattle.zvt_grammar.specs.Reading.{Reading, AreBytes}
 use Rattle.zvt_tlv.specs.Grammar as tlv
@@ -19,7 +19,7 @@ use Rattle.zvt_apdu.specs.Judging as message
 use Rattle.zvt_stream.specs.Parts.{At}
 use Rattle.zvt_stream.specs.Parts as at
 
--- The length of a message stands, and these bytes of its data.
+-- The length of a message is complete, and these bytes of its data.
 pub record Begun (r : Reading) (n : ℕ) (inside bytes : List ℕ) : Type 0 where
   pub high : ℕ
   pub low : ℕ
@@ -32,7 +32,7 @@ pub record Begun (r : Reading) (n : ℕ) (inside bytes : List ℕ) : Type 0 wher
 abbrev pub layout_in : {r : Reading} {n : ℕ} {inside bytes : List ℕ} → Begun r n inside bytes → Layout
 layout_in {n = n} b = layout_of b.high b.low n
 
--- The whole message stands.
+-- The message is complete.
 pub record IsFull (r : Reading) (bytes : List ℕ) : Type 0 where
   pub n : ℕ
   pub inside : List ℕ
@@ -47,7 +47,7 @@ pub record AtPayload (r : Reading) (left : ℕ) (bytes : List ℕ) : Type 0 wher
   pub no_fields : (layout_in begun).fields ≡ false
   pub filled : length inside + left ≡ n
 
--- Data with fields has begun; that many bytes and then that many of digits are to come before the fields.
+-- Data with fields has begun: this many bytes, and then this many bytes of digits, come before the fields.
 pub record AtHead (r : Reading) (free digits left : ℕ) (bytes : List ℕ) : Type 0 where
   pub n : ℕ
   pub inside : List ℕ
@@ -58,7 +58,7 @@ pub record AtHead (r : Reading) (free digits left : ℕ) (bytes : List ℕ) : Ty
   pub free_first : 0 < free → digits ≡ (layout_in begun).digits
   pub digits_last : digits ≤ (layout_in begun).digits
 
--- The fields have begun: this part of the `room` bytes that they have.
+-- The fields have begun: this part of their `room` bytes.
 pub record Fields (r : Reading) (room : ℕ) (part bytes : List ℕ) : Type 0 where
   pub n : ℕ
   pub head : List ℕ
@@ -105,7 +105,7 @@ depth_of [] = 0
 depth_of (k ∷ []) = 0
 depth_of (k ∷ j ∷ ks) = suc (depth_of (j ∷ ks))
 
--- The innermost level has `room` bytes, and these of them stand. Of the levels around it the innermost comes first.
+-- The innermost level has `room` bytes, of which these have arrived. The levels around it are listed from the inside out.
 abbrev pub Level : Reading → List ℕ → (outer : List ℕ) → (room : ℕ) → (inside : List ℕ) → Type 0
 Level r bytes [] room inside = ⊥
 Level r bytes (k ∷ []) room inside = (k ≡ 0) × Fields r room inside bytes
@@ -138,11 +138,11 @@ pub record AtObject (r : Reading) (left : ℕ) (outer : List ℕ) (bytes : List 
   pub begins : Beginning beginning
   pub filled : length part + left ≡ room
 
--- Nothing of the next item stands.
+-- The next item has not begun.
 abbrev pub IsEmpty : List ℕ → Type 0
 IsEmpty s = s ≡ []
 
--- An item is complete, and `left` bytes of its level are to come.
+-- An item is complete, and `left` bytes of its level are missing.
 abbrev pub Between : Reading → (left : ℕ) → (outer : List ℕ) → (bytes : List ℕ) → Type 0
 Between r left [] bytes = (left ≡ 0) × IsFull r bytes
 Between r left (k ∷ []) bytes = (k ≡ 0) × (left ≢ 1) × AtField r left bytes IsEmpty
@@ -154,11 +154,11 @@ HoldsObjects [] = ⊥
 HoldsObjects (k ∷ []) = ⊥
 HoldsObjects (k ∷ j ∷ ks) = Unit {0}
 
--- A content of which that many bytes are to come fits the level.
+-- A content that lacks this many bytes fits the level.
 abbrev pub HasRoom : (more left : ℕ) → Type 0
 HasRoom more left = (0 < more) × ((over : ℕ) × (left ≡ more + over) × (over ≢ 1))
 
--- The beginning of a field whose content has begun, without the last bytes of it.
+-- The start of a field, with some of its content.
 abbrev pub FieldContent : (digits : Bool) → (more : ℕ) → List ℕ → Type 0
 FieldContent digits more b =
     (bmp : ℕ) × (size : List ℕ) × (part : List ℕ) × (n : ℕ) × (b ≡ bmp ∷ (size ++ part)) × IsHead (shape_of bmp) digits n size × (length part + more ≡ n) × IsContent digits part
@@ -168,19 +168,19 @@ abbrev pub ContainerLength : Reading → LengthAt → List ℕ → Type 0
 ContainerLength r at b =
     (bmp : ℕ) × (size : List ℕ) × (b ≡ bmp ∷ size) × (shape_of bmp ≡ Some Tree) × object.Begins r 0 (role_of_length true at) (0x25 ∷ size)
 
--- The beginning of an object whose content has begun, without the last bytes of it.
+-- The start of an object, with some of its content.
 abbrev pub ObjectContent : Reading → (depth more : ℕ) → List ℕ → Type 0
 ObjectContent r depth more b =
     (tag : List ℕ) × (size : List ℕ) × (part : List ℕ) × (n : ℕ) × (b ≡ tag ++ (size ++ part)) × Tagged depth false tag × IsLength r n size × (length part + more ≡ n) × AreBytes part
 
--- Digits of a length that are to come fit the level, and what they count fits three digits.
+-- The missing digits of a length fit the level, and the length has at most three digits.
 abbrev pub HasDigits : (more before left : ℕ) → Type 0
 HasDigits zero before left = (1 ≤ left) × (before ≤ 99)
 HasDigits (suc zero) before left = (2 ≤ left) × (before ≤ 9)
 HasDigits (suc (suc zero)) before left = (3 ≤ left) × (before ≡ 0)
 HasDigits (suc (suc (suc more))) before left = ⊥
 
--- What the part of the next byte says of the bytes before it.
+-- What the role of the next byte says about the bytes before it.
 abbrev pub Where : Reading → At → (left : ℕ) → (outer : List ℕ) → (bytes : List ℕ) → Type 0
 Where r at.FirstControl left outer b = (outer ≡ []) × (b ≡ [])
 Where r (at.SecondControl high) left outer b = (outer ≡ []) × (b ≡ high ∷ []) × (high < 256)
@@ -198,7 +198,7 @@ Where r (at.Tag at) left outer b = HoldsObjects outer × (2 ≤ left) × AtObjec
 Where r (at.Length nests at) left outer b = HoldsObjects outer × (1 ≤ left) × AtObject r left outer b (object.Begins r (depth_of outer) (role_of_length nests at))
 Where r (at.Object more) left outer b = HoldsObjects outer × HasRoom more left × AtObject r left outer b (ObjectContent r (depth_of outer) more)
 
--- The part of the next byte, in the terms of the grammar.
+-- The role of the next byte, in the terms of the grammar.
 abbrev pub role_of : At → (left depth : ℕ) → message.Role
 role_of at.FirstControl left depth = message.first_control
 role_of (at.SecondControl high) left depth = message.second_control

@@ -1,4 +1,4 @@
--- What a feed answers.
+-- The result of a feed.
 use Rattle.std.specs.Prelude.{◌≡◌, ℕ, suc, ◌-◌, ◌<◌, ◌≤◌, Some, None, List, [], ◌++◌, length, take}
 use Rattle.zvt_apdu.specs.Message as message
 use Rattle.zvt_apdu.specs.Grammar.{Spells}
@@ -15,19 +15,19 @@ Feeds old piece (Message apdu taken) new = (0 < taken) × (taken ≤ length piec
 Feeds old piece More new = UnfinishedIn old.reading (old.held ++ piece) × Holds (old.held ++ piece) new × (new.reading ≡ old.reading)
 Feeds old piece (Refused place why) new = IsRefusedIn old.reading (old.held ++ piece) place why × (length old.held ≤ place) × HasRefused new × (new.reading ≡ old.reading)
 
--- The same, where a message is borrowed.
+-- The same when the message is lent.
 abbrev pub Lends : StreamState → List ℕ → FedView → StreamState → Type 0
 Lends old piece (view.Message taken) new = (apdu : message.Message) × Feeds old piece (Message apdu taken) new × (new.lent ≡ Some apdu)
 Lends old piece view.More new = Feeds old piece More new × (new.lent ≡ None)
 Lends old piece (view.Refused place why) new = Feeds old piece (Refused place why) new × (new.lent ≡ None)
 
--- How many bytes of the piece are taken: of a refused one those up to and with the fatal byte.
+-- The number of bytes taken from the piece. A refused piece is taken up to and including the fatal byte.
 abbrev pub taken_by : StreamState → List ℕ → Fed → ℕ
 taken_by old piece (Message apdu taken) = taken
 taken_by old piece More = length piece
 taken_by old piece (Refused place why) = suc place - length old.held
 
--- How many bytes of the piece are taken where a message is borrowed.
+-- The number of bytes taken from the piece when the message is lent.
 abbrev pub taken_in_view : StreamState → List ℕ → FedView → ℕ
 taken_in_view old piece (view.Message taken) = taken
 taken_in_view old piece view.More = length piece

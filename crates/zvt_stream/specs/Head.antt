@@ -3,7 +3,7 @@ use Rattle.std.specs.Prelude.{ℕ, List, [], ◌∷◌}
 use Rattle.zvt_stream.specs.declared.head.Head.{Head}
 use Rattle.zvt_stream.specs.declared.head.Head.TheVariants.{Empty, One, Two}
 
--- The control bytes of a message that begins with the bytes, as far as they have come.
+-- The control bytes of a message that starts with the bytes, as far as they have arrived.
 abbrev pub head_of : List ℕ → Head
 head_of [] = Empty
 head_of (first ∷ []) = One first

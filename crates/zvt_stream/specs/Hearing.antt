@@ -1,4 +1,4 @@
--- A machine hears messages, one after another, by its own step.
+-- A machine hears messages in turn, by its own step.
 use Rattle.std.specs.Prelude.{◌≡◌, ℕ, Bool, List, [], ◌∷◌}
 use Rattle.zvt_grammar.specs.Reading.{Reading}
 use Rattle.zvt_apdu.specs.Message.{Message}
@@ -12,7 +12,7 @@ Hears {S} step old (message ∷ messages) (answer ∷ answers) new = (middle : S
 Hears step old [] (answer ∷ answers) new = ⊥
 Hears step old (message ∷ messages) [] new = ⊥
 
--- Of the bytes, messages were heard and answered, and the rest is left.
+-- The messages of the bytes were heard and answered, and the rest is held.
 pub record Heard {S : Type 0} (r : Reading) (step : S → Message → Answered → S → Type 0) (bytes : List ℕ) (old : S) (rest : List ℕ) (new : S) (written : List ℕ) (sent : Bool) : Type 0 where
   pub messages : List Message
   pub answers : List Answered

@@ -25,8 +25,8 @@ use Rattle.zvt_stream.specs.declared.head.Head.{Head}
 use Rattle.zvt_stream.specs.declared.head.Head.TheVariants.{Empty, One, Two}
 use Rattle.zvt_stream.specs.Head.{head_of}
 
--- The reading of lengths, the part of the next byte, the bytes to come of the innermost level, and those to come after
--- the open item of each level around it, the innermost first, and the control bytes.
+-- The reading of lengths, the role of the next byte, the number of bytes missing in the innermost level, the number
+-- missing after the open item of each level around it, from the inside out, and the control bytes.
 pub record JudgeState : Type 0 where
   pub reading : Reading
   pub at : At
@@ -34,7 +34,7 @@ pub record JudgeState : Type 0 where
   pub outer : List ℕ
   pub head : Head
 
--- the control bytes, as far as they have come
+-- the control bytes, as far as they have arrived
 abbrev pub head_at : Part → Levels → Head
 head_at part.FirstControl levels = Empty
 head_at part.SecondControl levels = One levels.high
@@ -52,14 +52,14 @@ head_at part.Tag levels = Two levels.high levels.low
 head_at part.Length levels = Two levels.high levels.low
 head_at part.Object levels = Two levels.high levels.low
 
--- what the code keeps represents this
+-- the state that the code keeps represents this
 abbrev pub state_of : Reading → Goes → Levels → JudgeState
 state_of r goes levels = record { reading = r; at = at_in goes levels; left = goes.left; outer = outer_of levels; head = head_at goes.part levels }
 
 abbrev pub start : Reading → JudgeState
 start r = record { reading = r; at = at.FirstControl; left = 1; outer = []; head = Empty }
 
--- The bytes begin a message and hold none, and this is what they leave open.
+-- The bytes are the start of a message, not a whole one, and this is what they leave open.
 pub record StandsFor (judge : JudgeState) (bytes : List ℕ) : Type 0 where
   pub unfinished : UnfinishedIn judge.reading bytes
   pub stands : Where judge.reading judge.at judge.left judge.outer bytes
@@ -81,7 +81,7 @@ Stepped r bytes byte (Ok Open) new = StandsFor new (bytes ++ byte ∷ []) × (ne
 Stepped r bytes byte (Ok Ended) new = IsMessageIn r (bytes ++ byte ∷ []) × (new ≡ start r)
 Stepped r bytes byte (Err why) new = IsRefusedIn r (bytes ++ byte ∷ []) (length bytes) why × (new ≡ start r)
 
--- The same where nothing has begun anew yet.
+-- The same before the judge returns to the start of a message.
 abbrev pub Advances : Reading → (bytes : List ℕ) → (byte : ℕ) → Result Judged Why → (new : JudgeState) → Type 0
 Advances r bytes byte (Ok Open) new = StandsFor new (bytes ++ byte ∷ [])
 Advances r bytes byte (Ok Ended) new = IsMessageIn r (bytes ++ byte ∷ []) × (new.outer ≡ [])
@@ -93,27 +93,27 @@ Ran r bytes more run.Open new = StandsFor new (bytes ++ more) × (new.reading �
 Ran r bytes more (run.Ended taken) new = (0 < taken) × (taken ≤ length more) × IsMessageIn r (bytes ++ take taken more) × (new ≡ start r)
 Ran r bytes more (run.Refused at why) new = (at < length more) × IsRefusedIn r (bytes ++ take (suc at) more) (length bytes + at) why × (new ≡ start r)
 
--- How many bytes were judged.
+-- The number of bytes judged.
 abbrev pub judged_of : Steps → ℕ
 judged_of steps = steps.judged.count
 
--- How many bytes that takes.
+-- The number of bytes that a run takes.
 abbrev pub taken_by : (more : List ℕ) → DecodeRun → ℕ
 taken_by more run.Open = length more
 taken_by more (run.Ended taken) = taken
 taken_by more (run.Refused at why) = suc at
 
--- How many of them are kept of a message.
+-- The number of bytes that a run keeps.
 abbrev pub kept_by : (more : List ℕ) → DecodeRun → ℕ
 kept_by more run.Open = length more
 kept_by more (run.Ended taken) = taken
 kept_by more (run.Refused at why) = 0
 
--- There is room for what so many bytes may add to a message that stands for the judge.
+-- There is room for this many more bytes of the message, up to the longest one.
 abbrev pub HasRoomFor : JudgeState → (more room : ℕ) → Type 0
 HasRoomFor judge more room = (held : List ℕ) × StandsFor judge held × (min (length held + more) 65540 ≤ length held + room)
 
--- How many levels are open: the frame, the fields, and those that the openers lead into.
+-- The number of open levels: the frame, the fields, and those that the openers lead into.
 abbrev pub levels_of : Role → List Opener → ℕ
 levels_of first_control openers = 1
 levels_of second_control openers = 1
@@ -130,7 +130,7 @@ HasLevelsIn r bytes levels = (openers : List Opener) × (role : Role) × Positio
 abbrev pub HasLevels : (bytes : List ℕ) → ℕ → Type 0
 HasLevels = HasLevelsIn shortest
 
--- The levels with bytes to come, once those are left that are full.
+-- The levels that still lack bytes, without the full ones.
 abbrev pub unfilled : (left : ℕ) → (outer : List ℕ) → Option (ℕ × List ℕ)
 unfilled zero [] = None
 unfilled zero (k ∷ ks) = unfilled k ks
@@ -140,7 +140,7 @@ abbrev pub Closes : (left : ℕ) → (old new : List ℕ) → Option ℕ → Typ
 Closes left old new None = (unfilled left old ≡ None) × (new ≡ [])
 Closes left old new (Some n) = unfilled left old ≡ Some (n, new)
 
--- Few bytes play this part.
+-- This role is rare.
 abbrev pub is_rare : Part → Bool
 is_rare part.LowSize = true
 is_rare part.HighSize = true
@@ -159,15 +159,15 @@ abbrev pub Settles : Reading → (old : Levels) → (goes : Goes) → (new : Lev
 Settles r old goes new bytes Open = Where r (at_in goes new) goes.left (outer_of new) bytes × (new.high ≡ old.high) × (new.low ≡ old.low)
 Settles r old goes new bytes Ended = IsFull r bytes × (outer_of new ≡ [])
 
--- Where a byte leads that passed its tests, and no byte that failed one does.
+-- The state after a byte that passed its tests. A byte that failed one leads nowhere.
 abbrev pub Follows : Reading → Result Transition Why → (goes : Goes) → (levels : Levels) → Result Judged Why → (new_goes : Goes) → (new_levels : Levels) → (bytes : List ℕ) → Type 0
 Follows r (Ok moved) goes levels (Ok judged) new_goes new_levels bytes =
     Leads r (move_of moved goes levels) (outer_of levels) bytes → Settles r levels new_goes new_levels bytes judged
 Follows r (Ok moved) goes levels (Err why) new_goes new_levels bytes = ⊥
 Follows r (Err why) goes levels result new_goes new_levels bytes = result ≡ Err why
 
--- A judge stands where the bytes that it represents do by the grammar: at the part that their next byte plays, within as
--- many levels as it counts.
+-- A judge is at the position of its bytes in the grammar: at the role of the next byte, within as many levels as it
+-- counts.
 abbrev pub JudgesStand : Type 0
 JudgesStand = (judge : JudgeState) (bytes : List ℕ) → StandsFor judge bytes →
     (openers : List Opener) × Position judge.reading openers bytes (role_of judge.at judge.left (depth_of judge.outer)) × (levels_of (role_of judge.at judge.left (depth_of judge.outer)) openers ≡ suc (length judge.outer))

@@ -1,4 +1,4 @@
--- What became of a line.
+-- The outcomes of a line.
 use Rattle.std.specs.Prelude.{◌≡◌, ℕ, Bool, true, false, ◌||◌, List, [], ◌∷◌, ◌++◌, length, Option}
 use Rattle.std.specs.Io.KnownBytes.{Consumes, Appends, IsAtEnd}
 use Rattle.zvt_io.specs.Devices.{IsPrefix}
@@ -22,7 +22,7 @@ pub record Course {S : Type 0} (step : S → Message → Answered → S → Type
   -- on a stream that has refused nothing is heard
   pub still : before.stopped ≡ true → (old ≡ new) × (written ≡ [])
 
--- The answers of the last message heard could not be written whole. All earlier answers were.
+-- The answers to the last message could not be written completely. All earlier answers were.
 pub record CutOff {S : Type 0} (r : Reading) (step : S → Message → Answered → S → Type 0) (bytes : List ℕ) (old new : S) (written : List ℕ) : Type 0 where
   pub messages : List Message
   pub answers : List Answered
@@ -35,7 +35,7 @@ pub record CutOff {S : Type 0} (r : Reading) (step : S → Message → Answered 
   pub answered : written ≡ bytes_of answers ++ part
   pub some_part : IsPrefix part answer.bytes
 
--- Where a line broke, which is not yet reported to the machine.
+-- The point at which a line broke, before the machine is notified.
 abbrev pub Breaks : {S : Type 0} → (S → Message → Answered → S → Type 0) → LineFault → StreamState → List ℕ → StreamState → S → S → List ℕ → Type 0
 Breaks step Read before read after old new written = (sent : Bool) × Course step before read after old new written sent
 Breaks step (Ended have) before read after old new written = (sent : Bool) × Course step before read after old new written sent × (have ≡ length after.held)
@@ -45,7 +45,7 @@ Breaks step Memory before read after old new written = (sent : Bool) × (rest : 
 Breaks step Write before read after old new written = CutOff before.reading step (before.held ++ read) old new written
 Breaks step Stopped before read after old new written = (before.stopped ≡ true) × (old ≡ new) × (written ≡ [])
 
--- How many reads and writes a fault represents that failed.
+-- The number of failed reads and writes that a fault stands for.
 abbrev pub failed_reads : LineFault → ℕ
 failed_reads Read = 1
 failed_reads Write = 0
@@ -64,17 +64,17 @@ failed_writes (Malformed place why) = 0
 failed_writes Memory = 0
 failed_writes Stopped = 0
 
--- Whether the line stands where it is to go before the first turn.
+-- Whether the condition holds before the first turn.
 abbrev pub there_at_once : Until → (resting : Bool) → Bool
 there_at_once Rest resting = resting
 there_at_once Sent resting = false
 
--- Whether the line has come to where it was to go, after a turn.
+-- Whether the condition holds after a turn.
 abbrev pub reached : Until → (resting sent : Bool) → Bool
 reached Rest resting sent = resting
 reached Sent resting sent = sent || resting
 
--- What a report of a fault makes of the machine: a malformed line, or a lost one.
+-- The machine after it is notified of a fault: of a malformed line, or of a lost one.
 abbrev pub Reported : {S : Type 0} → (S → S → Type 0) → (S → S → Type 0) → LineFault → S → S → Type 0
 Reported loses malforms (Malformed place why) old new = malforms old new
 Reported loses malforms Stopped old new = malforms old new
@@ -84,7 +84,7 @@ Reported loses malforms (Ended have) old new = loses old new
 Reported loses malforms Turns old new = loses old new
 Reported loses malforms Memory old new = loses old new
 
--- A line that ended has nothing more to come.
+-- No more bytes come after the end of a line.
 abbrev pub EndsAt : LineFault → Option (List ℕ) → Type 0
 EndsAt (Ended have) left = IsAtEnd left
 EndsAt Read left = Unit {0}

@@ -1,4 +1,4 @@
--- What a judged byte leads to.
+-- The state after a judged byte.
 use Rattle.std.specs.Prelude.{◌≡◌, ℕ, ◌+◌, ◌<◌, ◌≤◌, true, false, Some, None, Result, Ok, Err, List, [], ◌∷◌, ◌++◌, reverse}
 use Rattle.zvt_grammar.specs.declared.why.Why.{Why}
 use Rattle.zvt_grammar.specs.declared.why.Why.TheVariants.{DoesNotFit}
@@ -40,7 +40,7 @@ at_part part.Object more levels = at.Object more
 abbrev pub at_in : Goes → Levels → At
 at_in goes levels = at_part goes.part goes.more levels
 
--- of the levels around the innermost one, the innermost comes first
+-- the levels around the innermost one, from the inside out
 abbrev pub outer_of : Levels → List ℕ
 outer_of levels = reverse levels.outer.items
 
@@ -68,16 +68,16 @@ Leads r (Within at left) outer bytes = Where r at left outer bytes
 Leads r (Ends left) outer bytes = Between r left outer bytes
 Leads r (Opens trailing left) outer bytes = Between r left (trailing ∷ outer) bytes
 
--- A byte after these bytes: what it leads to where its tests pass, else the reason of the first that fails.
+-- A byte after these bytes: the next state if its tests pass, or else the reason of the first test that fails.
 abbrev pub Moves : Reading → At → (left : ℕ) → (outer : List ℕ) → (bytes : List ℕ) → (byte : ℕ) → Result Move Why → Type 0
 Moves r at left outer bytes byte (Ok move) = (fault r (role_of at left (depth_of outer)) byte ≡ None) × Leads r move outer (bytes ++ byte ∷ [])
 Moves r at left outer bytes byte (Err why) = fault r (role_of at left (depth_of outer)) byte ≡ Some why
 
--- The same after all bytes that lead to this part.
+-- The same after any bytes that lead to this role.
 abbrev pub Judges : Reading → At → (left depth : ℕ) → (byte : ℕ) → Result Move Why → Type 0
 Judges r at left depth byte result = (outer bytes : List ℕ) → depth ≡ depth_of outer → Where r at left outer bytes → Moves r at left outer bytes byte result
 
--- The same in every depth, of a byte that plays this part by what the code keeps before it and after it.
+-- The same at every depth, in terms of the state that the code keeps before and after the byte.
 abbrev pub Judged : Reading → Part → Goes → Levels → (byte : ℕ) → Result Transition Why → Goes → Levels → Type 0
 Judged r part goes levels byte result new now = (depth : ℕ) → Judges r (at_part part goes.more levels) goes.left depth byte (leads_to result new now)
 
@@ -88,7 +88,7 @@ BeginsData r high low n (Ok move) =
     × ((size bytes : List ℕ) → (high < 256) × (low < 256) → IsFrameLength r n size → bytes ≡ high ∷ low ∷ (size ++ []) → Leads r move [] bytes)
 BeginsData r high low n (Err why) = (why ≡ DoesNotFit) × (can_fill (layout_of high low n) n ≡ false)
 
--- The numbers that the part of a byte needs.
+-- The numbers that the role of a byte needs.
 abbrev pub IsReady : At → (left : ℕ) → Type 0
 IsReady at.FirstControl left = Unit {0}
 IsReady (at.SecondControl high) left = Unit {0}

@@ -1,4 +1,4 @@
--- The part that the next byte plays with what its tests need to know, and what a judged byte leads to.
+-- The role of the next byte, with the numbers that its tests need, and the state after a judged byte.
 use Rattle.std.specs.Prelude.{ℕ, Bool}
 use Rattle.zvt_tlv.specs.declared.judge.LengthAt.{LengthAt}
 use Rattle.zvt_tlv.specs.declared.judge.TagAt.{TagAt}

@@ -1,4 +1,4 @@
--- What became of one message.
+-- The outcomes of one message.
 use Rattle.std.specs.Prelude.{◌≡◌, ℕ, Bool, List, [], Option, nat_lt}
 use Rattle.std.specs.Io.KnownBytes.{Appends}
 use Rattle.zvt_io.specs.Devices.{IsPrefix}

@@ -7,8 +7,8 @@ use Rattle.zvt_apdu.specs.Message.{Message}
 use Rattle.zvt_apdu.specs.MessageCode.{message_code}
 use Rattle.zvt_stream.specs.Apdus.{UnfinishedIn}
 
--- The bytes of the unfinished message, whether bytes were refused, the message that is borrowed, how many bytes there is
--- room for before memory is asked for, how many bytes were judged, and the reading of lengths.
+-- The bytes of the unfinished message, whether bytes were refused, the lent message, the capacity of the buffer in bytes,
+-- the number of bytes judged, and the reading of lengths.
 pub record StreamState : Type 0 where
   pub held : List ℕ
   pub stopped : Bool
@@ -41,11 +41,11 @@ state_code =
     code_by (List ℕ × (Bool × (Option Message × (ℕ × (ℕ × Bool))))) (coded× (coded_list coded_ℕ) (coded× coded_bool (coded× (coded_option message_code) (coded× coded_ℕ (coded× coded_ℕ coded_bool)))))
     state_parts state_from state-back
 
--- A stream of that reading at the start of a line, without room.
+-- A stream of this reading at the start of a line, without capacity.
 abbrev pub start_in : Reading → StreamState
 start_in r = record { held = []; stopped = false; lent = None; room = 0; judged = 0; reading = r }
 
--- A stream of the shortest lengths there.
+-- The same with the shortest lengths.
 abbrev pub at_start : StreamState
 at_start = start_in shortest
 
@@ -53,11 +53,11 @@ at_start = start_in shortest
 abbrev pub Holds : List ℕ → StreamState → Type 0
 Holds bytes s = (s.held ≡ bytes) × (s.stopped ≡ false)
 
--- The stream has refused bytes: it holds none, and takes nothing more.
+-- The stream has refused bytes: it holds none, and accepts no more.
 abbrev pub HasRefused : StreamState → Type 0
 HasRefused s = (s.held ≡ []) × (s.stopped ≡ true)
 
--- What is held and what was refused stays, and nothing is borrowed.
+-- The held bytes and the refusal stay, and no message is lent.
 abbrev pub Keeps : StreamState → StreamState → Type 0
 Keeps old new = (new.held ≡ old.held) × (new.stopped ≡ old.stopped) × (new.lent ≡ None) × (new.reading ≡ old.reading)
 
@@ -65,7 +65,7 @@ Keeps old new = (new.held ≡ old.held) × (new.stopped ≡ old.stopped) × (new
 abbrev pub IsReserved : StreamState → Type 0
 IsReserved s = 65540 ≤ s.room
 
--- What a stream holds begins a message, and a stream that refused holds nothing.
+-- The held bytes are the start of a message, and a stream that has refused bytes holds none.
 pub record IsSound (r : Reading) (held : List ℕ) (stopped : Bool) : Type 0 where
   pub unfinished : UnfinishedIn r held
   pub none_held : stopped ≡ true → held ≡ []

@@ -1,4 +1,4 @@
--- A line, turn after turn.
+-- The turns of a line.
 use Rattle.std.specs.Prelude.{◌≡◌, ℕ, zero, suc, ◌+◌, ◌<◌, ◌≤◌, length, Bool, true, false, ◌||◌, ◌⊎◌, List, Option}
 use Rattle.zvt_apdu.specs.Message.{Message}
 use Rattle.zvt_stream.specs.StreamState.{StreamState}
@@ -16,7 +16,7 @@ pub record LineState (S : Type 0) : Type 0 where
   pub written : Option (List ℕ)
   pub sent : Bool
 
--- One turn: it read some bytes, and all that it read was heard and answered.
+-- One turn: it read some bytes, and every message in them was heard and answered.
 pub record Turned {S : Type 0} (step : S → Message → Answered → S → Type 0) (old new : LineState S) : Type 0 where
   pub sent : Bool
   pub pumped : Pumped step old.stream new.stream old.machine new.machine old.coming new.coming old.written new.written sent
@@ -24,12 +24,12 @@ pub record Turned {S : Type 0} (step : S → Message → Answered → S → Type
   pub some_read : 0 < length pumped.read
   pub sending : new.sent ≡ (old.sent || sent)
 
--- That many turns, after none of which the line had come to where it was to go.
+-- This many turns, after none of which the condition held.
 abbrev pub Waited : {S : Type 0} → (S → Message → Answered → S → Type 0) → (S → Bool) → Until → ℕ → LineState S → LineState S → Type 0
 Waited step resting until zero old new = old ≡ new
 Waited {S} step resting until (suc n) old new = (middle : LineState S) × Waited step resting until n old middle × Turned step middle new × (reached until (resting new.machine) new.sent ≡ false)
 
--- The first turn after which the line had come there was the last, and fewer turns than allowed come before it.
+-- The last turn was the first after which the condition held, and fewer turns than allowed came before it.
 pub record Arrived {S : Type 0} (step : S → Message → Answered → S → Type 0) (resting : S → Bool) (until : Until) (turns reads : ℕ) (old new : LineState S) : Type 0 where
   pub before : ℕ
   pub middle : LineState S
@@ -47,24 +47,24 @@ line_state stream machine coming written = record { stream = stream; machine = m
 abbrev pub line_ends : {S : Type 0} → StreamState → S → Option (List ℕ) → Option (List ℕ) → Bool → LineState S
 line_ends stream machine coming written sent = record { stream = stream; machine = machine; coming = coming; written = written; sent = sent }
 
--- The line came there by that many turns, of one read each.
+-- The condition held after this many turns, of one read each.
 abbrev pub Arrives : {S : Type 0} → (S → Message → Answered → S → Type 0) → (S → Bool) → Until → ℕ → ℕ → ℕ → LineState S → (Bool → LineState S) → Type 0
 Arrives step resting until turns reads_before reads_after old new =
     (reads : ℕ) × (sent : Bool) × (reads_after ≡ reads_before + reads) × Arrived step resting until turns reads old (new sent)
 
--- The line came to where it was to go: at once, where the machine was to rest and did, or by turns.
+-- The condition held: at once, if the machine was to come to rest and was at rest, or after some turns.
 abbrev pub Ends : {S : Type 0} → (S → Message → Answered → S → Type 0) → (S → Bool) → Until → ℕ → ℕ → ℕ → LineState S → (Bool → LineState S) → Type 0
 Ends step resting until turns reads_before reads_after old new =
     ((there_at_once until (resting old.machine) ≡ true) × (reads_after ≡ reads_before) × (new false ≡ old))
     ⊎ ((there_at_once until (resting old.machine) ≡ false) × Arrives step resting until turns reads_before reads_after old new)
 
--- A turn broke, that many turns before it and one read in each.
+-- A turn broke, after this many turns of one read each.
 abbrev pub Broke : {S : Type 0} → (S → Message → Answered → S → Type 0) → LineFault → (turns before reads_before reads_after : ℕ) → LineState S → LineState S → Type 0
 Broke step fault turns before reads_before reads_after middle new =
     (before < turns) × (reads_after ≡ reads_before + (before + 1))
     × Broken step fault middle.stream new.stream middle.machine new.machine middle.coming new.coming middle.written new.written
 
--- The fault came in the turn after these; or they were all turns.
+-- The fault came in the turn after these, or these were all turns.
 abbrev pub Last : {S : Type 0} → (S → Message → Answered → S → Type 0) → LineFault → (turns before reads_before reads_after : ℕ) → LineState S → (Bool → LineState S) → Type 0
 Last step Turns turns before reads_before reads_after middle new = (before ≡ turns) × (reads_after ≡ reads_before + turns) × (new middle.sent ≡ middle)
 Last step Read turns before reads_before reads_after middle new = Broke step Read turns before reads_before reads_after middle (new middle.sent)
@@ -74,7 +74,7 @@ Last step (Malformed place why) turns before reads_before reads_after middle new
 Last step Memory turns before reads_before reads_after middle new = Broke step Memory turns before reads_before reads_after middle (new middle.sent)
 Last step Stopped turns before reads_before reads_after middle new = Broke step Stopped turns before reads_before reads_after middle (new middle.sent)
 
--- The line had come there after no turn before the fault.
+-- The condition held after no turn before the fault.
 pub record Falters {S : Type 0} (step : S → Message → Answered → S → Type 0) (resting : S → Bool) (until : Until) (fault : LineFault) (turns reads_before reads_after : ℕ) (old : LineState S) (new : Bool → LineState S) : Type 0 where
   pub before : ℕ
   pub middle : LineState S

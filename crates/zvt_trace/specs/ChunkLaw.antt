@@ -1,4 +1,4 @@
--- What the chunks of a line emit, and the trace that spells them.
+-- The events of the chunks of a line, and of the trace that spells them.
 use Rattle.std.specs.Prelude.{⊤, ◌≡◌, ℕ, ◌+◌, List, [], ◌∷◌, ◌++◌}
 use Rattle.std.specs.Str.Lines.{lines}
 use Rattle.hex.specs.Hex.{IsBytes, encode_upper}
@@ -11,7 +11,7 @@ use Rattle.zvt_trace.specs.declared.direction.Direction.{Direction}
 use Rattle.zvt_trace.specs.declared.direction.Direction.TheVariants.{FromTill, FromTerminal}
 use Rattle.zvt_trace.specs.declared.listener.Scope.{Scope}
 
--- what a line brings: bytes that a side sent at once, or its end
+-- a chunk of a line: bytes that a side sent at once, or the end of the line
 pub data Chunk : Type 0 where
   sent : (from : Direction) → (bytes : List ℕ) → Chunk
   ended : Chunk
@@ -54,12 +54,12 @@ pub record OneChunk (r : Reading) (scope : Scope) (count : ℕ) (sides : Sides) 
   pub others : Others middle rest
   pub is_all : events ≡ own ++ rest
 
--- chunks that are taken raw, one after another
+-- chunks taken raw, one after another
 abbrev pub ChunksEmit : Reading → Scope → ℕ → Sides → List Chunk → List At → Sides → Type 0
 ChunksEmit r scope count sides [] events after = (events ≡ []) × (after ≡ sides)
 ChunksEmit r scope count sides (chunk ∷ chunks) events after = OneChunk r scope count sides chunk (λ middle rest. ChunksEmit r scope (count + 1) middle chunks rest after) events
 
--- Chunks that are taken raw emit what the lines of the trace emit that spells them: the same events, at the same numbers.
+-- Chunks taken raw have the same events, at the same numbers, as the lines of the trace that spells them.
 abbrev pub ChunksAreLines : Type 0
 ChunksAreLines = (r : Reading) (scope : Scope) (count : ℕ) (sides : Sides) (chunks : List Chunk) (events : List At) (after : Sides)
     → HaveBytes chunks → ChunksEmit r scope count sides chunks events after → LinesEmit r scope count sides (lines (spelled_trace chunks)) events after

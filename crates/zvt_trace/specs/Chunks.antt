@@ -1,4 +1,4 @@
--- What is read of a trace that comes chunk by chunk.
+-- A trace that arrives in chunks.
 use Rattle.std.specs.Prelude.{◌≡◌, ◌<◌, ◌≤◌, ◌⊎◌, ◌==◌, ◌+◌, false, ℕ, List, [], ◌∷◌, ◌++◌, length, take, drop, MatchResult, Option, Result, Ok, Err}
 use Rattle.std.specs.Io.KnownBytes.{Consumes, IsAtEnd, Keeps}
 use Rattle.std.specs.List.{All}
@@ -30,7 +30,7 @@ IsWhole text = last_after 10 text ≡ 10
 abbrev pub HasNoEnd : List ℕ → Type 0
 HasNoEnd text = All (λ byte. (byte == 10) ≡ false) text
 
--- a text of which a line feed is the last byte, and no other
+-- a text with one line feed, at its end
 abbrev pub IsEnd : List ℕ → Type 0
 IsEnd text = (line : List ℕ) × HasNoEnd line × (text ≡ line ++ 10 ∷ [])
 
@@ -44,7 +44,7 @@ EndsAt text last = (last < length text) × IsWhole (take (last + 1) text) × Has
 
 -- ---- what a walker has read
 
--- Of these bytes the whole lines before the rest emit these events.
+-- These are the events of the complete lines of these bytes, before the rest.
 pub record ReadTo (r : Reading) (scope : Scope) (bytes rest : List ℕ) (events : List At) (progress : Progress) : Type 0 where
   pub done : List ℕ
   pub whole : IsWhole done
@@ -52,8 +52,8 @@ pub record ReadTo (r : Reading) (scope : Scope) (bytes rest : List ℕ) (events 
   pub size : progress.size ≤ length done
   pub cut : bytes ≡ done ++ rest
 
--- After chunks that spell these bytes, all their whole lines emit these events, and the walker holds what comes after those
--- lines.
+-- After chunks that spell these bytes, these are the events of all complete lines, and the walker holds the bytes after
+-- those lines.
 pub record HasRead (r : Reading) (scope : Scope) (bytes : List ℕ) (events : List At) (walker : Walker) : Type 0 where
   pub to : ReadTo r scope bytes walker.begun.items events walker.progress
   pub unended : HasNoEnd walker.begun.items
@@ -80,17 +80,17 @@ pub record IsReady (walker : Walker) : Type 0 where
   pub small : length walker.begun.items ≤ limit
   pub fits : walker.progress.size + length walker.begun.items ≤ most
 
--- no line has begun whose end is to come
+-- no line is unfinished
 abbrev pub IsBetweenLines : Walker → Type 0
 IsBetweenLines walker = walker.begun.items ≡ []
 
--- why these bytes can't be held after those that are
+-- why these bytes can't be held after those held already
 abbrev pub IsHeldFault : Walker → List ℕ → TraceFault → Type 0
 IsHeldFault walker bytes fault = (fault ≡ Memory) ⊎ ((fault ≡ TooLong) × (limit < length walker.begun.items + length bytes))
 
 -- ---- a line that is too long
 
--- The lines before emit these events. Then comes a line that has more bytes than the limit, or more bytes came than can be counted.
+-- These are the events of the lines before one with more bytes than the limit, or before more bytes than can be counted.
 pub record IsTooLong (r : Reading) (scope : Scope) (bytes : List ℕ) (events : List At) : Type 0 where
   pub done : List ℕ
   pub line : List ℕ
@@ -112,18 +112,18 @@ FeedFaults r hears fails scope bytes earlier old new Write = FaultsFrom r hears 
 FeedFaults r hears fails scope bytes earlier old new TooLong = (events : List At) × IsTooLong r scope bytes (earlier ++ events) × HearsAll hears old events new
 FeedFaults r hears fails scope bytes earlier old new Read = ⊥
 
--- What reading whole lines answers, where the rest of the bytes comes after them.
+-- The result of reading complete lines, which the rest of the bytes follows.
 abbrev pub AnswersRead : {S : Type 0} → Reading → Hears S → Fails S → Scope → (bytes rest : List ℕ) → (earlier : List At) → Progress → (old new : S) → Result Unit TraceFault → Type 0
 AnswersRead r hears fails scope bytes rest earlier progress old new (Ok read) = (events : List At) × ReadTo r scope bytes rest (earlier ++ events) progress × HearsAll hears old events new
 AnswersRead r hears fails scope bytes rest earlier progress old new (Err fault) = FeedFaults r hears fails scope bytes earlier old new fault
 
--- What feeding the last of these bytes answers.
+-- The result of feeding the last of these bytes.
 abbrev pub AnswersFeed : {S : Type 0} → Reading → Hears S → Fails S → Scope → (bytes : List ℕ) → (earlier : List At) → Walker → (old new : S) → Result Unit TraceFault → Type 0
 AnswersFeed r hears fails scope bytes earlier walker old new (Ok fed) = (events : List At) × HasRead r scope bytes (earlier ++ events) walker × HearsAll hears old events new
 AnswersFeed r hears fails scope bytes earlier walker old new (Err fault) = FeedFaults r hears fails scope bytes earlier old new fault
 
 -- ---- reads
 
--- What a read of a chunk answers.
+-- The result of reading a chunk.
 abbrev pub ReadsChunk : (left rest : Option (List ℕ)) → Result ℕ TraceFault → (buffer : List ℕ) → Type 0
 ReadsChunk left rest result buffer = MatchResult result (λ n. (n ≤ length buffer) × Consumes left rest (take n buffer) × (n ≡ 0 → IsAtEnd rest)) (λ fault. (fault ≡ Read) × Keeps left rest)

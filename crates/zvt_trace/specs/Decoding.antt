@@ -1,4 +1,4 @@
--- What a line has read of both sides.
+-- The state of a line.
 use Rattle.zvt_grammar.specs.Reading.{Reading}
 use Rattle.zvt_grammar.specs.Lengths.{reading_of}
 use Rattle.zvt_trace.specs.Listening.{FollowBoth, TakeBy}

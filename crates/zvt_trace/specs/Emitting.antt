@@ -1,4 +1,4 @@
--- What a piece, a line and a whole trace emit.
+-- The events of a piece, of a line, and of a whole trace.
 use Rattle.std.specs.Prelude.{⊤, ◌≡◌, ◌⊎◌, ◌≤◌, ℕ, ◌+◌, ◌-◌, List, [], ◌∷◌, ◌++◌, length, map, slice_index, Ok, Err}
 use Rattle.std.specs.List.{concat}
 use Rattle.zvt_grammar.specs.Cuts.{Cut}
@@ -36,7 +36,7 @@ abbrev pub EndsWithin : Scope → List ℕ → Ending → Type 0
 EndsWithin scope rest begun = ⊤
 EndsWithin scope rest (refused place why) = IsWithin (refused_size scope rest place) (length rest)
 
--- A part emits the messages that arrive with it, and what is refused after them.
+-- The events of a part: the messages that arrive with it, and the refusal after them.
 pub record Emits (r : Reading) (scope : Scope) (line : ℕ) (from : Direction) (before bytes : List ℕ) (events : List At) (after : Side) : Type 0 where
   pub messages : List Message
   pub rest : List ℕ
@@ -66,13 +66,13 @@ abbrev pub PartsEmit : Reading → Scope → ℕ → Direction → Side → List
 PartsEmit r scope line from side [] events after = (events ≡ []) × (after ≡ side)
 PartsEmit r scope line from side (part ∷ parts) events after = OnePart r scope line from side part (λ middle later. PartsEmit r scope line from middle parts later after) events
 
--- The bytes are cut into parts, so that none goes on after the end of a refused message.
+-- The bytes are cut into parts, at the ends of refused messages.
 pub record Passes (r : Reading) (scope : Scope) (line : ℕ) (from : Direction) (side : Side) (bytes : List ℕ) (events : List At) (after : Side) : Type 0 where
   pub parts : List (List ℕ)
   pub cut : bytes ≡ concat parts
   pub emit : PartsEmit r scope line from side parts events after
 
--- that a piece is not read, where none of it is
+-- the event of an unread piece
 abbrev pub or_unread : ℕ → Direction → List At → List At
 or_unread line from [] = on line (trace_event.unread from) ∷ []
 or_unread line from (event ∷ events) = event ∷ events
@@ -82,7 +82,7 @@ told line from (running bytes) events = events
 told line from (skipping size left) events = or_unread line from events
 told line from stopped events = or_unread line from events
 
--- A piece emits what its bytes do, and of a side that is not read on, that it is not read.
+-- The events of a piece: those of its bytes, or that it is not read.
 pub record PieceEmits (r : Reading) (scope : Scope) (line : ℕ) (from : Direction) (side : Side) (bytes : List ℕ) (events : List At) (after : Side) : Type 0 where
   pub own : List At
   pub passes : Passes r scope line from side bytes own after
@@ -92,7 +92,7 @@ abbrev pub cut_off_event : ℕ → Direction → List ℕ → List At
 cut_off_event line from [] = []
 cut_off_event line from (byte ∷ bytes) = on line (trace_event.cut_off from (head_of (byte ∷ bytes)) (length (byte ∷ bytes))) ∷ []
 
--- where the line ends, the message that a side has begun is cut off
+-- the end of the line cuts off the unfinished message of a side
 abbrev pub SideEnds : Reading → ℕ → Direction → Side → List At → Type 0
 SideEnds r line from (running bytes) events = (messages : List Message) × (rest : List ℕ) × Cut (Spells r) bytes messages rest × (events ≡ cut_off_event line from rest)
 SideEnds r line from (skipping size left) events = events ≡ []
@@ -109,7 +109,7 @@ abbrev pub both_sides : Direction → Side → Side → Sides
 both_sides FromTill side beside = record { till = side; terminal = beside }
 both_sides FromTerminal side beside = record { till = beside; terminal = side }
 
--- What a refusal leaves of the other side: all, or nothing; then what it has begun is cut off.
+-- The other side after a refusal: unchanged, or stopped, and then its unfinished message is cut off.
 abbrev pub Leaves : Reading → Scope → ℕ → Direction → (side beside : Side) → List At → Side → Type 0
 Leaves r OneSide line from side beside events after = (events ≡ []) × (after ≡ beside)
 Leaves r OneMessage line from side beside events after = (events ≡ []) × (after ≡ beside)
@@ -117,7 +117,7 @@ Leaves r WholeLine line from (running bytes) beside events after = (events ≡ [
 Leaves r WholeLine line from (skipping size left) beside events after = (events ≡ []) × (after ≡ beside)
 Leaves r WholeLine line from stopped beside events after = SideEnds r line (other from) beside events × (after ≡ stopped)
 
--- a piece of this side, and what it leaves of the other
+-- a piece of this side, and its effect on the other
 pub record EmitsBeside (r : Reading) (scope : Scope) (line : ℕ) (from : Direction) (side beside : Side) (bytes : List ℕ) (events : List At) (after beside_after : Side) : Type 0 where
   pub own : List At
   pub others : List At
@@ -125,7 +125,7 @@ pub record EmitsBeside (r : Reading) (scope : Scope) (line : ℕ) (from : Direct
   pub leaves : Leaves r scope line from after beside others beside_after
   pub is_all : events ≡ own ++ others
 
--- the line ends: the till's side is emitted before the terminal's
+-- the end of the line, first for the till and then for the terminal
 pub record LineEnds (r : Reading) (line : ℕ) (sides : Sides) (events : List At) : Type 0 where
   pub till : List At
   pub terminal : List At
@@ -154,14 +154,14 @@ pub record OneMore (r : Reading) (scope : Scope) (count : ℕ) (sides : Sides) (
   pub others : Others middle rest
   pub is_all : events ≡ own ++ rest
 
--- lines that can be read, from both sides as they were to both as they are then
+-- valid lines, from one state of both sides to another
 abbrev pub LinesEmit : Reading → Scope → ℕ → Sides → List (List ℕ) → List At → Sides → Type 0
 LinesEmit r scope count sides [] events after = (events ≡ []) × (after ≡ sides)
 LinesEmit r scope count sides (line ∷ lines) events after = OneMore r scope count sides line (λ middle rest. LinesEmit r scope (count + 1) middle lines rest after) events
 
 -- ---- the trace
 
--- a trace of which all lines can be read: what they emit, and what is cut off at its end
+-- a trace of valid lines: their events, and the messages that its end cuts off
 pub record WholeTrace (r : Reading) (scope : Scope) (lines : List (List ℕ)) (events : List At) : Type 0 where
   pub body : List At
   pub after : Sides
@@ -170,7 +170,7 @@ pub record WholeTrace (r : Reading) (scope : Scope) (lines : List (List ℕ)) (e
   pub ends : LineEnds r (length lines) after last
   pub is_all : events ≡ body ++ last
 
--- lines of which one can't be read, counted from 1: what those before it emit
+-- lines with one that is not valid, counted from 1: the events of the lines before it
 pub record BrokenTrace (r : Reading) (scope : Scope) (lines : List (List ℕ)) (number : ℕ) (what : TraceLineError) (events : List At) : Type 0 where
   pub done : List (List ℕ)
   pub line : List ℕ
@@ -189,13 +189,13 @@ pub record PrefixOf (Emit : List At → Type 0) (events : List At) : Type 0 wher
   pub emit : Emit all
   pub is_prefix : all ≡ events ++ later
 
--- that many bytes of a piece, or a line of another kind
+-- a prefix of a piece, or a line of another kind
 abbrev pub Begins : Meaning → Meaning → Type 0
 Begins prefix comment = prefix ≡ comment
 Begins prefix (piece from bytes) = (first : List ℕ) × (more : List ℕ) × (prefix ≡ piece from first) × (bytes ≡ first ++ more)
 Begins prefix lost = prefix ≡ lost
 
--- a prefix of what a prefix of a line with this meaning emits
+-- a prefix of the events of a prefix of a line with this meaning
 pub record MeaningBegins (r : Reading) (scope : Scope) (number : ℕ) (meaning : Meaning) (sides : Sides) (events : List At) : Type 0 where
   pub prefix : Meaning
   pub after : Sides
@@ -205,17 +205,17 @@ pub record MeaningBegins (r : Reading) (scope : Scope) (number : ℕ) (meaning :
 abbrev pub LineBegins : Reading → Scope → ℕ → List ℕ → Sides → List At → Type 0
 LineBegins r scope number line sides events = (meaning : Meaning) × (meaning_of line ≡ Ok meaning) × MeaningBegins r scope number meaning sides events
 
--- nothing, or so much of what the line emits
+-- no event, or the first events of the line
 abbrev pub LineSoFar : Reading → Scope → ℕ → List ℕ → Sides → List At → Type 0
 LineSoFar r scope number line sides events = (events ≡ []) ⊎ LineBegins r scope number line sides events
 
--- after that many lines, what so much of the next line emits, or the end of the trace
+-- after some lines, the first events of the next line or of the end of the trace
 abbrev pub NextEmits : Reading → Scope → ℕ → List (List ℕ) → Sides → List At → Type 0
 NextEmits r scope count [] sides events = LineEnds r count sides events
 NextEmits r scope count (line ∷ later) sides events =
     (events ≡ []) ⊎ ((meaning : Meaning) × (prefix : Meaning) × (after : Sides) × (meaning_of line ≡ Ok meaning) × Begins prefix meaning × LineEmits r scope (count + 1) prefix sides events after)
 
--- what that many lines emit, and then what comes next
+-- the events of some lines, and then the first of the next
 pub record Reaches (r : Reading) (scope : Scope) (lines : List (List ℕ)) (events : List At) : Type 0 where
   pub done : List (List ℕ)
   pub later : List (List ℕ)

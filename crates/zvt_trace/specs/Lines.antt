@@ -1,4 +1,4 @@
--- How a trace spells what a side sends, and what is said of a line that can't be read.
+-- How a trace spells a chunk, and the text of a line that can't be read.
 use Rattle.std.specs.Prelude.{ℕ, List, [], ◌∷◌, ◌++◌, codes}
 use Rattle.hex.specs.Hex.{encode_upper}
 use Rattle.zvt_trace.specs.declared.direction.Direction.{Direction}

@@ -1,4 +1,4 @@
--- The events that a listener hears, and what becomes of it.
+-- The events that a listener hears, and its state after them.
 use Rattle.std.specs.Prelude.{◌≡◌, ◌≤◌, ◌*◌, ◌+◌, ◌^◌, ◌⊎◌, ℕ, Bool, true, false, List, [], ◌∷◌, ◌++◌, length, Result, Ok, Err}
 use Rattle.zvt_grammar.specs.Reading.{Reading}
 use Rattle.zvt_grammar.specs.Lengths.{reading_of}
@@ -22,7 +22,7 @@ use Rattle.zvt_trace.specs.declared.side.SideReader.{SideReader}
 
 -- ---- events, one after another
 
--- what a listener becomes by one event, and what a failure leaves of it
+-- the listener after one event, and after a failure at it
 abbrev pub Hears : Type 0 → Type 1
 Hears S = S → At → S → Type 0
 
@@ -33,7 +33,7 @@ abbrev pub HearsAll : {S : Type 0} → Hears S → S → List At → S → Type 
 HearsAll hears old [] new = new ≡ old
 HearsAll {S = S} hears old (event ∷ events) new = (middle : S) × hears old event middle × HearsAll hears middle events new
 
--- memory was refused to the walk, which left the listener as it was; or hearing the next event failed
+-- an allocation of the walk failed, and the listener does not change; or it failed at the next event
 abbrev pub Stops : {S : Type 0} → Fails S → ListenerError → (So : List At → Type 0) → List At → S → S → Type 0
 Stops fails why So events middle new = ((why ≡ failure.Memory) × So events × (new ≡ middle)) ⊎ ((event : At) × So (events ++ event ∷ []) × fails middle event why new)
 
@@ -55,11 +55,11 @@ abbrev pub has_some : List At → Bool
 has_some [] = false
 has_some (event ∷ events) = true
 
--- how many of the events a tally counts
+-- the number of events that a tally counts
 abbrev pub counted_in : List At → ℕ
 counted_in events = messages_in events + bad_in events
 
--- what these bytes emit was heard, and the side is read on after them
+-- the events of these bytes were heard, and the reader is after them
 pub record HearsBytes {S : Type 0} (r : Reading) (hears : Hears S) (scope : Scope) (line : ℕ) (from : Direction) (side : Side) (bytes : List ℕ) (reader : SideReader) (any : Bool) (old new : S) : Type 0 where
   pub events : List At
   pub after : Side
@@ -69,7 +69,7 @@ pub record HearsBytes {S : Type 0} (r : Reading) (hears : Hears S) (scope : Scop
   pub few : counted_in events ≤ length bytes
   pub some : any ≡ has_some events
 
--- a prefix of what a prefix of the bytes emits
+-- a prefix of the events of a prefix of the bytes
 pub record BytesBegin (r : Reading) (scope : Scope) (line : ℕ) (from : Direction) (side : Side) (bytes : List ℕ) (events : List At) : Type 0 where
   pub first : List ℕ
   pub more : List ℕ
@@ -81,7 +81,7 @@ abbrev pub EmitsBytes : {S : Type 0} → Reading → Hears S → Fails S → Sco
 EmitsBytes r hears fails scope line from side bytes reader old new (Ok any) = HearsBytes r hears scope line from side bytes reader any old new
 EmitsBytes r hears fails scope line from side bytes reader old new (Err why) = FailsIn hears fails why (BytesBegin r scope line from side bytes) old new
 
--- what the first of these bytes emit was heard, and the side is read on with the rest
+-- the events of the first of these bytes were heard, and the rest is left
 pub record HearsFirst {S : Type 0} (r : Reading) (hears : Hears S) (scope : Scope) (line : ℕ) (from : Direction) (side : Side) (bytes rest : List ℕ) (reader : SideReader) (any : Bool) (old new : S) : Type 0 where
   pub first : List ℕ
   pub cut : bytes ≡ first ++ rest
@@ -91,17 +91,17 @@ abbrev pub EmitsFirst : {S : Type 0} → Reading → Hears S → Fails S → Sco
 EmitsFirst r hears fails scope line from side bytes reader old new (Ok next) = HearsFirst r hears scope line from side bytes next.rest.now reader next.any old new
 EmitsFirst r hears fails scope line from side bytes reader old new (Err why) = FailsIn hears fails why (BytesBegin r scope line from side bytes) old new
 
--- So many bytes of a refused message are left. What comes of it was heard, and whether anything did.
+-- This many bytes of a refused message are left. If none is, the event that reading resumes was heard.
 abbrev pub EmitsRest : {S : Type 0} → Reading → Hears S → Fails S → ℕ → Direction → (size left : ℕ) → SideReader → (old new : S) → Result Bool ListenerError → Type 0
 EmitsRest r hears fails line from size left reader old new (Ok any) =
     HearsAll hears old (skipping_events line from size left) new × Follows r reader (side_skipping size left) × (any ≡ has_some (skipping_events line from size left))
 EmitsRest r hears fails line from size left reader old new (Err why) = FailsIn hears fails why (PrefixOf (λ all. all ≡ skipping_events line from size left)) old new
 
--- nothing of the side is read any more
+-- the side is not read any more
 abbrev pub StaysSilent : {S : Type 0} → Hears S → (reader next : SideReader) → (old new : S) → Result Bool ListenerError → Type 0
 StaysSilent hears reader next old new result = (result ≡ Ok false) × (next ≡ reader) × (new ≡ old)
 
--- what a piece emits was heard, and its side is read on after it
+-- the events of a piece were heard, and the reader is after it
 pub record HearsPiece {S : Type 0} (r : Reading) (hears : Hears S) (scope : Scope) (line : ℕ) (from : Direction) (side : Side) (bytes : List ℕ) (reader : SideReader) (old new : S) : Type 0 where
   pub events : List At
   pub after : Side
@@ -110,7 +110,7 @@ pub record HearsPiece {S : Type 0} (r : Reading) (hears : Hears S) (scope : Scop
   pub follows : Follows r reader after
   pub few : counted_in events ≤ length bytes
 
--- a prefix of what a prefix of the piece emits
+-- a prefix of the events of a prefix of the piece
 pub record PieceBegins (r : Reading) (scope : Scope) (line : ℕ) (from : Direction) (side : Side) (bytes : List ℕ) (events : List At) : Type 0 where
   pub first : List ℕ
   pub more : List ℕ
@@ -122,7 +122,7 @@ abbrev pub EmitsPiece : {S : Type 0} → Reading → Hears S → Fails S → Sco
 EmitsPiece r hears fails scope line from side bytes reader old new (Ok done) = HearsPiece r hears scope line from side bytes reader old new
 EmitsPiece r hears fails scope line from side bytes reader old new (Err why) = FailsIn hears fails why (PieceBegins r scope line from side bytes) old new
 
--- what is cut off was heard, at most so many
+-- the messages that are cut off were heard, at most this many
 pub record HearsEnd {S : Type 0} (hears : Hears S) (Ends : List At → Type 0) (most : ℕ) (old new : S) : Type 0 where
   pub events : List At
   pub ends : Ends events
@@ -135,7 +135,7 @@ EmitsEnd hears fails Ends most old new (Err why) = FailsIn hears fails why (Pref
 
 -- ---- both sides
 
--- each reader goes on after its side's bytes, until none is read
+-- each reader is after the bytes of its side, until neither side is read
 abbrev pub FollowsUntil : Reading → Bool → SideReader → Side → Type 0
 FollowsUntil r true reader side = side ≡ stopped
 FollowsUntil r false reader side = Follows r reader side
@@ -148,7 +148,7 @@ pub record FollowBoth (r : Reading) (state : BothSides) (sides : Sides) : Type 0
   pub till : FollowsUntil r state.rejected state.till sides.till
   pub terminal : FollowsUntil r state.rejected state.terminal sides.terminal
 
--- what a piece emits was heard, and what it leaves of the other side
+-- the events of a piece were heard, and what it cuts off on the other side
 pub record HearsBeside {S : Type 0} (r : Reading) (hears : Hears S) (scope : Scope) (line : ℕ) (from : Direction) (side beside : Side) (bytes : List ℕ) (reader other : SideReader) (stops : Bool) (old new : S) : Type 0 where
   pub events : List At
   pub after : Side
@@ -159,7 +159,7 @@ pub record HearsBeside {S : Type 0} (r : Reading) (hears : Hears S) (scope : Sco
   pub follows_beside : FollowsUntil r stops other beside_after
   pub few : counted_in events ≤ length bytes + 1
 
--- a prefix of what a prefix of the piece emits, and of what it leaves of the other side
+-- a prefix of the events of a prefix of the piece, and of what it cuts off on the other side
 pub record BesideBegins (r : Reading) (scope : Scope) (line : ℕ) (from : Direction) (side beside : Side) (bytes : List ℕ) (events : List At) : Type 0 where
   pub first : List ℕ
   pub more : List ℕ
@@ -170,7 +170,7 @@ pub record BesideBegins (r : Reading) (scope : Scope) (line : ℕ) (from : Direc
 
 -- ---- one line of the trace
 
--- what the line emits was heard, and the streams go on after it
+-- the events of the line were heard, and the readers are after it
 pub record HearsLine {S : Type 0} (r : Reading) (hears : Hears S) (scope : Scope) (number : ℕ) (meaning : Meaning) (sides : Sides) (state : BothSides) (old new : S) : Type 0 where
   pub events : List At
   pub after : Sides
@@ -188,7 +188,7 @@ abbrev pub fault_of : ListenerError → TraceFault
 fault_of failure.Memory = Memory
 fault_of failure.Write = Write
 
--- What emitting the events of the line of that number answers.
+-- The result of emitting the events of the line with this number.
 abbrev pub WalksLine : {S : Type 0} → Reading → Hears S → Fails S → Scope → ℕ → List ℕ → Sides → BothSides → (old new : S) → Result Unit TraceFault → Type 0
 WalksLine r hears fails scope number line sides state old new (Ok done) =
     (meaning : Meaning) × (meaning_of line ≡ Ok meaning) × (size_of meaning ≤ length line) × HearsLine r hears scope number meaning sides state old new
@@ -198,14 +198,14 @@ WalksLine r hears fails scope number line sides state old new (Err Write) = Fail
 WalksLine r hears fails scope number line sides state old new (Err TooLong) = ⊥
 WalksLine r hears fails scope number line sides state old new (Err Read) = ⊥
 
--- What emitting the events of the first line of a text answers, at the text after it.
+-- The result of emitting the events of the first line of a text, before the rest of the text.
 abbrev pub WalksFirst : {S A : Type 0} → (A → List ℕ) → Reading → Hears S → Fails S → Scope → ℕ → List ℕ → Sides → BothSides → (old new : S) → Result A TraceFault → Type 0
 WalksFirst text_of r hears fails scope number text sides state old new (Ok after) = Begins text (λ line. WalksLine r hears fails scope number line sides state old new (Ok tt)) (text_of after)
 WalksFirst text_of r hears fails scope number text sides state old new (Err fault) = (after : List ℕ) × Begins text (λ line. WalksLine r hears fails scope number line sides state old new (Err fault)) after
 
 -- ---- lines, one after another
 
--- the most bytes that a walk takes: no trace in memory or of a device has so many
+-- the maximum number of bytes of a walk: no trace in memory or on a device has as many
 abbrev pub most : ℕ
 most = 2 ^ 62
 
@@ -232,7 +232,7 @@ pub record HasWalked (r : Reading) (scope : Scope) (lines : List (List ℕ)) (ev
 
 -- ---- the trace
 
--- A walk failed that goes on after these earlier events: the events of the lines before were heard, and a prefix of those that came next.
+-- A walk failed after these earlier events: the events of the lines before were heard, and a prefix of the next ones.
 abbrev pub FaultsFrom : {S : Type 0} → Reading → Hears S → Fails S → Scope → List (List ℕ) → (earlier : List At) → (old new : S) → TraceFault → Type 0
 FaultsFrom r hears fails scope lines earlier old new (Trace number what) = (events : List At) × BrokenTrace r scope lines number what (earlier ++ events) × HearsAll hears old events new
 FaultsFrom r hears fails scope lines earlier old new Memory = FailsIn hears fails failure.Memory (λ events. EventsSoFar r scope lines (earlier ++ events)) old new
@@ -245,12 +245,12 @@ abbrev pub WalksOn : {S : Type 0} → Reading → Hears S → Fails S → Scope 
 WalksOn r hears fails scope lines earlier progress old new (Ok done) = (events : List At) × HasWalked r scope lines (earlier ++ events) progress × HearsAll hears old events new
 WalksOn r hears fails scope lines earlier progress old new (Err fault) = (others : List (List ℕ)) → FaultsFrom r hears fails scope (lines ++ others) earlier old new fault
 
--- What a walk over lines answers that goes on after these earlier events.
+-- The result of a walk over lines that continues after these earlier events.
 abbrev pub AnswersFrom : {S : Type 0} → Reading → Hears S → Fails S → Scope → List (List ℕ) → (earlier : List At) → (old new : S) → Result Tally TraceFault → Type 0
 AnswersFrom r hears fails scope lines earlier old new (Ok tally) = (events : List At) × WholeTrace r scope lines (earlier ++ events) × HearsAll hears old events new × Tallies tally (earlier ++ events)
 AnswersFrom r hears fails scope lines earlier old new (Err fault) = FaultsFrom r hears fails scope lines earlier old new fault
 
--- What a walk over lines answers, by that reading of lengths. Where it fails, the events of the lines before were heard, and a prefix of those that came next.
+-- The result of a walk over lines, by this reading of lengths. If it fails, the events of the lines before were heard, and a prefix of the next ones.
 abbrev pub AnswersWalk : {S : Type 0} → Reading → Hears S → Fails S → Scope → List (List ℕ) → (old new : S) → Result Tally TraceFault → Type 0
 AnswersWalk r hears fails scope lines old new (Ok tally) = (events : List At) × WholeTrace r scope lines events × HearsAll hears old events new × Tallies tally events
 AnswersWalk r hears fails scope lines old new (Err (Trace number what)) = (events : List At) × BrokenTrace r scope lines number what events × HearsAll hears old events new

@@ -1,4 +1,4 @@
--- What one line of a trace means.
+-- The meaning of one line of a trace.
 use Rattle.std.specs.Prelude.{⊤, ℕ, not, ◌≡◌, ◌<◌, ◌≤◌, ◌+◌, ◌*◌, ◌==◌, ◌&&◌, List, [], ◌∷◌, ◌++◌, length, take, slice_index, if◌then◌else◌, IsSome, None, Result, Ok, Err, unwrap_or}
 use Rattle.std.specs.List.{filter}
 use Rattle.std.specs.Str.Lines.{lines}
@@ -26,7 +26,7 @@ abbrev pub piece_of : Direction → Result (List ℕ) FromHexError → Result Me
 piece_of from (Ok bytes) = Ok (piece from bytes)
 piece_of from (Err e) = Err Hex
 
--- nothing or '#' is a comment, '>' and '<' are pieces in hexadecimal, '!' alone is a loss
+-- an empty line or one with '#' is a comment, '>' and '<' start pieces in hexadecimal, '!' alone is a loss
 abbrev pub meaning_of : List ℕ → Result Meaning TraceLineError
 meaning_of [] = Ok comment
 meaning_of (first ∷ rest) =
@@ -40,7 +40,7 @@ meaning_of (first ∷ rest) =
 abbrev pub SpellsBytes : List ℕ → Type 0
 SpellsBytes text = IsSome (spells (without_spaces text))
 
--- those bytes, and none where it spells none
+-- these bytes, or none if it spells none
 abbrev pub bytes_of : List ℕ → List ℕ
 bytes_of text = unwrap_or (spells (without_spaces text)) []
 
@@ -67,7 +67,7 @@ meant_by code.Comment = comment
 meant_by (code.Piece from bytes undecoded) = piece from (bytes.now ++ bytes_of undecoded.now)
 meant_by code.Lost = lost
 
--- how many bytes it brings
+-- the number of its bytes
 abbrev pub size_of : Meaning → ℕ
 size_of comment = 0
 size_of (piece from bytes) = length bytes
@@ -84,15 +84,15 @@ GoesOn code.Comment = ⊤
 GoesOn (code.Piece from bytes undecoded) = SpellsBytes undecoded.now
 GoesOn code.Lost = ⊤
 
--- what was read of a line: what it means, or why it has no meaning
+-- the result of reading a line: its meaning, or why it has none
 abbrev pub Reads : List ℕ → Result TraceLine TraceLineError → Type 0
 Reads line (Ok read) = (meaning_of line ≡ Ok (meant_by read)) × (size_of (meant_by read) ≤ length line) × GoesOn read
 Reads line (Err what) = meaning_of line ≡ Err what
 
--- text begins with a line of which that is so, and the rest comes after it
+-- the text starts with such a line, and the rest follows it
 abbrev pub Begins : (text : List ℕ) → (List ℕ → Type 0) → (rest : List ℕ) → Type 0
 Begins text Says rest = (line : List ℕ) × (lines text ≡ line ∷ lines rest) × Says line × (length line + length rest ≤ length text) × (length rest < length text)
 
--- the text begins with a piece in the plain form, whose bytes the buffer begins with
+-- the text starts with a piece in the plain form, and the buffer with its bytes
 abbrev pub IsPlain : (text buffer : List ℕ) → Plain → Type 0
 IsPlain text buffer plain = Begins text (λ line. (meaning_of line ≡ Ok (piece plain.from (take plain.count buffer))) × (plain.count ≤ length line)) plain.after.now

@@ -9,15 +9,15 @@ use Rattle.zvt_trace.specs.declared.listener.ListenerError.{ListenerError}
 abbrev pub BothHear : {A B : Type 0} → Hears A → Hears B → At → (a : A) (b : B) (x : A) (y : B) → Type 0
 BothHear first second event a b x y = first a event x × second b event y
 
--- The first fails, and the second is as it was; or the first hears the event, and the second fails.
+-- The first fails, and the second does not change; or the first hears the event, and the second fails.
 abbrev pub OneFails : {A B : Type 0} → Hears A → Fails A → Fails B → At → ListenerError → (a : A) (b : B) (x : A) (y : B) → Type 0
 OneFails hears fails second_fails event why a b x y = (fails a event why x × (y ≡ b)) ⊎ (hears a event x × second_fails b event why y)
 
--- one more, up to the greatest number of 64 bits
+-- one more, saturating at 64 bits
 abbrev pub one_more : ℕ → ℕ
 one_more n = min (n + 1) 18446744073709551615
 
--- a message is counted, and so is what is refused or cut off
+-- messages are counted, and so are streams that are refused or cut off
 abbrev pub counted : Tally → TraceEvent → Tally
 counted tally (message from m) = record tally { messages = one_more tally.messages }
 counted tally (refused from head byte place why) = record tally { bad = one_more tally.bad }

@@ -1,4 +1,4 @@
--- Where a side is read on after a refusal.
+-- Where reading of a side resumes after a refusal.
 use Rattle.std.specs.Prelude.{⊤, ℕ, zero, suc, ◌+◌, ◌-◌, ◌*◌, ◌≤◌, ◌==◌, nat_lt, if◌then◌else◌, Option, None, Some, List, [], ◌∷◌, take}
 use Rattle.zvt_trace.specs.Trace.{Side, running, skipping, stopped}
 use Rattle.zvt_trace.specs.TraceEvent.{At, on}
@@ -9,20 +9,20 @@ use Rattle.zvt_trace.specs.declared.listener.Scope.TheVariants.{OneMessage, OneS
 
 -- ---- the size that a message announces
 
--- after FF the size of the data stands in two bytes, the low one first
+-- after FF, two bytes give the size of the data, the low one first
 abbrev pub long_size : List ℕ → Option ℕ
 long_size [] = None
 long_size (low ∷ []) = None
 long_size (low ∷ high ∷ content) = Some (5 + low + 256 * high)
 
--- the size of the whole message, by its first bytes, where enough of them are there
+-- the size of the whole message, once enough of its first bytes have arrived
 abbrev pub announced : List ℕ → Option ℕ
 announced [] = None
 announced (class ∷ []) = None
 announced (class ∷ instruction ∷ []) = None
 announced (class ∷ instruction ∷ size ∷ more) = if size == 255 then long_size more else Some (3 + size)
 
--- that size, if a side is read on after a refusal at that place of the message
+-- this size, if reading resumes after a refusal at this place of the message
 abbrev pub size_by : Scope → (place : ℕ) → Option ℕ → Option ℕ
 size_by OneSide place size = None
 size_by OneMessage place None = None
@@ -35,7 +35,7 @@ refused_size scope rest place = size_by scope place (announced (take (suc place)
 
 -- ---- the rest of a refused message
 
--- So many bytes of a refused message are still to come. Once the last one has come, the side is read anew.
+-- This many bytes of a refused message are missing. After the last of them, reading resumes.
 abbrev pub side_skipping : (size left : ℕ) → Side
 side_skipping size zero = running []
 side_skipping size (suc left) = skipping size (suc left)
@@ -44,7 +44,7 @@ abbrev pub skipping_events : ℕ → Direction → (size left : ℕ) → List At
 skipping_events line from size zero = on line (trace_event.resumed from size) ∷ []
 skipping_events line from size (suc left) = []
 
--- So many bytes of the refused message have come, and none of a later one.
+-- This many bytes of the refused message have arrived, and none of a later one.
 abbrev pub side_refused : Option ℕ → (come : ℕ) → Side
 side_refused None come = stopped
 side_refused (Some size) come = side_skipping size (size - come)

@@ -2,7 +2,7 @@
 use Rattle.std.specs.Prelude.{◌≡◌, ⊤, ℕ, ◌+◌, ◌*◌, ◌<◌, IsSome, MatchOption, Option, unwrap_or, Some, None, List, [], ◌∷◌, ◌++◌}
 use Rattle.hex.specs.Hex.{hex_digit_value}
 
--- the value of a digit, and above 15 for what is none
+-- the value of a digit, and more than 15 for any other character
 abbrev pub IsDigit : ℕ → ℕ → Type 0
 IsDigit digit value = MatchOption (hex_digit_value digit) (15 < value) (λ is. value ≡ is)
 
@@ -11,7 +11,7 @@ abbrev pub AreHex : List ℕ → Type 0
 AreHex [] = ⊤
 AreHex (digit ∷ rest) = IsSome (hex_digit_value digit) × AreHex rest
 
--- the value of a digit, and 256 for what is none
+-- the value of a digit, and 256 for any other character
 abbrev pub worth : (digit : ℕ) → ℕ
 worth digit = unwrap_or (hex_digit_value digit) 256
 

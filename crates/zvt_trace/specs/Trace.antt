@@ -1,4 +1,4 @@
--- What both sides of the line have sent, and what arrives with a piece.
+-- The bytes of both sides of a line, and the messages that arrive with a piece.
 use Rattle.std.specs.Prelude.{ℕ, List, [], ◌++◌}
 use Rattle.zvt_grammar.specs.Beginnings.{Alive, Place}
 use Rattle.zvt_grammar.specs.Cuts.{Cut}
@@ -12,14 +12,14 @@ use Rattle.zvt_trace.specs.declared.direction.Direction.TheVariants.{FromTill, F
 
 -- ---- one side of the line
 
--- all that a side has sent since it began to be read; or a message of that size was refused, and its last bytes are still to
--- come; or some of it was refused, and nothing more is read of it
+-- A side that is read, with all its bytes; a side that skips the last bytes of a refused message of this size; or a side
+-- that is not read after a refusal.
 pub data Side : Type 0 where
   running : (bytes : List ℕ) → Side
   skipping : (size left : ℕ) → Side
   stopped : Side
 
--- what is left after the whole messages: nothing or the beginning of one, or bytes after which none can follow
+-- the bytes after the complete messages: none, the start of a message, or bytes after which none can follow
 pub data Ending : Type 0 where
   begun : Ending
   refused : (place : ℕ) → (why : Why) → Ending

@@ -1,4 +1,4 @@
--- The events of a trace, and at which of its lines.
+-- The events of a trace, with their lines.
 use Rattle.std.specs.Prelude.{◌≡◌, ℕ, List}
 use Rattle.std.specs.List.{sum_by}
 use Rattle.zvt_grammar.specs.declared.why.Why.{Why}
@@ -11,9 +11,9 @@ use Rattle.zvt_stream.specs.declared.head.Head.{Head}
 use Rattle.zvt_trace.specs.declared.event.TraceEvent as code
 use Rattle.zvt_trace.specs.declared.event.TraceEvent.TheVariants as code_event
 
--- a whole message; or that bytes were refused, with the byte at which no message could follow any more; or that a piece
--- after a refusal is not read; or that the side is read on after a refused message of that size; or that a message of that
--- many bytes is cut off where the line ends; or that the connection was lost
+-- a complete message; a refusal, with the first byte after which no message can follow; an unread piece after a refusal;
+-- the end of a refused message of this size, where reading resumes; the end of the line after this many bytes of a
+-- message; or the loss of the connection
 pub data TraceEvent : Type 0 where
   message : (from : Direction) → (message : Message) → TraceEvent
   refused : (from : Direction) → (head : Head) → (byte place : ℕ) → (why : Why) → TraceEvent
@@ -73,7 +73,7 @@ messages_in events = sum_by (λ (event : At). message_count event.trace_event) e
 abbrev pub bad_in : List At → ℕ
 bad_in events = sum_by (λ (event : At). bad_count event.trace_event) events
 
--- the tally has the whole messages, and the streams that were refused or cut off
+-- the tally has the numbers of complete messages, and of streams that were refused or cut off
 pub record Tallies (tally : Tally) (events : List At) : Type 0 where
   pub messages : tally.messages ≡ messages_in events
   pub bad : tally.bad ≡ bad_in events

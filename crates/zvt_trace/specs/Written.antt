@@ -1,4 +1,4 @@
--- What the streams represent, what a device has that failed, and what reading a trace answers.
+-- What the readers represent, what a failed device has, and the result of reading a trace.
 use Rattle.std.specs.Prelude.{⊤, ◌≡◌, ℕ, ◌-◌, ◌<◌, ◌≤◌, ◌++◌, Bool, true, false, List, [], length, take, drop, min, Option, None, Some, IfSome, Result, Ok, Err, Vec}
 use Rattle.std.specs.Global.{Global}
 use Rattle.std.specs.Io.KnownBytes.{Appends, Consumes, IsAtEnd, Keeps}
@@ -58,16 +58,16 @@ is_everything Nothing = false
 is_everything (Rest size left) = false
 is_everything Everything = true
 
--- So many bytes of a message of that size have come, which is refused.
+-- This many bytes of a refused message of this size have arrived.
 abbrev pub skipped_by : Option ℕ → (come : ℕ) → Skipped
 skipped_by None come = Everything
 skipped_by (Some size) come = Rest size (size - come)
 
--- the reader has refused a message, of which so many bytes are left
+-- the reader has refused a message, and skips this many more bytes of it
 abbrev pub SkipsTo : SideReader → (size left : ℕ) → Type 0
 SkipsTo reader size left = HasRefused reader.stream × (reader.skipped ≡ Rest size left)
 
--- what is skipped of these bytes, and what comes after that
+-- the bytes that are skipped, and the rest
 abbrev pub Skips : Skipped → List ℕ → Skipped → List ℕ → Type 0
 Skips Nothing bytes next rest = (next ≡ Nothing) × (rest ≡ [])
 Skips (Rest size left) bytes next rest =
@@ -86,7 +86,7 @@ AppendsPrefix old new text = (prefix : List ℕ) × IsPrefix prefix text × Appe
 abbrev pub limit : ℕ
 limit = 16777216
 
--- What one read of a trace answers: how many bytes came, none at the end alone.
+-- The result of one read of a trace: the number of bytes, which is 0 only at the end.
 abbrev pub ReadsPiece : (capacity : ℕ) → (left rest : Option (List ℕ)) → (old new : List ℕ) → Result ℕ TraceFault → Type 0
 ReadsPiece capacity left rest old new (Ok count) =
     (taken : List ℕ) × Consumes left rest taken × (new ≡ old ++ taken) × (length taken ≡ count) × (count ≤ capacity) × (count ≡ 0 → IsAtEnd rest)
@@ -96,7 +96,7 @@ ReadsPiece capacity left rest old new (Err TooLong) = ⊥
 ReadsPiece capacity left rest old new (Err Write) = ⊥
 ReadsPiece capacity left rest old new (Err (Trace line what)) = ⊥
 
--- What reading a trace answers, where the bytes to come are known.
+-- The result of reading a trace of known bytes.
 abbrev pub ReadsTrace : (left : Option (List ℕ)) → Result (Vec ℕ Global) TraceFault → Type 0
 ReadsTrace left (Ok trace) = IfSome left (λ bytes. trace.items ≡ bytes)
 ReadsTrace left (Err TooLong) = IfSome left (λ bytes. limit < length bytes)
