@@ -19,14 +19,14 @@ use Rattle.zvt_trace.specs.declared.fault.TraceFault.{TraceFault}
 use Rattle.zvt_trace.specs.declared.fault.TraceFault.TheVariants.{Memory, Read, TooLong, Trace, Write}
 use Rattle.zvt_trace.specs.declared.listener.ListenerError.TheVariants as failure
 use Rattle.zvt_trace.specs.declared.listener.Scope.TheVariants.{WholeLine}
-use Rattle.zvt_audit.specs.Audited.{AnswersAuditBy, AnswersBooks, AnswersReadBy, Takes, has_swapped, hears, wants_memory}
+use Rattle.zvt_audit.specs.Audited.{AnswersAuditBy, AnswersBooks, AnswersReadBy, Takes, hears, wants_memory}
 use Rattle.zvt_audit.specs.Currencies.{agreed, currencies_of, named_by, one_currency}
 use Rattle.zvt_audit.specs.Ends.{AreEndLines, lines_of}
 use Rattle.zvt_audit.specs.Json.{books_in}
 use Rattle.zvt_text.specs.declared.form.Form.{Form}
 use Rattle.zvt_text.specs.declared.form.Form.TheVariants.{Text}
 use Rattle.zvt_audit.specs.Happened.{happenings_of, log_of}
-use Rattle.zvt_audit.specs.Orders.{are_swapped, is_order_from, orders_from}
+use Rattle.zvt_audit.specs.Orders.{are_swapped, has_unfollowed, is_order_from, is_unfollowed, orders_from}
 use Rattle.zvt_audit.specs.declared.auditor.Auditor.{Auditor}
 use Rattle.zvt_audit.specs.declared.currencies.NamedCurrency.{NamedCurrency}
 use Rattle.zvt_audit.specs.declared.currencies.NamedCurrency.TheVariants.{Absent}
@@ -70,6 +70,11 @@ terminal_noticed [] old new same = subst (λ (s : Auditor). s.orders.terminal �
 terminal_noticed (event ∷ events) old new some =
     terminal_noticed events some.0 new some.2 ∙ ap (λ (o : Orders). o.terminal || orders_from FromTerminal events) some.1.1 ∙ or_more old.orders.terminal (is_order_from FromTerminal event.trace_event) (orders_from FromTerminal events)
 
+unfollowed_noticed : (events : List At) (old new : Auditor) → HearsAll hears old events new → new.orders.unfollowed ≡ (old.orders.unfollowed || has_unfollowed events)
+unfollowed_noticed [] old new same = subst (λ (s : Auditor). s.orders.unfollowed ≡ (old.orders.unfollowed || false)) (sym same) (sym (or_false old.orders.unfollowed))
+unfollowed_noticed (event ∷ events) old new some =
+    unfollowed_noticed events some.0 new some.2 ∙ ap (λ (o : Orders). o.unfollowed || has_unfollowed events) some.1.1 ∙ or_more old.orders.unfollowed (is_unfollowed event.trace_event) (has_unfollowed events)
+
 swapped : (events : List At) (old new : Auditor) → old.orders.till ≡ false → old.orders.terminal ≡ false → HearsAll hears old events new
     → (not new.orders.till && new.orders.terminal) ≡ are_swapped events
 swapped events old new till terminal heard =
@@ -106,16 +111,16 @@ keeps_same None = tt
 keeps_same (Some bytes) = refl
 
 pub audited : {r : Reading} (trace : List ℕ) (form : Form) (tally : Tally) (answer : Result AuditSummary TraceFault) (old new : Option (List ℕ)) (connected closed : Auditor)
-    → HasJudged (Connected ∷ []) connected.books → connected.orders.till ≡ false → connected.orders.terminal ≡ false → connected.named ≡ Absent → AreEndLines [] (lines_of connected.ends) → AnswersWalk r hears wants_memory WholeLine (lines trace) connected closed (Ok tally)
-    → ((log : List Happening) → HasJudged log closed.books → AnswersBooks form log tally (has_swapped closed.orders) (agreed closed.named) (lines_of closed.ends) old new answer) → AnswersReadBy r form trace old new answer
-audited {r = r} trace form tally answer old new connected closed start till terminal unnamed unended walked closes =
-    by answer (subst (λ (c : Option ℕ). AnswersBooks form (log_of walked.0) tally (has_swapped closed.orders) c (lines_of closed.ends) old new answer) (currency_heard walked.0 connected closed unnamed walked.2) (closes (log_of walked.0) (log_judged walked.0 connected closed start walked.2)))
+    → HasJudged (Connected ∷ []) connected.books → connected.orders.till ≡ false → connected.orders.terminal ≡ false → connected.named ≡ Absent → AreEndLines [] (lines_of connected.ends) → connected.orders.unfollowed ≡ false → AnswersWalk r hears wants_memory WholeLine (lines trace) connected closed (Ok tally)
+    → ((log : List Happening) → HasJudged log closed.books → AnswersBooks form log tally closed.orders (agreed closed.named) (lines_of closed.ends) old new answer) → AnswersReadBy r form trace old new answer
+audited {r = r} trace form tally answer old new connected closed start till terminal unnamed unended unfollowed walked closes =
+    by answer (subst (λ (c : Option ℕ). AnswersBooks form (log_of walked.0) tally closed.orders c (lines_of closed.ends) old new answer) (currency_heard walked.0 connected closed unnamed walked.2) (closes (log_of walked.0) (log_judged walked.0 connected closed start walked.2)))
   where
     ended : AreEndLines walked.0 (lines_of closed.ends)
     ended = all_ended [] walked.0 connected closed start unended walked.2
 
-    by : (answer : Result AuditSummary TraceFault) → AnswersBooks form (log_of walked.0) tally (has_swapped closed.orders) (one_currency (currencies_of walked.0)) (lines_of closed.ends) old new answer → AnswersReadBy r form trace old new answer
-    by (Ok audited) (appended, same, is_swapped, sums) = (
+    by : (answer : Result AuditSummary TraceFault) → AnswersBooks form (log_of walked.0) tally closed.orders (one_currency (currencies_of walked.0)) (lines_of closed.ends) old new answer → AnswersReadBy r form trace old new answer
+    by (Ok audited) (appended, same, is_swapped, sums, is_unfollowed) = (
       walked.0,
       lines_of closed.ends,
       walked.1,
@@ -124,6 +129,7 @@ audited {r = r} trace form tally answer old new connected closed start till term
       subst (λ (t : Tally). Tallies t walked.0) (sym same) walked.3,
       is_swapped ∙ swapped walked.0 connected closed till terminal walked.2,
       sums,
+      is_unfollowed ∙ unfollowed_noticed walked.0 connected closed walked.2 ∙ ap (λ (b : Bool). b || has_unfollowed walked.0) unfollowed,
     )
     by (Err Memory) kept = kept
     by (Err Write) prefix = (walked.0, tally, lines_of closed.ends, walked.1, ended, prefix, walked.3)

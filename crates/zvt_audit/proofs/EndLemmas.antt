@@ -31,6 +31,12 @@ use Rattle.zvt_audit.specs.Happened.{happened, happenings_of, log_of}
 
 -- ---- the rows of a judged log
 
+booked_size : Books → ℕ
+booked_size b = length b.booked
+
+unclear_size : Books → ℕ
+unclear_size b = length b.unclear
+
 -- the books of the log with a payment that runs
 with_running : (log : List Happening) (b : Books) (p : OpenPayment) → Runs (segments log) b p → books log ≡ record { booked = b.booked; unclear = b.unclear ++ (p.amount, Unfinished) ∷ [] }
 with_running log b p r =
@@ -308,6 +314,9 @@ none_yet booked unclear none none_unclear =
 pub where_ok : {E P Q : Type 0} (r : Result (Unit {0}) E) → (P → Q) → OnOk r P → OnOk r Q
 where_ok (Ok _) more so = more so
 where_ok (Err e) more so = tt
+
+happened_as : (event : At) (log happened : List Happening) (count : List Happening → ℕ) → happenings_of event.trace_event ≡ happened → count (log ++ happened) ≡ count log → count (log ++ happenings_of event.trace_event) ≡ count log
+happened_as event log happened count is same = ap (λ (l : List Happening). count (log ++ l)) is ∙ same
 
 pub ends_noticed : (old new : BooksSoFar) (happened : List Happening) (line : ℕ) (lines after : Lines) → Takes old new happened → after ≡ with_ends lines new line
     → (before : List At) (event : At) → happenings_of event.trace_event ≡ happened → event.line ≡ line → HasJudged (log_of before) old → AreEndLines before lines → AreEndLines (before ++ event ∷ []) after

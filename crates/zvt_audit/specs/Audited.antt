@@ -22,7 +22,7 @@ use Rattle.zvt_audit.specs.Currencies.{currencies_of, named_after, named_by, one
 use Rattle.zvt_audit.specs.Ends.{AreEndLines, Lines, lines_of}
 use Rattle.zvt_audit.specs.Happened.{happenings_of, log_of}
 use Rattle.zvt_audit.specs.Json.{books_in}
-use Rattle.zvt_audit.specs.Orders.{are_swapped, noticed}
+use Rattle.zvt_audit.specs.Orders.{are_swapped, has_unfollowed, noticed}
 use Rattle.zvt_text.specs.declared.form.Form.{Form}
 use Rattle.zvt_audit.specs.declared.auditor.Auditor.{Auditor}
 use Rattle.zvt_audit.specs.declared.currencies.NamedCurrency.TheVariants.{Absent}
@@ -37,7 +37,7 @@ Takes old new happened = (log : List Happening) → HasJudged log old → HasJud
 abbrev pub IsConnected : Auditor → Type 0
 IsConnected auditor =
     HasJudged (Connected ∷ []) auditor.books × (auditor.orders.till ≡ false) × (auditor.orders.terminal ≡ false) × (auditor.named ≡ Absent)
-    × AreEndLines [] (lines_of auditor.ends)
+    × AreEndLines [] (lines_of auditor.ends) × (auditor.orders.unfollowed ≡ false)
 
 -- the lines stay those of the events, also after an event of this line by which that happened
 abbrev pub KeepsEnds : Auditor → List Happening → (line : ℕ) → Auditor → Type 0
@@ -65,13 +65,13 @@ pub record SumsUp (audited : AuditSummary) (found : Books) : Type 0 where
   pub unclear : audited.unclear ≡ length found.unclear
 
 -- What writing the books of a log in that form answers.
-abbrev pub AnswersBooks : Form → List Happening → Tally → Bool → (currency : Option ℕ) → Lines → (old new : Option (List ℕ)) → Result AuditSummary TraceFault → Type 0
-AnswersBooks form log tally swapped currency lines old new (Ok audited) = Appends old new (books_in form tally currency lines (books log)) × (audited.tally ≡ tally) × (audited.swapped ≡ swapped) × SumsUp audited (books log)
-AnswersBooks form log tally swapped currency lines old new (Err Memory) = Keeps old new
-AnswersBooks form log tally swapped currency lines old new (Err Write) = AppendsPrefix old new (books_in form tally currency lines (books log))
-AnswersBooks form log tally swapped currency lines old new (Err (Trace number what)) = ⊥
-AnswersBooks form log tally swapped currency lines old new (Err TooLong) = ⊥
-AnswersBooks form log tally swapped currency lines old new (Err Read) = ⊥
+abbrev pub AnswersBooks : Form → List Happening → Tally → Orders → (currency : Option ℕ) → Lines → (old new : Option (List ℕ)) → Result AuditSummary TraceFault → Type 0
+AnswersBooks form log tally orders currency lines old new (Ok audited) = Appends old new (books_in form tally currency lines (books log)) × (audited.tally ≡ tally) × (audited.swapped ≡ has_swapped orders) × SumsUp audited (books log) × (audited.unfollowed ≡ orders.unfollowed)
+AnswersBooks form log tally orders currency lines old new (Err Memory) = Keeps old new
+AnswersBooks form log tally orders currency lines old new (Err Write) = AppendsPrefix old new (books_in form tally currency lines (books log))
+AnswersBooks form log tally orders currency lines old new (Err (Trace number what)) = ⊥
+AnswersBooks form log tally orders currency lines old new (Err TooLong) = ⊥
+AnswersBooks form log tally orders currency lines old new (Err Read) = ⊥
 
 -- ---- an auditor as a listener
 
@@ -93,7 +93,7 @@ abbrev pub AnswersReadBy : Reading → Form → (trace : List ℕ) → (old new 
 AnswersReadBy r form trace old new (Ok audited) =
     (events : List At) × (ends : Lines) × WholeTrace r WholeLine (lines trace) events × AreEndLines events ends × Appends old new (books_in form audited.tally (one_currency (currencies_of events)) ends (books (log_of events)))
     × Tallies audited.tally events × (audited.swapped ≡ are_swapped events)
-    × SumsUp audited (books (log_of events))
+    × SumsUp audited (books (log_of events)) × (audited.unfollowed ≡ has_unfollowed events)
 AnswersReadBy r form trace old new (Err (Trace number what)) = (events : List At) × BrokenTrace r WholeLine (lines trace) number what events × Keeps old new
 AnswersReadBy r form trace old new (Err Memory) = Keeps old new
 AnswersReadBy r form trace old new (Err Write) =

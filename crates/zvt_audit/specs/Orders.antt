@@ -1,8 +1,9 @@
--- Which sides of the line sent a till's orders.
-use Rattle.std.specs.Prelude.{Bool, true, false, not, ◌&&◌, ◌||◌, List}
+-- Which sides of the line sent a till's orders, and whether one moves money that the books don't follow.
+use Rattle.std.specs.Prelude.{◌≡◌, ℕ, Bool, true, false, not, ◌&&◌, ◌||◌, List, [], ◌∷◌, nat_eq, nat_lt, refl, slice_index}
 use Rattle.std.specs.List.{list_any}
 use Rattle.zvt_apdu.specs.Message.{Message, ack, nack, registration, authorisation, reversal, end_of_day, abort_order, status, intermediate, print_line, text_block, completion, abort, other}
-use Rattle.zvt_trace.specs.TraceEvent.{At, TraceEvent}
+use Rattle.zvt_apdu.specs.Views.{control_of}
+use Rattle.zvt_trace.specs.TraceEvent.{At, TraceEvent, on}
 use Rattle.zvt_trace.specs.TraceEvent as trace_event
 use Rattle.zvt_trace.specs.declared.direction.Direction.{Direction}
 use Rattle.zvt_trace.specs.declared.direction.Direction.TheVariants.{FromTill, FromTerminal}
@@ -47,6 +48,52 @@ orders_from side events = list_any (λ (event : At). is_order_from side event.tr
 abbrev pub are_swapped : List At → Bool
 are_swapped events = not (orders_from FromTill events) && orders_from FromTerminal events
 
+-- control bytes of an order that moves money and that the books don't follow: a refund, and the orders of a pre-authorisation
+abbrev pub moves_apart : (control : List ℕ) → Bool
+moves_apart control = nat_eq (slice_index control 0) 0x06 && (nat_eq (slice_index control 1) 0x31 || (nat_lt 0x21 (slice_index control 1) && nat_lt (slice_index control 1) 0x26))
+
+abbrev pub is_unfollowed_from : Direction → Message → Bool
+is_unfollowed_from FromTill message = moves_apart (control_of message)
+is_unfollowed_from FromTerminal message = false
+
+-- the event is such an order of the till
+abbrev pub is_unfollowed : TraceEvent → Bool
+is_unfollowed (trace_event.message from m) = is_unfollowed_from from m
+is_unfollowed (trace_event.refused from head byte place why) = false
+is_unfollowed (trace_event.unread from) = false
+is_unfollowed (trace_event.resumed from size) = false
+is_unfollowed (trace_event.cut_off from head have) = false
+is_unfollowed trace_event.lost = false
+
+-- some order of the till moves money that the books don't follow
+abbrev pub has_unfollowed : List At → Bool
+has_unfollowed events = list_any (λ (event : At). is_unfollowed event.trace_event) events
+
 -- what was noticed, with one thing more
 abbrev pub noticed : Orders → TraceEvent → Orders
-noticed orders event = record { till = orders.till || is_order_from FromTill event; terminal = orders.terminal || is_order_from FromTerminal event }
+noticed orders event = record {
+  till = orders.till || is_order_from FromTill event;
+  terminal = orders.terminal || is_order_from FromTerminal event;
+  unfollowed = orders.unfollowed || is_unfollowed event;
+}
+
+-- ---- rows worked by hand
+
+abbrev sent_by : Direction → (low : ℕ) → At
+sent_by from low = on 1 (trace_event.message from (other 0x06 low []))
+
+a_refund : has_unfollowed (sent_by FromTill 0x20 ∷ sent_by FromTill 0x31 ∷ []) ≡ true
+a_refund = refl
+
+a_reservation : has_unfollowed (sent_by FromTill 0x22 ∷ []) ≡ true
+a_reservation = refl
+
+the_last_of_a_reservation : has_unfollowed (sent_by FromTill 0x25 ∷ []) ≡ true
+the_last_of_a_reservation = refl
+
+a_diagnosis : has_unfollowed (sent_by FromTill 0x70 ∷ sent_by FromTill 0x26 ∷ sent_by FromTill 0x21 ∷ []) ≡ false
+a_diagnosis = refl
+
+-- a terminal gives no orders
+an_echo : has_unfollowed (sent_by FromTerminal 0x31 ∷ on 2 trace_event.lost ∷ []) ≡ false
+an_echo = refl

@@ -1,6 +1,7 @@
-//! Records which sides of the line sent orders.
+//! Records which sides of the line sent orders, and whether an order moves money that the books do not follow.
 ghost use Rattle.std.specs.Prelude.{◌≡◌, false, not, ◌&&◌};
-ghost use Rattle.zvt_audit.specs.Orders.{is_order, noticed};
+ghost use Rattle.zvt_apdu.specs.Views.{control_of};
+ghost use Rattle.zvt_audit.specs.Orders.{is_order, moves_apart, noticed};
 ghost use Rattle.zvt_trace.specs.TraceEvent as trace_event;
 
 use zvt_apdu::{ApduView, Kind};
@@ -11,16 +12,19 @@ use zvt_trace::Direction;
 pub(crate) struct Orders {
     pub(crate) till: bool,
     pub(crate) terminal: bool,
+    /// Whether the till sent a refund or an order of a pre-authorisation.
+    pub(crate) unfollowed: bool,
 }
 
 impl Orders {
     /// Starts before any order.
     pub(crate) fn none() -> Orders
-        ensures { (result.till ≡ false) × (result.terminal ≡ false) }
+        ensures { (result.till ≡ false) × (result.terminal ≡ false) × (result.unfollowed ≡ false) }
     {
         Orders {
             till: false,
             terminal: false,
+            unfollowed: false,
         }
     }
 
@@ -32,6 +36,9 @@ impl Orders {
             Direction::FromTill => {
                 if is_order(apdu) {
                     self.till = true;
+                }
+                if moves_apart(apdu) {
+                    self.unfollowed = true;
                 }
             }
             Direction::FromTerminal => {
@@ -62,4 +69,14 @@ fn is_order(apdu: &ApduView<'_>) -> bool
         | Kind::AbortOrder => true,
         _ => false,
     }
+}
+
+/// Whether this message of a till moves money in a way that the books do not follow: a refund (06 31), or an order of a
+/// pre-authorisation, 06 22 to 06 25 (PA00P015, Refund, Pre-Authorisation, Partial-Reversal of a Pre-Authorisation, Book
+/// Total, Pre-Authorisation Reversal).
+fn moves_apart(apdu: &ApduView<'_>) -> bool
+    ensures { result ≡ moves_apart (control_of apdu.now) }
+{
+    let [high, low] = apdu.control();
+    high == 0x06 && (low == 0x31 || (low > 0x21 && low < 0x26))
 }

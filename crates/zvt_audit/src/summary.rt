@@ -4,7 +4,7 @@ ghost use Rattle.zvt_grammar.specs.Lengths.{reading_of};
 ghost use Rattle.zvt_trace.specs.Written.{limit};
 ghost use Rattle.zvt_till.specs.Judging.{HasJudged};
 ghost use Rattle.zvt_till.specs.declared.happenings.Happening.{Happening};
-ghost use Rattle.zvt_audit.specs.Audited.{AnswersBooks, AnswersReadBy, IsConnected, has_swapped};
+ghost use Rattle.zvt_audit.specs.Audited.{AnswersBooks, AnswersReadBy, IsConnected};
 ghost use Rattle.zvt_audit.specs.Currencies.{agreed};
 ghost use Rattle.zvt_audit.specs.Ends.{lines_of};
 
@@ -30,6 +30,9 @@ pub struct AuditSummary {
     pub unclear: u64,
     /// Whether orders came only from the side that is marked as the terminal's.
     pub swapped: bool,
+    /// Whether the till sent an order that moves money and that the books do not follow: a refund, or an order of a
+    /// pre-authorisation.
+    pub unfollowed: bool,
 }
 
 /// Writes the books of the trace: one line per completed payment, then one per unclear payment, then the total of the
@@ -81,12 +84,13 @@ pub(crate) fn write_books<W: Sink>(
     writer: &mut W,
 ) -> Result<AuditSummary, TraceFault>
     ensures writes { (log : List Happening) → HasJudged log auditor.books → AnswersBooks form log tally
-        (has_swapped auditor.orders) (agreed auditor.named) (lines_of auditor.ends) (W.written writer.old)
+        auditor.orders (agreed auditor.named) (lines_of auditor.ends) (W.written writer.old)
         (W.written writer.new) result }
     ensures write { result ≡ Err TraceFault.Write → W.failures writer.old < W.failures writer.new }
     ensures read { result ≡ Err TraceFault.Read → ⊥ }
 {
     let swapped = auditor.orders.are_swapped();
+    let unfollowed = auditor.orders.unfollowed;
     let currency = auditor.named.agreed();
     let found = auditor.books.close()?;
     let mut text = Text::new(alloc);
@@ -97,5 +101,6 @@ pub(crate) fn write_books<W: Sink>(
         total: booked::total(found.booked.as_slice()),
         unclear: found.unclear.len() as u64,
         swapped,
+        unfollowed,
     })
 }

@@ -9,4 +9,4 @@ returns-in_err-tally-clause-writes g c =
 
 pub returns-clause-writes : goal.returns-clause-writes
 returns-clause-writes g c =
-    audited c.args.trace.now c.args.form c.in_ok-tally.tally c.write_books.result _ _ _ _ c.in_ok-auditor.ensures.0 c.in_ok-auditor.ensures.1 c.in_ok-auditor.ensures.2 c.in_ok-auditor.ensures.3 c.in_ok-auditor.ensures.4 c.in_ok-tally.ensures c.write_books.ensures.writes
+    audited c.args.trace.now c.args.form c.in_ok-tally.tally c.write_books.result _ _ _ _ c.in_ok-auditor.ensures.0 c.in_ok-auditor.ensures.1 c.in_ok-auditor.ensures.2 c.in_ok-auditor.ensures.3 c.in_ok-auditor.ensures.4 c.in_ok-auditor.ensures.5 c.in_ok-tally.ensures c.write_books.ensures.writes

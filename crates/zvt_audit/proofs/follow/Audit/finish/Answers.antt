@@ -13,7 +13,7 @@ returns-in_err-tally-clause-writes g c = λ r bytes has.
 pub returns-clause-writes : goal.returns-clause-writes
 returns-clause-writes g c = λ r bytes has.
     audited {r = r} bytes c.args.form c.in_ok-tally.tally c.write_books.result _ _ has.start c.finish.new.listener
-    has.connected.0 has.connected.1 has.connected.2 has.connected.3 has.connected.4 (all_walked r bytes c.args.self c.finish.new.listener (Ok c.in_ok-tally.tally) has c.in_ok-tally.ensures) c.write_books.ensures.writes
+    has.connected.0 has.connected.1 has.connected.2 has.connected.3 has.connected.4 has.connected.5 (all_walked r bytes c.args.self c.finish.new.listener (Ok c.in_ok-tally.tally) has c.in_ok-tally.ensures) c.write_books.ensures.writes
 
 pub returns-in_err-tally-clause-write : goal.returns-in_err-tally-clause-write
 returns-in_err-tally-clause-write g c = λ is r bytes has.
