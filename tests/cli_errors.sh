@@ -68,7 +68,7 @@ check "a file, and standard input by its sign" "$?" 0 "$(cat "$work/named")" ""
 
 # What is bad in a trace: standard output has no more than ever, and standard error leads back to the line.
 notes() { # NAME STATUS OUTPUT ERRORS TRACE COMMAND
-    printf "$5" | "$zvt" "$6" > "$work/out" 2> "$work/err"
+    printf "$5" | "$zvt" $6 > "$work/out" 2> "$work/err"
     check "$1" "$?" "$2" "$3" ""
     [ "$(cat "$work/err")" = "$4" ] || { echo "NOT AS EXPECTED: the notes of $1"; cat "$work/err"; echo "$1" >> "$work/failed"; }
 }
@@ -98,6 +98,15 @@ zvt: 3 lines not read after that, up to line 4
 zvt: line 6 of the trace: < a message of 06 cut off after 1
 zvt: 0 messages, 1 stream refused, 1 cut off" "$bad" audit
 notes "directions that are swapped" 0 "total 0" "zvt: only '<' sent orders: the directions of the trace may be swapped" '< 06 50 03 00 00 00\n> 80 00 00\n' audit
+unfollowed="zvt: the till sent a refund or an order of a pre-authorisation, which the audit does not follow: find 'Other 0631' and 'Other 0622' to 'Other 0625' in 'zvt show'"
+for low in 22 23 24 25 31; do
+    notes "the order 06 $low" 0 "total 0" "$unfollowed" "> 06 $low 03 00 00 00\n< 80 00 00\n" audit
+    notes "the order 06 $low, checked" 1 "total 0" "$unfollowed" "> 06 $low 03 00 00 00\n< 80 00 00\n" "audit --check"
+done
+for low in 20 21 26 32 70; do
+    notes "the command 06 $low" 0 "total 0" "" "> 06 $low 03 00 00 00\n< 80 00 00\n" "audit --check"
+done
+notes "a terminal that sends the bytes of a refund" 0 "total 0" "" "< 06 31 03 00 00 00\n" "audit --check"
 for command in show join receipts; do
     notes "a trace without a message under $command" 0 "" "zvt: the trace contains no message" '# nothing\n' "$command"
 done

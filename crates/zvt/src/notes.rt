@@ -13,7 +13,8 @@ use zvt_show::diagnostics::{hint_on, write_notes};
 use zvt_tool::trace_command::{TraceCommand, TraceWork};
 use zvt_trace::{ListenerError, Scope, Tally, TraceFault};
 
-/// Reports bad streams, a trace without messages, and directions that may be swapped. Returns whether memory sufficed.
+/// Reports bad streams, a trace without messages, directions that may be swapped, and orders that the audit does not
+/// follow. Returns whether memory sufficed.
 pub fn report_notes(
     rt: &HostRuntime,
     command: &TraceCommand<'_>,
@@ -44,9 +45,17 @@ pub fn report_notes(
                 b"zvt: only '<' sent orders: the directions of the trace may be swapped\n",
             )?;
         }
+        if found.unfollowed {
+            writeln!(errors, "zvt: {UNFOLLOWED}")?;
+        }
     }
     Ok(true)
 }
+
+/// The note about an order that the audit does not follow.
+pub const UNFOLLOWED: &str =
+    "the till sent a refund or an order of a pre-authorisation, which the audit does not \
+    follow: find 'Other 0631' and 'Other 0622' to 'Other 0625' in 'zvt show'";
 
 /// Reports how much of a trace that was followed is bad. Its output has said where.
 pub fn report_counts(
@@ -57,12 +66,14 @@ pub fn report_counts(
         return Ok(());
     };
     if found.tally.bad > 0 {
-        report_tally(rt, found.tally)
+        report_tally(rt, found.tally)?;
     } else if found.tally.messages == 0 {
-        report(rt, "the trace contains no message")
-    } else {
-        Ok(())
+        report(rt, "the trace contains no message")?;
     }
+    if found.unfollowed {
+        report(rt, UNFOLLOWED)?;
+    }
+    Ok(())
 }
 
 /// The line of the trace, counted from 1, that can't be read, if that is why the command ended.

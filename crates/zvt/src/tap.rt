@@ -1,5 +1,6 @@
 //! A tap between a till and its terminal, as the command line asks for it.
 use crate::exit::Exit;
+use crate::notes::UNFOLLOWED;
 use crate::output::Output;
 use crate::reports::{report, report_invalid, report_tally};
 use crate::screen::Screen;
@@ -350,7 +351,12 @@ fn report_found<W: Write + Drop>(
         Err(fault) => return report_fault(rt, &fault),
     };
     match found.audited {
-        Ok(_) => shown,
+        Ok(audited) => {
+            if audited.unfollowed {
+                let _ = report(rt, UNFOLLOWED);
+            }
+            shown
+        }
         Err(TraceFault::Write) if is_pipe_closed => DEVICE,
         Err(fault) => report_fault(rt, &fault),
     }

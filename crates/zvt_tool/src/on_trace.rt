@@ -59,7 +59,7 @@ pub fn follow_work<R: Source, W: Sink>(
 /// What a command found that does not look at who sends orders.
 fn found(answer: Result<Tally, TraceFault>) -> Result<AuditSummary, TraceFault>
     ensures tally { tally_of result ≡ answer }
-    ensures swapped { IfOk result (λ found. found.swapped ≡ false) }
+    ensures swapped { IfOk result (λ found. (found.swapped ≡ false) × (found.unfollowed ≡ false)) }
     ensures none { IfOk result (λ found. (found.total ≡ 0) × (found.unclear ≡ 0)) }
 {
     match answer {
@@ -68,6 +68,7 @@ fn found(answer: Result<Tally, TraceFault>) -> Result<AuditSummary, TraceFault>
             total: 0,
             unclear: 0,
             swapped: false,
+            unfollowed: false,
         }),
         Err(fault) => Err(fault),
     }

@@ -32,12 +32,13 @@ pub const DEVICE: u8 = 4;
 /// There was too little memory.
 pub const MEMORY: u8 = 5;
 
-/// The status of a command on a trace, which may check that no payment is unclear.
+/// Returns the status of a command on a trace. With `check`, it is bad if a payment is unclear, or if an order moved
+/// money that the audit does not follow.
 pub fn of_found(check: bool, answer: &Result<AuditSummary, TraceFault>) -> u8
     ensures { result ≡ status_of_found check answer.now }
 {
     match answer {
-        Ok(found) if check && found.unclear > 0 => BAD,
+        Ok(found) if check && (found.unclear > 0 || found.unfollowed) => BAD,
         Ok(found) => of_bad(found.tally.bad),
         Err(fault) => of_trace_fault(fault),
     }

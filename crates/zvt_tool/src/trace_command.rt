@@ -38,7 +38,7 @@ pub struct TraceCommand<'a> {
     pub files: Vec<&'a str>,
     pub work: TraceWork,
     pub lengths: Lengths,
-    /// Whether an unclear payment counts as bad.
+    /// Whether an unclear payment counts as bad, and so does money that moved and that the audit does not follow.
     pub check: bool,
     /// Whether each line is written as soon as it is read.
     pub follow: bool,
@@ -152,7 +152,10 @@ Example:
         options: &[
             CommandOption::Several("file", "FILE", help::FILES),
             CommandOption::Flag("loose", help::LOOSE),
-            CommandOption::Flag("check", "Exit with 1 if a payment is unclear"),
+            CommandOption::Flag(
+                "check",
+                "Exit with 1 if a payment is unclear, or if money moved that the audit does not follow",
+            ),
             CommandOption::Flag("json", help::JSON),
             CommandOption::Flag(
                 "follow",
