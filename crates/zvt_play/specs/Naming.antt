@@ -3,6 +3,7 @@ use Rattle.std.specs.Prelude.{◌≡◌, ◌<◌, ℕ, ◌-◌, ◌⊎◌, ◌==
 use Rattle.std.specs.Option.{option_or}
 use Rattle.std.specs.Global.{Global}
 use Rattle.std.specs.Str.Lines.{lines}
+use Rattle.zvt_grammar.specs.Reading.{Reading}
 use Rattle.zvt_trace.specs.declared.direction.Direction.{Direction}
 use Rattle.zvt_play.specs.Numbers.{bmp_of, longest_line, size_of}
 use Rattle.zvt_play.specs.Playing.{acts_of}
@@ -124,11 +125,11 @@ IsFirstFault acts place why = (place < length acts) × (fault_at acts place ≡ 
 -- ---- a script
 
 -- Each line can be played, but the mark in the line of that number is the first that can't be where it stands.
-pub record IsMisnamed (own : Direction) (lines : List (List ℕ)) (number : ℕ) (why : ScriptLineError) : Type 0 where
+pub record IsMisnamed (r : Reading) (own : Direction) (lines : List (List ℕ)) (number : ℕ) (why : ScriptLineError) : Type 0 where
   pub steps : List ScriptStep
   pub place : ℕ
   pub fault : NameFault
-  pub read : LinesSay own 0 lines (steps_at steps)
+  pub read : LinesSay r own 0 lines (steps_at steps)
   pub first : IsFirstFault (acts_of steps) place fault
   pub step : ScriptStep
   pub is_step : step ≡ slice_index_or steps place step
@@ -136,7 +137,7 @@ pub record IsMisnamed (own : Direction) (lines : List (List ℕ)) (number : ℕ)
   pub is_why : why ≡ Name fault
 
 -- what reading a script of the trace answers
-abbrev pub ReadsScript : (own : Direction) → (trace : List ℕ) → Result (Vec ScriptStep Global) ScriptFault → Type 0
-ReadsScript own trace (Ok steps) = LinesSay own 0 (lines trace) (steps_at steps.items) × AreNamed (acts_of steps.items)
-ReadsScript own trace (Err (fault.Line number why)) = IsFirstWrong own (lines trace) number why ⊎ IsMisnamed own (lines trace) number why
-ReadsScript own trace (Err fault.Memory) = Unit {0}
+abbrev pub ReadsScript : Reading → (own : Direction) → (trace : List ℕ) → Result (Vec ScriptStep Global) ScriptFault → Type 0
+ReadsScript r own trace (Ok steps) = LinesSay r own 0 (lines trace) (steps_at steps.items) × AreNamed (acts_of steps.items)
+ReadsScript r own trace (Err (fault.Line number why)) = IsFirstWrong r own (lines trace) number why ⊎ IsMisnamed r own (lines trace) number why
+ReadsScript r own trace (Err fault.Memory) = Unit {0}

@@ -1,11 +1,13 @@
 -- What playing a script does to the devices of a connection.
-use Rattle.std.specs.Prelude.{◌≡◌, ⊤, ◌<◌, ◌≤◌, ◌⊎◌, ℕ, ◌+◌, Bool, false, true, List, [], ◌∷◌, ◌++◌, length, map, take, drop, Option, Some}
+use Rattle.std.specs.Prelude.{◌≡◌, ⊤, ◌<◌, ◌≤◌, ◌⊎◌, ℕ, ◌+◌, Bool, false, true, List, [], ◌∷◌, ◌++◌, length, map, take, drop, Option, Some, None}
+use Rattle.std.specs.Borrow.{Bor}
 use Rattle.std.specs.List.{All, concat}
 use Rattle.std.specs.Io.KnownBytes.{Appends, Consumes, IsAtEnd}
 use Rattle.zvt_io.specs.Devices.{IsPrefix}
-use Rattle.zvt_grammar.specs.Reading.{shortest}
+use Rattle.zvt_grammar.specs.Reading.{Reading}
 use Rattle.zvt_apdu.specs.Message.{Message}
-use Rattle.zvt_stream.specs.Apdus.{IsRefused, Spells, Unfinished}
+use Rattle.zvt_apdu.specs.Grammar.{Spells}
+use Rattle.zvt_stream.specs.Apdus.{IsRefusedIn, UnfinishedIn}
 use Rattle.zvt_stream.specs.StreamState.{IsReserved, StreamState}
 use Rattle.zvt_play.specs.Numbers.{Binds, HasNoNew, IsNumbered, bound, prepared, sent_as, used}
 use Rattle.zvt_play.specs.Script.{Act, act_of, await, bind, break, listen, prepare, same, send, silence, wait}
@@ -18,8 +20,8 @@ use Rattle.zvt_play.specs.declared.step.ScriptStep.{ScriptStep}
 
 -- ---- messages
 
-abbrev pub IsMessage : List ℕ → Type 0
-IsMessage bytes = (message : Message) × Spells message bytes
+abbrev pub IsMessage : Reading → List ℕ → Type 0
+IsMessage r bytes = (message : Message) × Spells r message bytes
 
 -- Messages are what a line demands: each but the last is what comes next of its bytes, and the last begins with what is left
 -- of them. So a line without bytes demands one message, whatever it is.
@@ -41,11 +43,16 @@ AreApart a b = (IsPrefix a b → ⊥) × (IsPrefix b a → ⊥)
 abbrev pub Leaves : (demanded message left : List ℕ) → Type 0
 Leaves demanded message left = ((left ≡ []) × IsPrefix demanded message) ⊎ ((0 < length left) × (demanded ≡ message ++ left))
 
--- a stream that holds nothing, and never wants memory
-pub record IsReady (s : StreamState) : Type 0 where
+-- what is left of them after a message, or that the message does not agree with them
+abbrev pub LeavesOrNot : (demanded message : List ℕ) → Option (Bor (List ℕ)) → Type 0
+LeavesOrNot demanded message None = AreApart demanded message
+LeavesOrNot demanded message (Some left) = Leaves demanded message left.now
+
+-- a stream of that reading that holds nothing, and never wants memory
+pub record IsReady (r : Reading) (s : StreamState) : Type 0 where
   pub holds : s.held ≡ []
   pub goes_on : s.stopped ≡ false
-  pub reading : s.reading ≡ shortest
+  pub reading : s.reading ≡ r
   pub reserved : IsReserved s
 
 -- what was read and not heard, what is to come, what was written, the message that came last, and the numbers that have names
@@ -65,32 +72,36 @@ with_names state names = line_state state.unheard state.coming state.written sta
 
 -- One message came whole, and the stream lends it. It is the first of what was unheard and what was then read, and the rest
 -- of that is unheard.
-pub record NextMessage (unheard : List ℕ) (coming : Option (List ℕ)) (rest : List ℕ) (left : Option (List ℕ)) (stream : StreamState) : Type 0 where
+pub record NextMessage (r : Reading) (unheard : List ℕ) (coming : Option (List ℕ)) (rest : List ℕ) (left : Option (List ℕ)) (stream : StreamState) : Type 0 where
   pub message : Message
   pub bytes : List ℕ
   pub read : List ℕ
   pub some : 0 < length bytes
-  pub spells : Spells message bytes
+  pub spells : Spells r message bytes
   pub lent : stream.lent ≡ Some message
   pub consumed : Consumes coming left read
   pub cut : unheard ++ read ≡ bytes ++ rest
 
--- No message came whole: none begins with these bytes, or they begin one and no more came.
-abbrev pub NoneOf : Difference → (bytes : List ℕ) → (left : Option (List ℕ)) → Type 0
-NoneOf (Closed have) bytes left = Unfinished bytes × (have ≡ length bytes) × IsAtEnd left
-NoneOf (Malformed place why) bytes left = IsRefused bytes place why
-NoneOf Read bytes left = Unfinished bytes
-NoneOf (Other at) bytes left = ⊥
-NoneOf (Surplus count) bytes left = ⊥
-NoneOf Write bytes left = ⊥
+-- One message came whole, and so much is left of the bytes that are demanded.
+abbrev pub NextOf : Reading → (demanded unheard : List ℕ) → (coming : Option (List ℕ)) → (rest : List ℕ) → (left : Option (List ℕ)) → StreamState → Option (Bor (List ℕ)) → Type 0
+NextOf r demanded unheard coming rest left stream after = (next : NextMessage r unheard coming rest left stream) × LeavesOrNot demanded next.bytes after
 
-pub record NoMessage (why : Difference) (unheard : List ℕ) (coming left : Option (List ℕ)) : Type 0 where
+-- No message came whole: none begins with these bytes, or they begin one and no more came.
+abbrev pub NoneOf : Reading → Difference → (bytes : List ℕ) → (left : Option (List ℕ)) → Type 0
+NoneOf r (Closed have) bytes left = UnfinishedIn r bytes × (have ≡ length bytes) × IsAtEnd left
+NoneOf r (Malformed place why) bytes left = IsRefusedIn r bytes place why
+NoneOf r Read bytes left = UnfinishedIn r bytes
+NoneOf r (Other at) bytes left = ⊥
+NoneOf r (Surplus count) bytes left = ⊥
+NoneOf r Write bytes left = ⊥
+
+pub record NoMessage (r : Reading) (why : Difference) (unheard : List ℕ) (coming left : Option (List ℕ)) : Type 0 where
   pub bytes : List ℕ
   pub rest : List ℕ
   pub read : List ℕ
   pub consumed : Consumes coming left read
   pub cut : unheard ++ read ≡ bytes ++ rest
-  pub none : NoneOf why bytes left
+  pub none : NoneOf r why bytes left
 
 -- some bytes are unheard: those that were, or what one read brought
 pub record Fills (old : List ℕ) (coming : Option (List ℕ)) (new : List ℕ) (left : Option (List ℕ)) : Type 0 where
@@ -111,50 +122,50 @@ NoMore Write have unheard coming left = ⊥
 -- ---- one step
 
 -- the last of these messages, which the stream lends
-pub record IsLast (messages : List (List ℕ)) (lent : Option Message) : Type 0 where
+pub record IsLast (r : Reading) (messages : List (List ℕ)) (lent : Option Message) : Type 0 where
   pub before : List (List ℕ)
   pub bytes : List ℕ
   pub message : Message
   pub cut : messages ≡ before ++ bytes ∷ []
-  pub spells : Spells message bytes
+  pub spells : Spells r message bytes
   pub lends : lent ≡ Some message
 
 -- Messages came that are what a line demands, and the stream lends the last of them.
-pub record Hears (demanded unheard : List ℕ) (coming : Option (List ℕ)) (rest : List ℕ) (left : Option (List ℕ)) (lent : Option Message) : Type 0 where
+pub record Hears (r : Reading) (demanded unheard : List ℕ) (coming : Option (List ℕ)) (rest : List ℕ) (left : Option (List ℕ)) (lent : Option Message) : Type 0 where
   pub messages : List (List ℕ)
   pub read : List ℕ
-  pub each : All IsMessage messages
+  pub each : All (IsMessage r) messages
   pub meets : Meets demanded messages
-  pub last : IsLast messages lent
+  pub last : IsLast r messages lent
   pub consumed : Consumes coming left read
   pub cut : unheard ++ read ≡ concat messages ++ rest
 
 -- Messages came that agree with a line, and more of it is demanded.
-pub record HearsPart (demanded unheard : List ℕ) (coming : Option (List ℕ)) (rest : List ℕ) (left : Option (List ℕ)) (wanted : List ℕ) : Type 0 where
+pub record HearsPart (r : Reading) (demanded unheard : List ℕ) (coming : Option (List ℕ)) (rest : List ℕ) (left : Option (List ℕ)) (wanted : List ℕ) : Type 0 where
   pub messages : List (List ℕ)
   pub read : List ℕ
-  pub each : All IsMessage messages
+  pub each : All (IsMessage r) messages
   pub agrees : Agrees demanded messages wanted
   pub consumed : Consumes coming left read
   pub cut : unheard ++ read ≡ concat messages ++ rest
 
 -- the next message is not what is wanted, or there is none
-abbrev pub ComesOtherwise : Difference → (demanded wanted unheard : List ℕ) → (coming left : Option (List ℕ)) → StreamState → Type 0
-ComesOtherwise (Other at) demanded wanted unheard coming left stream =
-    (rest : List ℕ) × (next : NextMessage unheard coming rest left stream) × AreApart wanted next.bytes × (at + length wanted ≡ length demanded)
-ComesOtherwise (Closed have) demanded wanted unheard coming left stream = NoMessage (Closed have) unheard coming left
-ComesOtherwise (Malformed place why) demanded wanted unheard coming left stream = NoMessage (Malformed place why) unheard coming left
-ComesOtherwise Read demanded wanted unheard coming left stream = NoMessage Read unheard coming left
-ComesOtherwise (Surplus count) demanded wanted unheard coming left stream = ⊥
-ComesOtherwise Write demanded wanted unheard coming left stream = ⊥
+abbrev pub ComesOtherwise : Reading → Difference → (demanded wanted unheard : List ℕ) → (coming left : Option (List ℕ)) → StreamState → Type 0
+ComesOtherwise r (Other at) demanded wanted unheard coming left stream =
+    (rest : List ℕ) × (next : NextMessage r unheard coming rest left stream) × AreApart wanted next.bytes × (at + length wanted ≡ length demanded)
+ComesOtherwise r (Closed have) demanded wanted unheard coming left stream = NoMessage r (Closed have) unheard coming left
+ComesOtherwise r (Malformed place why) demanded wanted unheard coming left stream = NoMessage r (Malformed place why) unheard coming left
+ComesOtherwise r Read demanded wanted unheard coming left stream = NoMessage r Read unheard coming left
+ComesOtherwise r (Surplus count) demanded wanted unheard coming left stream = ⊥
+ComesOtherwise r Write demanded wanted unheard coming left stream = ⊥
 
 -- After messages that agree with a line something else came than it demands.
-pub record Differs (why : Difference) (demanded unheard : List ℕ) (coming left : Option (List ℕ)) (stream : StreamState) : Type 0 where
+pub record Differs (r : Reading) (why : Difference) (demanded unheard : List ℕ) (coming left : Option (List ℕ)) (stream : StreamState) : Type 0 where
   pub wanted : List ℕ
   pub rest : List ℕ
   pub between : Option (List ℕ)
-  pub part : HearsPart demanded unheard coming rest between wanted
-  pub last : ComesOtherwise why demanded wanted rest between left stream
+  pub part : HearsPart r demanded unheard coming rest between wanted
+  pub last : ComesOtherwise r why demanded wanted rest between left stream
 
 -- An own line was sent: its bytes, or with the number of the name that was prepared.
 pub record Sent (bytes : List ℕ) (old new : LineState) : Type 0 where
@@ -163,21 +174,21 @@ pub record Sent (bytes : List ℕ) (old new : LineState) : Type 0 where
   pub is : new ≡ line_state [] old.coming new.written old.lent (used old.names)
 
 -- The messages of a line came.
-pub record Heard (bytes : List ℕ) (old new : LineState) : Type 0 where
-  pub hears : Hears bytes old.unheard old.coming new.unheard new.coming new.lent
+pub record Heard (r : Reading) (bytes : List ℕ) (old new : LineState) : Type 0 where
+  pub hears : Hears r bytes old.unheard old.coming new.unheard new.coming new.lent
   pub is : new ≡ line_state new.unheard new.coming old.written new.lent old.names
 
 -- A step was played. Before an own line all that was read was heard.
-abbrev pub Played : Act → (old new : LineState) → Type 0
-Played (send bytes) old new = Sent bytes old new
-Played (await bytes) old new = Heard bytes old new
-Played break old new = ⊥
-Played (wait milliseconds) old new = new ≡ old
-Played silence old new = ⊥
-Played (listen milliseconds) old new = ⊥
-Played (bind field name) old new = Binds field name old.lent old.names new.names × (new ≡ with_names old new.names)
-Played (same field name) old new = IsNumbered field name old.lent old.names × (new ≡ old)
-Played (prepare field name) old new = new ≡ with_names old (prepared name old.names)
+abbrev pub Played : Reading → Act → (old new : LineState) → Type 0
+Played r (send bytes) old new = Sent bytes old new
+Played r (await bytes) old new = Heard r bytes old new
+Played r break old new = ⊥
+Played r (wait milliseconds) old new = new ≡ old
+Played r silence old new = ⊥
+Played r (listen milliseconds) old new = ⊥
+Played r (bind field name) old new = Binds field name old.lent old.names new.names × (new ≡ with_names old new.names)
+Played r (same field name) old new = IsNumbered field name old.lent old.names × (new ≡ old)
+Played r (prepare field name) old new = new ≡ with_names old (prepared name old.names)
 
 -- A step ends what is played over one connection. Before it is broken, or listened to, all that was read was heard.
 abbrev pub EndsLine : Act → LineState → Type 0
@@ -196,20 +207,20 @@ abbrev pub IsSurplus : (count : ℕ) → (old new : LineState) → Type 0
 IsSurplus count old new = (count ≡ length old.unheard) × (0 < count) × (new ≡ old)
 
 -- A step could not be played.
-abbrev pub Stops : Difference → Act → (old new : LineState) → StreamState → Type 0
-Stops why (await bytes) old new stream = Differs why bytes old.unheard old.coming new.coming stream × (new.written ≡ old.written) × (new.names ≡ old.names)
-Stops (Surplus count) (send bytes) old new stream = IsSurplus count old new
-Stops (Surplus count) break old new stream = IsSurplus count old new
-Stops (Surplus count) (listen milliseconds) old new stream = IsSurplus count old new
-Stops Write (send bytes) old new stream = (old.unheard ≡ []) × (new.coming ≡ old.coming) × (part : List ℕ) × IsPrefix part (sent_as old.names.next bytes) × Appends old.written new.written part
-Stops (Other at) (bind field name) old new stream = (at ≡ 0) × HasNoNew field old.lent old.names × (new ≡ old)
-Stops (Other at) (same field name) old new stream = (at ≡ 0) × (IsNumbered field name old.lent old.names → ⊥) × (new ≡ old)
-Stops why act old new stream = ⊥
+abbrev pub Stops : Reading → Difference → Act → (old new : LineState) → StreamState → Type 0
+Stops r why (await bytes) old new stream = Differs r why bytes old.unheard old.coming new.coming stream × (new.written ≡ old.written) × (new.names ≡ old.names)
+Stops r (Surplus count) (send bytes) old new stream = IsSurplus count old new
+Stops r (Surplus count) break old new stream = IsSurplus count old new
+Stops r (Surplus count) (listen milliseconds) old new stream = IsSurplus count old new
+Stops r Write (send bytes) old new stream = (old.unheard ≡ []) × (new.coming ≡ old.coming) × (part : List ℕ) × IsPrefix part (sent_as old.names.next bytes) × Appends old.written new.written part
+Stops r (Other at) (bind field name) old new stream = (at ≡ 0) × HasNoNew field old.lent old.names × (new ≡ old)
+Stops r (Other at) (same field name) old new stream = (at ≡ 0) × (IsNumbered field name old.lent old.names → ⊥) × (new ≡ old)
+Stops r why act old new stream = ⊥
 
 -- what one step answers: that it was played, or that it ends what is played over the connection
-abbrev pub PlaysStep : Act → (goes_on : Bool) → (old new : LineState) → Type 0
-PlaysStep act true old new = Played act old new
-PlaysStep act false old new = EndsLine act old × (new ≡ old)
+abbrev pub PlaysStep : Reading → Act → (goes_on : Bool) → (old new : LineState) → Type 0
+PlaysStep r act true old new = Played r act old new
+PlaysStep r act false old new = EndsLine act old × (new ≡ old)
 
 -- ---- after the last line
 
@@ -246,9 +257,9 @@ abbrev pub acts_of : List ScriptStep → List Act
 acts_of steps = map (λ step. act_of step.action) steps
 
 -- the steps were played, one after another
-abbrev pub Plays : List Act → (old new : LineState) → Type 0
-Plays [] old new = new ≡ old
-Plays (act ∷ acts) old new = (middle : LineState) × Played act old middle × Plays acts middle new
+abbrev pub Plays : Reading → List Act → (old new : LineState) → Type 0
+Plays r [] old new = new ≡ old
+Plays r (act ∷ acts) old new = (middle : LineState) × Played r act old middle × Plays r acts middle new
 
 -- what is played over the connection ends before these steps: with all that was read heard, or in silence
 abbrev pub EndsBefore : List Act → LineState → Type 0
@@ -256,29 +267,29 @@ EndsBefore [] state = state.unheard ≡ []
 EndsBefore (act ∷ acts) state = EndsLine act state
 
 -- the first of these steps, or the end, could not be played
-abbrev pub StopsAt : Difference → List Act → (old new : LineState) → StreamState → Type 0
-StopsAt why (act ∷ acts) old new stream = Stops why act old new stream
-StopsAt (Surplus count) [] old new stream = IsSurplus count old new
-StopsAt (Other at) [] old new stream = ⊥
-StopsAt (Closed have) [] old new stream = ⊥
-StopsAt (Malformed place why) [] old new stream = ⊥
-StopsAt Read [] old new stream = ⊥
-StopsAt Write [] old new stream = ⊥
+abbrev pub StopsAt : Reading → Difference → List Act → (old new : LineState) → StreamState → Type 0
+StopsAt r why (act ∷ acts) old new stream = Stops r why act old new stream
+StopsAt r (Surplus count) [] old new stream = IsSurplus count old new
+StopsAt r (Other at) [] old new stream = ⊥
+StopsAt r (Closed have) [] old new stream = ⊥
+StopsAt r (Malformed place why) [] old new stream = ⊥
+StopsAt r Read [] old new stream = ⊥
+StopsAt r Write [] old new stream = ⊥
 
 -- That many of the steps were played, and what is played over the connection ends there.
-pub record PlaysTo (steps : List ScriptStep) (count : ℕ) (old : LineState) (left written : Option (List ℕ)) (lent : Option Message) (names : Names) : Type 0 where
+pub record PlaysTo (r : Reading) (steps : List ScriptStep) (count : ℕ) (old : LineState) (left written : Option (List ℕ)) (lent : Option Message) (names : Names) : Type 0 where
   pub unheard : List ℕ
   pub few : count ≤ length steps
-  pub plays : Plays (take count (acts_of steps)) old (line_state unheard left written lent names)
+  pub plays : Plays r (take count (acts_of steps)) old (line_state unheard left written lent names)
   pub ends : EndsBefore (drop count (acts_of steps)) (line_state unheard left written lent names)
 
 -- The steps before that one were played, and it could not be.
-pub record StopsPlay (steps : List ScriptStep) (unplayed : Unplayed) (old : LineState) (left written : Option (List ℕ)) (stream : StreamState) (names : Names) : Type 0 where
+pub record StopsPlay (r : Reading) (steps : List ScriptStep) (unplayed : Unplayed) (old : LineState) (left written : Option (List ℕ)) (stream : StreamState) (names : Names) : Type 0 where
   pub middle : LineState
   pub unheard : List ℕ
   pub few : unplayed.step ≤ length steps
-  pub plays : Plays (take unplayed.step (acts_of steps)) old middle
-  pub stops : StopsAt unplayed.why (drop unplayed.step (acts_of steps)) middle (line_state unheard left written stream.lent names) stream
+  pub plays : Plays r (take unplayed.step (acts_of steps)) old middle
+  pub stops : StopsAt r unplayed.why (drop unplayed.step (acts_of steps)) middle (line_state unheard left written stream.lent names) stream
 
 -- What a step sends: the bytes of an own line, or with the number of the name that was prepared. A name has the number that
 -- came at its mark from then on.

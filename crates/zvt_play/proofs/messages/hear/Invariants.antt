@@ -5,8 +5,8 @@ use Rattle.zvt_play.proofs.messages.hear.Given as goal
 
 abbrev pub invariant-messages : goal.invariant-messages
 invariant-messages g l = record {
-  part : HearsPart l.demanded (unheard_in l.fn.unheard) (g.R.Source.remaining l.fn.reader) (unheard_in l.unheard) (g.R.Source.remaining l.reader) l.wanted;
-  ready : IsReady l.stream;
+  part : HearsPart l.fn.stream.reading l.demanded (unheard_in l.fn.unheard) (g.R.Source.remaining l.fn.reader) (unheard_in l.unheard) (g.R.Source.remaining l.reader) l.wanted;
+  ready : IsReady l.fn.stream.reading l.stream;
 }
 
 abbrev pub decreases-messages : goal.decreases-messages
