@@ -1,4 +1,4 @@
--- What a trace has the player of one side do.
+-- What the player of one side does for a trace.
 use Rattle.std.specs.Prelude.{◌≡◌, ℕ, ◌+◌, ◌⊎◌, cond, List, [], ◌∷◌, ◌++◌, codes, length, map, Option, Some, None, option_and_then, option_map, Result, Ok, Err, Vec}
 use Rattle.std.specs.Global.{Global}
 use Rattle.std.specs.Str.{bytes_eq}
@@ -22,7 +22,7 @@ use Rattle.zvt_play.specs.declared.step.Action.{Action}
 use Rattle.zvt_play.specs.declared.step.Action.TheVariants as code
 use Rattle.zvt_play.specs.declared.step.ScriptStep.{ScriptStep}
 
--- ---- what is done for a line
+-- ---- what the player does for a line
 
 pub data Act : Type 0 where
   send : (bytes : List ℕ) → Act
@@ -100,7 +100,7 @@ abbrev pub mark_or_error : Option Act → Result (Option Act) ScriptLineError
 mark_or_error None = Err error.Mark
 mark_or_error (Some act) = Ok (Some act)
 
--- a comment that does not begin with '#~' says nothing
+-- a comment that does not begin with '#~' has no meaning for the player
 abbrev pub comment_by : Option (List ℕ) → Result (Option Act) ScriptLineError
 comment_by None = Ok None
 comment_by (Some words) = mark_or_error (mark_of words)
@@ -115,7 +115,7 @@ pub record CanCome (r : Reading) (bytes : List ℕ) : Type 0 where
   pub cut : CutIn r bytes messages rest
   pub alive : AliveIn r rest
 
--- after whole messages no message begins with the bytes up to the one at that place of all
+-- no message after the whole ones begins with the bytes up to and including the one at this place, counted from the first byte
 pub record CannotCome (r : Reading) (bytes : List ℕ) (at : ℕ) (why : Why) : Type 0 where
   pub messages : List Message
   pub before : List ℕ
@@ -131,7 +131,7 @@ AwaitSays r bytes answer =
     (CanCome r bytes × (answer ≡ Ok (Some (await bytes))))
     ⊎ ((at : ℕ) × (why : Why) × CannotCome r bytes at why × (answer ≡ Err (error.NoMessage at why)))
 
--- a piece of the own side is sent as it is, and one of the other side is awaited
+-- a line of the own side is sent unchanged, and a line of the other side is awaited
 abbrev pub PieceSays : Reading → (own from : Direction) → List ℕ → Result (Option Act) ScriptLineError → Type 0
 PieceSays r FromTill FromTill bytes answer = answer ≡ Ok (Some (send bytes))
 PieceSays r FromTill FromTerminal bytes answer = AwaitSays r bytes answer
@@ -144,7 +144,7 @@ SaysBy r own line (Ok (piece from bytes)) answer = PieceSays r own from bytes an
 SaysBy r own line (Ok lost) answer = answer ≡ Ok (Some break)
 SaysBy r own line (Err what) answer = answer ≡ Err (error.Trace what)
 
--- what a line has the player of this side do, or why it can't be played
+-- what the player of this side does for a line, or the reason why it can't be played
 abbrev pub LineSays : Reading → (own : Direction) → List ℕ → Result (Option Act) ScriptLineError → Type 0
 LineSays r own line answer = SaysBy r own line (meaning_of line) answer
 
@@ -166,13 +166,13 @@ abbrev pub some_step : (line : ℕ) → Option Act → List StepAt
 some_step line None = []
 some_step line (Some act) = record { line = line; act = act } ∷ []
 
--- the steps of lines, of which the first has the number after that: one for each line that has one, in order
+-- the steps of the lines after this many earlier ones: at most one for each line, in order
 abbrev pub LinesSay : Reading → (own : Direction) → (before : ℕ) → List (List ℕ) → List StepAt → Type 0
 LinesSay r own before [] steps = steps ≡ []
 LinesSay r own before (line ∷ later) steps =
     (said : Option Act) × (rest : List StepAt) × LineSays r own line (Ok said) × LinesSay r own (before + 1) later rest × (steps ≡ some_step (before + 1) said ++ rest)
 
--- the line of that number is the first that can't be played
+-- the line with this number is the first that can't be played
 pub record IsFirstWrong (r : Reading) (own : Direction) (lines : List (List ℕ)) (number : ℕ) (why : ScriptLineError) : Type 0 where
   pub done : List (List ℕ)
   pub line : List ℕ
@@ -183,7 +183,7 @@ pub record IsFirstWrong (r : Reading) (own : Direction) (lines : List (List ℕ)
   pub wrong : LineSays r own line (Err why)
   pub is_number : number ≡ length done + 1
 
--- what reading the lines of a trace answers
+-- the result of reading the lines of a trace
 abbrev pub ReadsLines : Reading → (own : Direction) → (trace : List ℕ) → Result (Vec ScriptStep Global) ScriptFault → Type 0
 ReadsLines r own trace (Ok steps) = LinesSay r own 0 (lines trace) (steps_at steps.items)
 ReadsLines r own trace (Err (fault.Line number why)) = IsFirstWrong r own (lines trace) number why

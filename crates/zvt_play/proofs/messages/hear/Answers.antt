@@ -1,4 +1,4 @@
-use Rattle.std.proofs.Common.{◌≡◌, ◌-◌, ◌≤◌, ◌∙◌, arith, length}
+use Rattle.std.proofs.Common.{◌-◌, ◌≤◌, arith, length}
 use Rattle.zvt_play.specs.Unheard.{unheard_in}
 use Rattle.zvt_play.proofs.HearLemmas.{another, hears_all, hears_more, is_part, is_prefix, none_heard, wanted_few}
 use Rattle.zvt_play.proofs.messages.hear.Goals as goal
