@@ -10,7 +10,7 @@ use Rattle.zvt_apdu.specs.Message.{Message}
 use Rattle.zvt_play.specs.Numbers.{sent_as}
 use Rattle.zvt_play.specs.Script.{Act, act_of, await, bind, break, listen, prepare, same, send, silence, wait}
 use Rattle.zvt_play.specs.declared.numbers.Names.{Names}
-use Rattle.zvt_play.specs.Playing.{EndsBefore, EndsLine, LineState, Played, Plays, PlaysTo, Sends, Stops, StopsAt, StopsPlay, WritesAll, acts_of, line_state}
+use Rattle.zvt_play.specs.Playing.{EndsBefore, EndsLine, LineState, Played, Plays, PlaysTo, Sends, Stops, StopsAt, StopsPlay, WritesAll, acts_of, failed_reads, line_state}
 use Rattle.zvt_play.specs.declared.difference.Difference.{Difference}
 use Rattle.zvt_play.specs.declared.difference.Difference.TheVariants.{Closed, Malformed, Other, Read, Surplus, Write}
 use Rattle.zvt_play.specs.declared.difference.Unplayed.{Unplayed}
@@ -171,3 +171,12 @@ sent_before r steps unplayed old left written stream names s never =
 pub ends_after : (r : Reading) (steps : List ScriptStep) (i : ℕ) (step : ScriptStep) (old middle new : LineState) → i < length steps → step ≡ get_or steps i step → Plays r (take i (acts_of steps)) old middle → EndsLine (act_of step.action) middle × (new ≡ middle) → PlaysTo r steps i old new.coming new.written new.lent new.names
 ends_after r steps i step old middle new below is p e =
     subst (λ (s : LineState). PlaysTo r steps i old s.coming s.written s.lent s.names) (sym e.1) (ends_here r steps i step old middle.unheard middle.coming middle.written middle.lent middle.names below is p e.0)
+
+-- no read fails while an own line is sent
+pub sends_without_reads : (r : Reading) (why : Difference) (bytes : List ℕ) (old new : LineState) (stream : StreamState) → Stops r why (send bytes) old new stream → failed_reads why ≡ 0
+sends_without_reads r (Surplus count) bytes old new stream s = refl
+sends_without_reads r Write bytes old new stream s = refl
+sends_without_reads r (Other at) bytes old new stream s = absurd s
+sends_without_reads r (Closed have) bytes old new stream s = absurd s
+sends_without_reads r (Malformed place w) bytes old new stream s = absurd s
+sends_without_reads r Read bytes old new stream s = absurd s

@@ -119,6 +119,26 @@ NoMore (Other at) have unheard coming left = ⊥
 NoMore (Surplus count) have unheard coming left = ⊥
 NoMore Write have unheard coming left = ⊥
 
+-- ---- failed devices
+
+-- the number of failed reads at a difference
+abbrev pub failed_reads : Difference → ℕ
+failed_reads Read = 1
+failed_reads (Other at) = 0
+failed_reads (Surplus count) = 0
+failed_reads (Closed have) = 0
+failed_reads (Malformed place why) = 0
+failed_reads Write = 0
+
+-- the number of failed writes at a difference
+abbrev pub failed_writes : Difference → ℕ
+failed_writes Write = 1
+failed_writes (Other at) = 0
+failed_writes (Surplus count) = 0
+failed_writes (Closed have) = 0
+failed_writes (Malformed place why) = 0
+failed_writes Read = 0
+
 -- ---- one step
 
 -- the last of these messages, which the stream lends

@@ -1,6 +1,7 @@
 //! Receives messages and compares them with a line.
-ghost use Rattle.std.specs.Prelude.{◌++◌, ℕ, List, IfErr, IfOk, OnOk};
+ghost use Rattle.std.specs.Prelude.{◌≡◌, ◌+◌, ◌++◌, ℕ, List, IfErr, IfOk, MatchResult, OnOk};
 ghost use Rattle.zvt_play.specs.Playing.{Differs, Fills, Hears, IsReady, LeavesOrNot, NextOf, NoMessage, NoMore};
+ghost use Rattle.zvt_play.specs.Playing.{failed_reads};
 ghost use Rattle.zvt_play.specs.Unheard.{unheard_in};
 
 use crate::difference::Difference;
@@ -21,6 +22,8 @@ pub(crate) fn hear<R: Source>(
     ensures ready { OnOk result (IsReady stream.old.reading stream.new) }
     ensures err { IfErr result (λ why. Differs stream.old.reading why demanded.now (unheard_in unheard.old)
         (R.remaining reader.old) (R.remaining reader.new) stream.new) }
+    ensures failures { MatchResult result (λ _. R.failures reader.new ≡ R.failures reader.old)
+        (λ why. R.failures reader.new ≡ R.failures reader.old + failed_reads why) }
 {
     let mut wanted = demanded;
     'messages: loop {
@@ -67,6 +70,8 @@ fn next_message<'d, R: Source>(
     ensures ready { IfOk result (λ _. IsReady stream.old.reading stream.new) }
     ensures err { IfErr result (λ why. NoMessage stream.old.reading why (unheard_in unheard.old)
         (R.remaining reader.old) (R.remaining reader.new)) }
+    ensures failures { MatchResult result (λ _. R.failures reader.new ≡ R.failures reader.old)
+        (λ why. R.failures reader.new ≡ R.failures reader.old + failed_reads why) }
 {
     let mut left = Some(demanded);
     'pieces: loop {
@@ -95,6 +100,8 @@ fn fill<R: Source>(reader: &mut R, unheard: &mut Unheard, have: usize) -> Result
         (R.remaining reader.new)) }
     ensures err { IfErr result (λ why. NoMore why have (unheard_in unheard.old) (R.remaining reader.old)
         (R.remaining reader.new)) }
+    ensures failures { MatchResult result (λ _. R.failures reader.new ≡ R.failures reader.old)
+        (λ why. R.failures reader.new ≡ R.failures reader.old + failed_reads why) }
 {
     if unheard.len() > 0 {
         return Ok(());

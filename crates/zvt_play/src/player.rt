@@ -1,5 +1,6 @@
 //! Plays a script over one connection.
-ghost use Rattle.std.specs.Prelude.{◌≡◌, ◌≢◌, ◌<◌, ◌≤◌, [], ℕ, List, Option, IfErr, IfOk, OnOk, length, take};
+ghost use Rattle.std.specs.Prelude.{◌≡◌, ◌≢◌, ◌+◌, ◌<◌, ◌≤◌, [], ℕ, List, Option, IfErr, IfOk, MatchResult, OnOk};
+ghost use Rattle.std.specs.Prelude.{length, take};
 ghost use Rattle.std.specs.Io.KnownBytes.{Appends};
 ghost use Rattle.zvt_io.specs.Devices.{IsPrefix};
 ghost use Rattle.zvt_grammar.specs.Reading.{Reading};
@@ -7,6 +8,7 @@ ghost use Rattle.zvt_apdu.specs.Message.{Message};
 ghost use Rattle.zvt_stream.specs.StreamState.{StreamState};
 ghost use Rattle.zvt_play.specs.Numbers.{longest_line, sent_as, used, with_end};
 ghost use Rattle.zvt_play.specs.Playing.{IsReady, PlaysStep, PlaysTo, Stops, StopsPlay, WritesAll, acts_of, line_state};
+ghost use Rattle.zvt_play.specs.Playing.{failed_reads, failed_writes};
 ghost use Rattle.zvt_play.specs.Script.{act_of, send};
 ghost use Rattle.zvt_play.specs.Unheard.{unheard_in};
 
@@ -48,6 +50,10 @@ pub fn play<C: Clock, R: Source, W: Sink>(
     ensures err { IfErr result (λ unplayed. StopsPlay end.old.stream.reading steps.now unplayed
         (line_state [] (R.remaining end.old.reader) (W.written end.old.writer) end.old.stream.lent names.old)
         (R.remaining end.new.reader) (W.written end.new.writer) end.new.stream names.new) }
+    ensures reads { MatchResult result (λ _. R.failures end.new.reader ≡ R.failures end.old.reader)
+        (λ unplayed. R.failures end.new.reader ≡ R.failures end.old.reader + failed_reads unplayed.why) }
+    ensures writes { MatchResult result (λ _. W.failures end.new.writer ≡ W.failures end.old.writer)
+        (λ unplayed. W.failures end.new.writer ≡ W.failures end.old.writer + failed_writes unplayed.why) }
 {
     let mut unheard = Unheard::new();
     for (at, step) in steps.iter().enumerate() {
@@ -82,6 +88,10 @@ fn take_step<C: Clock, R: Source, W: Sink>(
         (line_state (unheard_in unheard.old) (R.remaining end.old.reader) (W.written end.old.writer) end.old.stream.lent
         names.old) (line_state (unheard_in unheard.new) (R.remaining end.new.reader) (W.written end.new.writer)
         end.new.stream.lent names.new) end.new.stream) }
+    ensures reads { MatchResult result (λ _. R.failures end.new.reader ≡ R.failures end.old.reader)
+        (λ why. R.failures end.new.reader ≡ R.failures end.old.reader + failed_reads why) }
+    ensures writes { MatchResult result (λ _. W.failures end.new.writer ≡ W.failures end.old.writer)
+        (λ why. W.failures end.new.writer ≡ W.failures end.old.writer + failed_writes why) }
 {
     match action {
         Action::Send(bytes) => send_step(&mut end.writer, unheard, names, bytes.as_slice())?,
@@ -117,6 +127,8 @@ fn send_step<W: Sink>(
         → (stream : StreamState) → Stops r why (send bytes.now)
         (line_state (unheard_in unheard.now) coming (W.written writer.old) lent names.old)
         (line_state (unheard_in unheard.now) coming (W.written writer.new) lent names.new) stream) }
+    ensures failures { MatchResult result (λ _. W.failures writer.new ≡ W.failures writer.old)
+        (λ why. W.failures writer.new ≡ W.failures writer.old + failed_writes why) }
 {
     all_heard(unheard)?;
     let number = names.take();
@@ -132,6 +144,8 @@ fn send_line<W: Sink>(
     ensures ok { OnOk result (Appends (W.written writer.old) (W.written writer.new) (sent_as number bytes.now)) }
     ensures err { IfErr result (λ why. (why ≡ Difference.Write) × (part : List ℕ)
         × IsPrefix part (sent_as number bytes.now) × Appends (W.written writer.old) (W.written writer.new) part) }
+    ensures failures { MatchResult result (λ _. W.failures writer.new ≡ W.failures writer.old)
+        (λ why. W.failures writer.new ≡ W.failures writer.old + failed_writes why) }
 {
     let Some(number) = number else {
         return send(writer, bytes);
@@ -161,6 +175,8 @@ fn send<W: Sink>(writer: &mut W, bytes: &[u8]) -> Result<(), Difference>
     ensures ok { OnOk result (Appends (W.written writer.old) (W.written writer.new) bytes.now) }
     ensures err { IfErr result (λ why. (why ≡ Difference.Write) × (part : List ℕ) × IsPrefix part bytes.now
         × Appends (W.written writer.old) (W.written writer.new) part) }
+    ensures failures { MatchResult result (λ _. W.failures writer.new ≡ W.failures writer.old)
+        (λ why. W.failures writer.new ≡ W.failures writer.old + failed_writes why) }
 {
     match writer.write_all(bytes) {
         Ok(()) => Ok(()),

@@ -1,10 +1,10 @@
-use Rattle.std.proofs.Common.{◌-◌, ◌≤◌, arith, length}
+use Rattle.std.proofs.Common.{refl, ◌∙◌, ◌-◌, ◌≤◌, arith, length}
 use Rattle.zvt_play.specs.Unheard.{unheard_in}
 use Rattle.zvt_play.proofs.HearLemmas.{another, hears_all, hears_more, is_part, is_prefix, none_heard, wanted_few}
 use Rattle.zvt_play.proofs.messages.hear.Goals as goal
 
 pub messages-init : goal.messages-init
-messages-init g c = record { part = none_heard c.args.stream.now.reading c.args.demanded.now (unheard_in c.args.unheard.now) (g.R.Source.remaining c.args.reader.now); ready = c.requires }
+messages-init g c = record { part = none_heard c.args.stream.now.reading c.args.demanded.now (unheard_in c.args.unheard.now) (g.R.Source.remaining c.args.reader.now); ready = c.requires; failures = refl }
 
 pub overflow_sub-at : goal.overflow_sub-at
 overflow_sub-at g c = wanted_few c.args.demanded.now c.messages.invariant.part.messages c.messages.wanted.now c.messages.invariant.part.agrees
@@ -32,4 +32,5 @@ messages-preserved g c =
       part = hears_more c.args.stream.now.reading c.args.demanded.now (unheard_in c.args.unheard.now) (g.R.Source.remaining c.args.reader.now) (unheard_in c.messages.unheard) (g.R.Source.remaining c.messages.reader) c.messages.wanted.now
           (unheard_in c.next_message.new.unheard) (g.R.Source.remaining c.next_message.new.reader) c.next_message.new.stream c.in-Some.left.now c.messages.invariant.part next.0 part (omega (arith, c.in-Some.len_at_least));
       ready = rw c.messages.invariant.ready.reading at c.in_ok-next_message.ensures.ready;
+      failures = c.in_ok-next_message.ensures.failures ∙ c.messages.invariant.failures;
     }

@@ -18,6 +18,7 @@ pieces-init g c = record {
   goes_on = c.requires.goes_on;
   reading = refl;
   reserved = c.requires.reserved;
+  failures = refl;
 }
 
 pub returns-in-Ok-Message-clause-ok : goal.returns-in-Ok-Message-clause-ok
@@ -39,6 +40,7 @@ pieces-preserved g c =
       goes_on = fed.0.1.1;
       reading = fed.0.2 ∙ c.pieces.invariant.reading;
       reserved = omega (arith, c.in-Ok-More.ensures.room, c.pieces.invariant.reserved);
+      failures = c.in_ok-fill.ensures.failures ∙ c.pieces.invariant.failures;
     }
 
 pub returns-in-Ok-Refused-clause-err : goal.returns-in-Ok-Refused-clause-err

@@ -12,6 +12,7 @@ invariant-pieces g l = record {
   goes_on : l.stream.stopped ≡ false;
   reading : l.stream.reading ≡ l.fn.stream.reading;
   reserved : IsReserved l.stream;
+  failures : g.R.Source.failures l.reader ≡ g.R.Source.failures l.fn.reader;
 }
 
 abbrev pub decreases-pieces : goal.decreases-pieces

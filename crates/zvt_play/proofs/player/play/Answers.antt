@@ -1,4 +1,4 @@
-use Rattle.std.proofs.Common.{rules, ◌≡◌, ℕ, [], arith, length, refl, subst, sym, take}
+use Rattle.std.proofs.Common.{rules, ◌∙◌, ◌≡◌, ℕ, [], arith, length, refl, subst, sym, take}
 use Rattle.zvt_play.specs.Playing.{StopsPlay, WritesAll, acts_of, line_state}
 use Rattle.zvt_play.specs.declared.difference.Difference.{Difference}
 use Rattle.zvt_play.specs.declared.difference.Difference.TheVariants.{Surplus}
@@ -45,6 +45,8 @@ loop-at-preserved g c =
           (line_state (unheard_in c.loop-at.unheard) (g.R.Source.remaining c.loop-at.end.reader) (g.W.Sink.written c.loop-at.end.writer) c.loop-at.end.stream.lent c.loop-at.names)
           (line_state (unheard_in c.take_step.new.unheard) (g.R.Source.remaining c.take_step.new.end.reader) (g.W.Sink.written c.take_step.new.end.writer) c.take_step.new.end.stream.lent c.take_step.new.names) c.loop-at-test.true c.index-steps-at.is c.loop-at.invariant.plays played;
       ready = rw c.loop-at.invariant.ready.reading at c.in-Ok-true.ensures.ready;
+      reads = c.in-Ok-true.ensures.reads ∙ c.loop-at.invariant.reads;
+      writes = c.in-Ok-true.ensures.writes ∙ c.loop-at.invariant.writes;
     }
 
 pub returns-in-Ok-clause-sent : goal.returns-in-Ok-clause-sent
