@@ -104,11 +104,7 @@ fn read_all<'a>(
 }
 
 /// Reads the situation in this file.
-fn read_situation<'a>(
-    rt: &HostRuntime,
-    role: Role,
-    path: &'a str,
-) -> Result<Situation<'a>, Exit> {
+fn read_situation<'a>(rt: &HostRuntime, role: Role, path: &'a str) -> Result<Situation<'a>, Exit> {
     let text = read_text(rt, path)?;
     let steps = script_of(rt, path, role, text.as_slice())?;
     Ok(Situation {
