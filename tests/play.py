@@ -7,7 +7,7 @@ PROGRAM is the one that `rt ci` built, unless another is named. Each of 30 rando
 both ends. Each trace is played as a terminal against a till with the same steps, and as a till against a terminal: it ends
 with status 0, and the other program with what it came to in the recording. So is each example. Then one byte of a message of
 the other side is changed, and the difference is told at its line. Lost lines, waits, silence, what comes besides, and wrong words and files
-follow. The status is 1 where anything is not as expected.
+follow, and a terminal and a till that pad their lengths. The status is 1 where anything is not as expected.
 """
 import concurrent.futures
 import pathlib
@@ -272,7 +272,8 @@ def lost_lines(folder):
 
 
 def serve(door, lines):
-    """Plays a terminal: hears each `>` and sends each `<`, over one connection after another at each `!`. Answers what came."""
+    """Plays a terminal: hears each `>`, or as many bytes as stand after it, and sends each `<`, over one connection after another
+    at each `!`. Answers what came."""
     line, heard = door.accept()[0], []
     for each in lines:
         if each == "!":
@@ -282,20 +283,22 @@ def serve(door, lines):
             send(line, each[1:])
         else:
             line.settimeout(SECONDS)
-            heard.append(line.recv(1024).hex(" ").upper())
+            count = len(bytes.fromhex(each[1:]))
+            came = line.recv(count, socket.MSG_WAITALL) if count else line.recv(1024)
+            heard.append(came.hex(" ").upper())
     time.sleep(0.1)
     line.close()
     return heard
 
 
-def as_till(name, folder, trace, lines, wanted, sent):
+def as_till(name, folder, trace, lines, wanted, sent, words=()):
     """What `play --till` says and sends, where a terminal sends the lines with `<`."""
     global plays
     plays += 1
     with socket.create_server(("127.0.0.1", 0)) as door, concurrent.futures.ThreadPoolExecutor(1) as pool:
         door.settimeout(SECONDS)
         served = pool.submit(serve, door, lines)
-        status, said, _ = run("play", "--till", str(written(folder, trace)), "--port", str(door.getsockname()[1]))
+        status, said, _ = run("play", "--till", str(written(folder, trace)), "--port", str(door.getsockname()[1]), *words)
         check(name, (status, said), wanted)
         check(f"{name}: what was sent", served.result(), sent)
 
@@ -315,6 +318,52 @@ def numbers(folder):
     came = "but another message came\n< Status\n  27 result 00 success\n  0B trace 000051\n  87 receipt 0053\n"
     as_till("a number is given twice", folder, ask + bound + ask + "#~ bind 0B n3\n", [">", paid, ">", f"< {STATUS.format('00 00 51', '00 53')}"], (1, "line 7 awaits\n< a message whose field 0B has a number that has no name yet\n" + came), [asked, asked])
     as_till("no number", folder, ask + "#~ bind 87 n1\n", [">", "< 80 00 00"], (1, "line 3 awaits\n< a message whose field 87 has a number that has no name yet\nbut another message came\n< Ack\n"), [asked])
+
+
+# ---- padded lengths
+
+
+def padded(folder):
+    """With `--loose` the other side may pad its lengths, in the trace and on the line. Bytes are compared as they are."""
+    trace = (EXAMPLES / "messages/padded.trace").read_text()
+    pieces = [line for line in trace.splitlines() if line[:1] in ("<", ">")]
+    ours = [line[2:] for line in pieces if line[0] == ">"]
+    as_till("a terminal that pads", folder, trace, pieces, (0, ""), ours, ["--loose"])
+    ack, asked = "< 80 00 FF 00 00", f"> {AUTHORISATION}\n"
+    refused = "line 2 awaits\n< any message\nbut no message begins with what came: refused at 4: NotShortest\n"
+    as_till("a strict player, and any message", folder, asked + "<\n", [">", ack], (1, refused), [AUTHORISATION])
+    as_till("a loose player, and any message", folder, asked + "<\n", [">", ack], (0, ""), [AUTHORISATION], ["--loose"])
+    as_till("a padded message in pieces", folder, asked + ack, [">", ack[:7], f"<{ack[7:]}"], (0, ""), [AUTHORISATION], ["--loose"])
+    as_till("what follows a padded message", folder, f"{asked}{ack} 06 0F\n", [">", f"{ack} 06 0F FF 00 00"], (0, ""), [AUTHORISATION], ["--loose"])
+    another = "line 2 awaits\n< Ack\nbut another message came\n< Ack\n"
+    as_till("another form of length", folder, asked + "< 80 00 00\n", [">", ack], (1, another), [AUTHORISATION], ["--loose"])
+    as_till("and the other way round", folder, asked + ack, [">", "< 80 00 00"], (1, another), [AUTHORISATION], ["--loose"])
+    bound = f"{asked}<\n#~ bind 87 n2\n#~ use 87 n2\n> {REVERSAL.format('00 01')}\n"
+    paid = "< 04 0F FF 09 00 27 00 0B 00 00 51 87 00 52"
+    as_till("a number in a padded message", folder, bound, [">", paid, ">"], (0, ""), [AUTHORISATION, REVERSAL.format("00 52")], ["--loose"])
+    situation = written(folder, f"> {AUTHORISATION}\n< 80 00 00\n> 80 00\n< 06 1E 01 6C\n")
+    for words, status, verdict in ((["--loose"], 0, "ok"), ([], 1, "not ok")):
+        till_side = Listener([PROGRAM, "check-till", "--listen", "0", *words, str(situation)], SECONDS)
+        with connect(till_side.port) as line:
+            send(line, AUTHORISATION)
+            hear("a situation", line, "80 00 00")
+            send(line, "80 00 FF 00 00")
+            if not status:
+                hear("a situation", line, "06 1E 01 6C")
+                line.shutdown(socket.SHUT_WR)
+            found = till_side.ended()
+            check(f"check-till {words}", (found[0], f"{verdict} 1 - one\n" in found[1]), (status, True))
+        with socket.create_server(("127.0.0.1", 0)) as door, concurrent.futures.ThreadPoolExecutor(1) as pool:
+            door.settimeout(SECONDS)
+            served = pool.submit(serve, door, [">", ack])
+            asks = folder / "asks.trace"
+            asks.write_text(asked + "<\n")
+            found = run("check-terminal", "--port", str(door.getsockname()[1]), *words, str(asks))
+            check(f"check-terminal {words}", (found[0], f"{verdict} 1 - asks\n" in found[1], served.result()), (status, True, [AUTHORISATION]))
+    # Nothing listens at port 1: a strict player refuses the file before it connects.
+    for words, status, said in (([], 3, "line 6 of the trace: invalid at byte 4 (NotShortest)"), (["--loose"], 4, "connection refused")):
+        found = run("check-terminal", "--port", "1", *words, str(EXAMPLES / "messages/padded.trace"))
+        check(f"check-terminal {words} of a padded file", (found[0], said in found[2]), (status, True))
 
 
 # ---- wrong words and files
@@ -365,6 +414,7 @@ with tempfile.TemporaryDirectory() as name:
     waits(folder)
     lost_lines(folder)
     numbers(folder)
+    padded(folder)
     wrong(folder)
 print(f"{check.wrong} not as expected" if check.failed else f"ok: {plays} plays, {2 * DIALOGUES} traces on either side")
 sys.exit(check.status)

@@ -1,6 +1,6 @@
 //! Streams that are fed in pieces, and what they are made of (`zvt_stream`).
 use std::alloc::Global;
-use zvt_grammar::Why;
+use zvt_grammar::{Lengths, Why};
 use zvt_stream::{Fed, FedView, FeedError, Held, Judge, Judged, Steps, Stream, Truncated};
 
 const ACK: [u8; 3] = [0x80, 0x00, 0x00];
@@ -9,7 +9,7 @@ const ACK: [u8; 3] = [0x80, 0x00, 0x00];
 const UNKNOWN: [u8; 4] = [0x06, 0x01, 0x02, 0xD0];
 
 pub fn all(alloc: Global) -> bool {
-    fed(alloc) && viewed(alloc) && refused(alloc) && held(alloc) && judged()
+    fed(alloc) && viewed(alloc) && reserved(alloc) && refused(alloc) && held(alloc) && judged()
 }
 
 fn fed(alloc: Global) -> bool {
@@ -32,6 +32,16 @@ fn viewed(alloc: Global) -> bool {
     let mut stream = Stream::loose(alloc);
     let fed: Result<FedView, FeedError> = stream.feed_view(&ACK);
     matches!(fed, Ok(FedView::Message { taken: 3 })) && stream.lent().is_some()
+}
+
+fn reserved(alloc: Global) -> bool {
+    let Ok(mut stream) = Stream::reserved_of(alloc, Lengths::Padded) else {
+        return false;
+    };
+    matches!(
+        stream.feed_view(&[0x80, 0x00, 0xFF, 0x00, 0x00]),
+        Ok(FedView::Message { taken: 5 })
+    )
 }
 
 fn refused(alloc: Global) -> bool {

@@ -8,11 +8,12 @@ use crate::reports::{TERMINAL_PORT, report, report_failed, report_invalid};
 use std::alloc::{AllocError, Global};
 use std::fs;
 use std::io::{self, Write};
-use zvt_play::ScriptStep;
+use zvt_play::{Role, ScriptStep};
 use zvt_runs::{EndFault, NetFault};
 use zvt_text::Text;
 use zvt_tool::CheckOptions;
 use zvt_tool::label::Label;
+use zvt_tool::options::lengths_by;
 use zvt_tool::statuses::{BAD, DEVICE, DONE, WORDS};
 use zvt_tool::verdicts::{add_case, add_error, add_plan, add_suite, add_verdict};
 use zvt_trace::Direction;
@@ -41,12 +42,13 @@ const LISTENED: u32 = 500;
 
 /// Plays the terminal of each situation against a till and returns the exit status.
 pub fn till(rt: &HostRuntime, options: &CheckOptions<'_>) -> Result<u8, Exit> {
-    let situations = read_all(rt, Direction::FromTerminal, options)?;
+    let role = role_of(Direction::FromTerminal, options);
+    let situations = read_all(rt, role, options)?;
     let place = place_at(rt, None, Some(options.port), options.host);
     check(
         rt,
         "zvt check-till",
-        Direction::FromTerminal,
+        role,
         place,
         situations.as_slice(),
         options,
@@ -59,22 +61,31 @@ pub fn terminal(rt: &HostRuntime, options: &CheckOptions<'_>) -> Result<u8, Exit
         report_invalid(rt, "port", "0", TERMINAL_PORT)?;
         return Ok(WORDS);
     }
-    let situations = read_all(rt, Direction::FromTill, options)?;
+    let role = role_of(Direction::FromTill, options);
+    let situations = read_all(rt, role, options)?;
     let place = place_at(rt, Some(options.port), None, options.host);
     check(
         rt,
         "zvt check-terminal",
-        Direction::FromTill,
+        role,
         place,
         situations.as_slice(),
         options,
     )
 }
 
+/// How the situations are played: this side of them, with the lengths that the options ask for.
+fn role_of(own: Direction, options: &CheckOptions<'_>) -> Role {
+    Role {
+        own,
+        lengths: lengths_by(options.loose),
+    }
+}
+
 /// Reads all situations. None, and one that can't be played, are reported.
 fn read_all<'a>(
     rt: &HostRuntime,
-    own: Direction,
+    role: Role,
     options: &CheckOptions<'a>,
 ) -> Result<Vec<Situation<'a>>, Exit> {
     if options.files.is_empty() {
@@ -86,20 +97,16 @@ fn read_all<'a>(
     }
     let mut situations = Vec::new(rt.alloc());
     for path in options.files.as_slice() {
-        let situation = read_situation(rt, own, path)?;
+        let situation = read_situation(rt, role, path)?;
         situations.push(situation)?;
     }
     Ok(situations)
 }
 
 /// Reads the situation in this file.
-fn read_situation<'a>(
-    rt: &HostRuntime,
-    own: Direction,
-    path: &'a str,
-) -> Result<Situation<'a>, Exit> {
+fn read_situation<'a>(rt: &HostRuntime, role: Role, path: &'a str) -> Result<Situation<'a>, Exit> {
     let text = read_text(rt, path)?;
-    let steps = script_of(rt, path, own, text.as_slice())?;
+    let steps = script_of(rt, path, role, text.as_slice())?;
     Ok(Situation {
         name: name_of(path),
         head: head_of(rt.alloc(), text.as_slice())?,
@@ -133,7 +140,7 @@ fn head_of(alloc: Global, trace: &[u8]) -> Result<Text, AllocError> {
 fn check(
     rt: &HostRuntime,
     name: &str,
-    own: Direction,
+    role: Role,
     place: Result<Place<'_>, NetFault>,
     situations: &[Situation<'_>],
     options: &CheckOptions<'_>,
@@ -148,7 +155,7 @@ fn check(
         failed: 0,
         broken: 0,
     };
-    let status = play_all(rt, own, &mut place, situations, &mut verdicts)?;
+    let status = play_all(rt, role, &mut place, situations, &mut verdicts)?;
     let Some(path) = options.junit else {
         return Ok(status);
     };
@@ -170,7 +177,7 @@ fn check(
 /// Plays one situation after another. Where one has no first connection the rest is not played.
 fn play_all(
     rt: &HostRuntime,
-    own: Direction,
+    role: Role,
     place: &mut Place<'_>,
     situations: &[Situation<'_>],
     verdicts: &mut Verdicts,
@@ -180,7 +187,7 @@ fn play_all(
     io::writer(rt).write_all(text.bytes())?;
     for (at, situation) in situations.iter().enumerate() {
         io::writer(rt).write_all(situation.head.bytes())?;
-        match play_script(rt, place, own, situation.steps.as_slice(), LISTENED)? {
+        match play_script(rt, place, role, situation.steps.as_slice(), LISTENED)? {
             Played::Whole => report_verdict(rt, at, situation, b"", verdicts)?,
             Played::Differs(difference) => {
                 report_verdict(rt, at, situation, difference.bytes(), verdicts)?;

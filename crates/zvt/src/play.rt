@@ -13,7 +13,7 @@ use std::io::{self, Write};
 use std::net::TcpStream;
 use zvt_io::Over;
 use zvt_play::{
-    Action, Difference, Names, ScriptFault, ScriptStep, Unplayed, difference_text, listen_on,
+    Action, Difference, Names, Role, ScriptFault, ScriptStep, Unplayed, difference_text, listen_on,
     script, stay_silent, surplus_text,
 };
 use zvt_runs::tcp::SILENCE_SECONDS;
@@ -21,6 +21,7 @@ use zvt_runs::{EndFault, NetFault};
 use zvt_stream::{Endpoint, Stream};
 use zvt_text::Text;
 use zvt_tool::PlayOptions;
+use zvt_tool::options::lengths_by;
 use zvt_tool::statuses::{BAD, DEVICE, DONE, MEMORY, TRACE, WORDS};
 use zvt_trace::{Direction, read_trace};
 
@@ -57,14 +58,18 @@ pub fn play(rt: &HostRuntime, options: &PlayOptions<'_>) -> Result<u8, Exit> {
         report(rt, wrong)?;
         return Ok(WORDS);
     }
+    let role = Role {
+        own,
+        lengths: lengths_by(options.loose),
+    };
     let text = read_text(rt, path)?;
-    let steps = script_of(rt, path, own, text.as_slice())?;
+    let steps = script_of(rt, path, role, text.as_slice())?;
     let mut place = match place_at(rt, options.port, options.listen, options.host) {
         Ok(place) => place,
         Err(why) => return Ok(finish_run(rt, false, Err(EndFault::Net(why)))?),
     };
     report_address(rt, &place)?;
-    let played = play_script(rt, &mut place, own, steps.as_slice(), 0)?;
+    let played = play_script(rt, &mut place, role, steps.as_slice(), 0)?;
     Ok(finish_play(rt, played)?)
 }
 
@@ -116,10 +121,10 @@ pub fn read_text(rt: &HostRuntime, path: &str) -> Result<Vec<u8>, Exit> {
 pub fn script_of(
     rt: &HostRuntime,
     path: &str,
-    own: Direction,
+    role: Role,
     text: &[u8],
 ) -> Result<Vec<ScriptStep>, Exit> {
-    match script(rt.alloc(), own, text) {
+    match script(rt.alloc(), role, text) {
         Ok(steps) => Ok(steps),
         Err(fault) => {
             report_on(rt, path, &fault)?;
@@ -136,7 +141,7 @@ pub fn script_of(
 pub fn play_script(
     rt: &HostRuntime,
     place: &mut Place<'_>,
-    own: Direction,
+    role: Role,
     steps: &[ScriptStep],
     listened: u32,
 ) -> io::Result<Played> {
@@ -162,7 +167,7 @@ pub fn play_script(
             Err(why) => return not_connected(rt, rest, why),
         };
         is_first = false;
-        match play_line(rt, &connection, own, &mut names, rest, milliseconds)? {
+        match play_line(rt, &connection, role, &mut names, rest, milliseconds)? {
             Ok(after) => rest = on_line(after),
             Err(ended) => return Ok(ended),
         }
@@ -225,12 +230,12 @@ fn on_line(steps: &[ScriptStep]) -> &[ScriptStep] {
 fn play_line<'s>(
     rt: &HostRuntime,
     connection: &TcpStream,
-    own: Direction,
+    role: Role,
     names: &mut Names,
     steps: &'s [ScriptStep],
     listened: u32,
 ) -> io::Result<Result<&'s [ScriptStep], Played>> {
-    let Ok(stream) = Stream::reserved(rt.alloc()) else {
+    let Ok(stream) = Stream::reserved_of(rt.alloc(), role.lengths) else {
         return Ok(Err(Played::Ended(without_memory(rt)?)));
     };
     let mut end = Endpoint {
@@ -243,7 +248,7 @@ fn play_line<'s>(
             let (played, after) = steps.split_at(count.min(steps.len()));
             end_line(rt, connection, &mut end, played, after, listened)
         }
-        Err(unplayed) => Ok(Err(differ(rt, &end, own, names, steps, unplayed)?)),
+        Err(unplayed) => Ok(Err(differ(rt, &end, role, names, steps, unplayed)?)),
     }
 }
 
@@ -338,7 +343,7 @@ fn after_break(steps: &[ScriptStep]) -> &[ScriptStep] {
 fn differ(
     rt: &HostRuntime,
     end: &LineEnd<'_>,
-    own: Direction,
+    role: Role,
     names: &Names,
     steps: &[ScriptStep],
     unplayed: Unplayed,
@@ -355,7 +360,7 @@ fn differ(
     }
     let text = difference_text(
         rt.alloc(),
-        own,
+        role,
         step,
         names,
         unplayed.why,

@@ -1,5 +1,5 @@
 -- What has come of what may come after the last line.
-use Rattle.std.proofs.Common.{◌≡◌, ◌⊎◌, inl, inr, ℕ, ◌+◌, ◌-◌, ◌<◌, ◌≤◌, Bool, List, [], ◌∷◌, ◌++◌, Option, length, refl, sym, ◌∙◌, ap, subst, arith, append_assoc, append-nil, length-append}
+use Rattle.std.proofs.Common.{◌≡◌, ◌⊎◌, inl, inr, ℕ, ◌+◌, ◌-◌, ◌<◌, ◌≤◌, Bool, List, [], ◌∷◌, ◌++◌, Option, length, take, refl, sym, ◌∙◌, ap, subst, arith, append_assoc, append-nil, length-append, length-take}
 use Rattle.std.specs.Io.KnownBytes.{Consumes, IsAtEnd}
 use Rattle.zvt_stream.proofs.HearingLemmas.{consumes_more, consumes_none}
 use Rattle.zvt_play.specs.Playing.{FallsSilent, MayFollow, NoneCame, SaysMore, may_come}
@@ -70,3 +70,21 @@ came_besides owed all rest more coming middle left count c is counted some apart
     never : MayFollow owed (c.came ++ more) → ⊥
     never (inl e) = absurd (omega (arith, some, ap length e, length-append c.came more))
     never (inr e) = apart [] (same_rest c.came rest more (sym c.cut ∙ is ∙ sym e) ∙ sym (append-nil more))
+
+-- ---- what is discarded
+
+-- so many reads brought some bytes each
+pub record Discards (count : ℕ) (coming left : Option (List ℕ)) : Type 0 where
+  pub came : List ℕ
+  pub consumed : Consumes coming left came
+  pub some : count ≤ length came
+
+pub none_discarded : (coming : Option (List ℕ)) → Discards 0 coming coming
+none_discarded coming = record { came = []; consumed = consumes_none coming; some = omega arith }
+
+pub discards_more : (count n : ℕ) (buffer : List ℕ) (coming middle left : Option (List ℕ)) → Discards count coming middle → 0 < n → n ≤ length buffer → Consumes middle left (take n buffer) → Discards (count + 1) coming left
+discards_more count n buffer coming middle left d some fits read = record {
+  came = d.came ++ take n buffer;
+  consumed = consumes_more coming middle left d.came (take n buffer) d.consumed read;
+  some = omega (arith, d.some, some, fits, length-append d.came (take n buffer), length-take n buffer);
+}

@@ -4,6 +4,7 @@ use Rattle.std.specs.Prelude.{codes}
 use Rattle.std.specs.Fmt.{digits}
 use Rattle.hex.specs.Hex.{decode_pairs, encode_with}
 use Rattle.zvt_trace.specs.declared.direction.Direction.TheVariants.{FromTill, FromTerminal}
+use Rattle.zvt_grammar.specs.Reading.{Reading}
 use Rattle.zvt_grammar.specs.declared.why.Why.TheVariants.{UnknownField}
 use Rattle.zvt_apdu.specs.Message.{Message}
 use Rattle.zvt_field.specs.Grammar.{plain}
@@ -141,16 +142,16 @@ before_no_own_line = refl
 
 -- ---- lines
 
-pub an_own_line : LineSays FromTerminal (codes "< 80 00 00") (Ok (Some (send (0x80 ∷ 0x00 ∷ 0x00 ∷ []))))
+pub an_own_line : (r : Reading) → LineSays r FromTerminal (codes "< 80 00 00") (Ok (Some (send (0x80 ∷ 0x00 ∷ 0x00 ∷ []))))
 unfolding decode_pairs
-an_own_line = refl
+an_own_line r = refl
 
-pub a_malformed_own_line : LineSays FromTill (codes "> 80") (Ok (Some (send (0x80 ∷ []))))
+pub a_malformed_own_line : (r : Reading) → LineSays r FromTill (codes "> 80") (Ok (Some (send (0x80 ∷ []))))
 unfolding decode_pairs
-a_malformed_own_line = refl
+a_malformed_own_line r = refl
 
-pub a_lost_line : LineSays FromTill (codes "!") (Ok (Some break))
-a_lost_line = refl
+pub a_lost_line : (r : Reading) → LineSays r FromTill (codes "!") (Ok (Some break))
+a_lost_line r = refl
 
 -- ---- what a line demands
 
@@ -188,8 +189,8 @@ pub a_close : (came : Option (Bor Message)) → cause_text FromTill (Closed 0) c
 unfolding digits
 a_close came = refl
 
-pub any_wanted : SaysWanted [] (codes "any message\n")
-any_wanted = refl
+pub any_wanted : (r : Reading) → SaysWanted r [] (codes "any message\n")
+any_wanted r = refl
 
 pub two_of_three : beginning_text (6 ∷ 1 ∷ 7 ∷ []) ≡ codes "a message that begins with 0601, 3 bytes of it are given\n"
 unfolding digits encode_with

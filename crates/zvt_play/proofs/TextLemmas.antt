@@ -1,12 +1,13 @@
 -- What is said of a step that could not be played, part by part.
 use Rattle.std.proofs.Common.{◌≡◌, ◌⊎◌, ◌<◌, inl, inr, ℕ, List, [], ◌∷◌, ◌++◌, Some, None, Result, Ok, Err, OnOk, MatchResult, length, take, refl, sym, ◌∙◌, ap, subst, arith, append_assoc}
+use Rattle.zvt_grammar.specs.Reading.{Reading}
 use Rattle.zvt_grammar.specs.declared.why.Why.{Why}
 use Rattle.zvt_apdu.specs.Grammar as grammar
 use Rattle.zvt_apdu.specs.Message.{Message}
 use Rattle.zvt_text.specs.MessageTexts.{said}
-use Rattle.zvt_stream.specs.Apdus.{IsRefused, IsRefusedIn, Spells, Unfinished, UnfinishedIn}
+use Rattle.zvt_stream.specs.Apdus.{IsRefusedIn, UnfinishedIn}
 use Rattle.zvt_stream.specs.Feeds.{Lends}
-use Rattle.zvt_stream.specs.StreamState.{StreamState, at_start}
+use Rattle.zvt_stream.specs.StreamState.{StreamState, start_in}
 use Rattle.zvt_stream.specs.declared.stream.FedView.{FedView}
 use Rattle.zvt_stream.specs.declared.stream.FedView.TheVariants as view
 use Rattle.zvt_play.specs.DifferenceTexts.{SaysWanted, beginning_text}
@@ -32,26 +33,26 @@ five t t1 t2 t3 t4 t5 a b c d e first second third fourth fifth = three t t3 t4 
 
 -- ---- what is wanted
 
-first_said : (wanted : List ℕ) (message : Message) (count : ℕ) → 0 < length wanted → Spells message (take count wanted) → SaysWanted wanted (said message)
-first_said [] message count some spells = absurd (omega (arith, some))
-first_said (byte ∷ bytes) message count some spells = inl (message, count, spells, refl)
+first_said : (r : Reading) (wanted : List ℕ) (message : Message) (count : ℕ) → 0 < length wanted → grammar.Spells r message (take count wanted) → SaysWanted r wanted (said message)
+first_said r [] message count some spells = absurd (omega (arith, some))
+first_said r (byte ∷ bytes) message count some spells = inl (message, count, spells, refl)
 
-begun_said : (wanted : List ℕ) → 0 < length wanted → Unfinished wanted ⊎ ((place : ℕ) × (why : Why) × IsRefused wanted place why) → SaysWanted wanted (beginning_text wanted)
-begun_said [] some begins = absurd (omega (arith, some))
-begun_said (byte ∷ bytes) some begins = inr (begins, refl)
+begun_said : (r : Reading) (wanted : List ℕ) → 0 < length wanted → UnfinishedIn r wanted ⊎ ((place : ℕ) × (why : Why) × IsRefusedIn r wanted place why) → SaysWanted r wanted (beginning_text wanted)
+begun_said r [] some begins = absurd (omega (arith, some))
+begun_said r (byte ∷ bytes) some begins = inr (begins, refl)
 
-pub lent_said : (old new : StreamState) (wanted : List ℕ) (fed : FedView) (message : Message) → old ≡ at_start → 0 < length wanted → Lends old wanted fed new → new.lent ≡ Some message → SaysWanted wanted (said message)
-lent_said old new wanted (view.Message taken) message is some lends lent =
-    let spelled : Spells lends.0 (take taken wanted) = subst (λ (s : StreamState). grammar.Spells s.reading lends.0 (s.held ++ take taken wanted)) is lends.1.2 in
+pub lent_said : (r : Reading) (old new : StreamState) (wanted : List ℕ) (fed : FedView) (message : Message) → old ≡ start_in r → 0 < length wanted → Lends old wanted fed new → new.lent ≡ Some message → SaysWanted r wanted (said message)
+lent_said r old new wanted (view.Message taken) message is some lends lent =
+    let spelled : grammar.Spells r lends.0 (take taken wanted) = subst (λ (s : StreamState). grammar.Spells s.reading lends.0 (s.held ++ take taken wanted)) is lends.1.2 in
     let same : Some lends.0 ≡ Some message = sym lends.2 ∙ lent in
     by lends.0 same spelled
   where
-    by : (found : Message) → Some found ≡ Some message → Spells found (take taken wanted) → SaysWanted wanted (said message)
-    by found same spelled = let e : found ≡ message = cc in subst (λ (m : Message). SaysWanted wanted (said m)) e (first_said wanted found taken some spelled)
-lent_said old new wanted view.More message is some lends lent = let never : None ≡ Some message = sym lends.1 ∙ lent in cc
-lent_said old new wanted (view.Refused place why) message is some lends lent = let never : None ≡ Some message = sym lends.1 ∙ lent in cc
+    by : (found : Message) → Some found ≡ Some message → grammar.Spells r found (take taken wanted) → SaysWanted r wanted (said message)
+    by found same spelled = let e : found ≡ message = cc in subst (λ (m : Message). SaysWanted r wanted (said m)) e (first_said r wanted found taken some spelled)
+lent_said r old new wanted view.More message is some lends lent = let never : None ≡ Some message = sym lends.1 ∙ lent in cc
+lent_said r old new wanted (view.Refused place why) message is some lends lent = let never : None ≡ Some message = sym lends.1 ∙ lent in cc
 
-pub none_said : (old new : StreamState) (wanted : List ℕ) (fed : FedView) → old ≡ at_start → 0 < length wanted → Lends old wanted fed new → new.lent ≡ None → SaysWanted wanted (beginning_text wanted)
-none_said old new wanted (view.Message taken) is some lends lent = let never : Some lends.0 ≡ None = sym lends.2 ∙ lent in cc
-none_said old new wanted view.More is some lends lent = begun_said wanted some (inl (subst (λ (s : StreamState). UnfinishedIn s.reading (s.held ++ wanted)) is lends.0.0))
-none_said old new wanted (view.Refused place why) is some lends lent = begun_said wanted some (inr (place, why, subst (λ (s : StreamState). IsRefusedIn s.reading (s.held ++ wanted) place why) is lends.0.0))
+pub none_said : (r : Reading) (old new : StreamState) (wanted : List ℕ) (fed : FedView) → old ≡ start_in r → 0 < length wanted → Lends old wanted fed new → new.lent ≡ None → SaysWanted r wanted (beginning_text wanted)
+none_said r old new wanted (view.Message taken) is some lends lent = let never : Some lends.0 ≡ None = sym lends.2 ∙ lent in cc
+none_said r old new wanted view.More is some lends lent = begun_said r wanted some (inl (subst (λ (s : StreamState). UnfinishedIn s.reading (s.held ++ wanted)) is lends.0.0))
+none_said r old new wanted (view.Refused place why) is some lends lent = begun_said r wanted some (inr (place, why, subst (λ (s : StreamState). IsRefusedIn s.reading (s.held ++ wanted) place why) is lends.0.0))

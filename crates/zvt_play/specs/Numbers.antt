@@ -1,4 +1,4 @@
--- Numbers that are heard, and the names under which a script speaks of them.
+-- Received numbers, and the names that a script gives them.
 use Rattle.std.specs.Prelude.{◌≡◌, ℕ, ◌-◌, ◌&&◌, Bool, true, false, cond, nat_le, List, [], ◌∷◌, ◌++◌, length, take, replicate, slice_index_or, slice_set, Option, Some, None, option_and_then}
 use Rattle.std.specs.List.{list_any}
 use Rattle.std.specs.Str.{bytes_eq}
@@ -36,7 +36,7 @@ number_by (first ∷ second ∷ []) = Some (first ∷ second ∷ [])
 number_by (first ∷ second ∷ third ∷ []) = Some (first ∷ second ∷ third ∷ [])
 number_by (first ∷ second ∷ third ∷ fourth ∷ more) = None
 
--- the number in that field of a message, where the field is there exactly once
+-- the number in this field of a message, if the field appears exactly once
 abbrev pub number_of : NumberField → List Field → Option (List ℕ)
 number_of field fields = option_and_then number_by (content_of (bmp_of field) fields)
 
@@ -64,7 +64,7 @@ has_number names bytes = list_any (is_number bytes) names.numbers
 abbrev pub bound : (name : ℕ) → Number → Names → Names
 bound name number names = record { numbers = slice_set names.numbers name (Some number); next = names.next }
 
--- the next own line is to have the number of that name, where it has one
+-- the next own line will carry the number of the name, if it has one
 abbrev pub prepared : (name : ℕ) → Names → Names
 prepared name names = record { numbers = names.numbers; next = named names name }
 
@@ -72,16 +72,16 @@ prepared name names = record { numbers = names.numbers; next = named names name 
 abbrev pub used : Names → Names
 used names = record { numbers = names.numbers; next = None }
 
--- The message that came has a number in that field that no name had, and the name has it now.
+-- The received message has a number in this field that no name had, and the name has it now.
 abbrev pub Binds : NumberField → (name : ℕ) → Option Message → (old new : Names) → Type 0
 Binds field name came old new =
     (number : Number) × (number_in field came ≡ Some (bytes_in number)) × (has_number old (bytes_in number) ≡ false) × (new ≡ bound name number old)
 
--- The message that came has no number in that field, or one that some name has.
+-- The received message has no number in this field, or one that some name has.
 abbrev pub HasNoNew : NumberField → Option Message → Names → Type 0
 HasNoNew field came names = (bytes : List ℕ) → number_in field came ≡ Some bytes → has_number names bytes ≡ true
 
--- The message that came has the number of that name in that field.
+-- The received message has the number of the name in this field.
 abbrev pub IsNumbered : NumberField → (name : ℕ) → Option Message → Names → Type 0
 IsNumbered field name came names = (number : Number) × (named names name ≡ Some number) × (number_in field came ≡ Some (bytes_in number))
 
@@ -95,7 +95,7 @@ longest_line = 258
 abbrev pub with_end : (bytes number : List ℕ) → List ℕ
 with_end bytes number = take (length bytes - length number) bytes ++ number
 
--- What is sent for a line: its bytes, or, where a name was prepared that has a number, the same with that number as the last.
+-- What is sent for a line: its bytes. If a prepared name has a number, the number replaces the last bytes.
 abbrev pub sent_as : Option Number → (bytes : List ℕ) → List ℕ
 sent_as None bytes = bytes
 sent_as (Some number) bytes = cond (nat_le (length bytes) longest_line && nat_le (length (bytes_in number)) (length bytes)) (with_end bytes (bytes_in number)) bytes

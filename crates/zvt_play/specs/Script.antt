@@ -1,12 +1,13 @@
--- What a trace has the player of one side do.
+-- What the player of one side does for a trace.
 use Rattle.std.specs.Prelude.{◌≡◌, ℕ, ◌+◌, ◌⊎◌, cond, List, [], ◌∷◌, ◌++◌, codes, length, map, Option, Some, None, option_and_then, option_map, Result, Ok, Err, Vec}
 use Rattle.std.specs.Global.{Global}
 use Rattle.std.specs.Str.{bytes_eq}
 use Rattle.std.specs.Str.Lines.{lines}
+use Rattle.zvt_grammar.specs.Reading.{Reading}
 use Rattle.zvt_grammar.specs.declared.why.Why.{Why}
 use Rattle.zvt_apdu.specs.Message.{Message}
 use Rattle.zvt_text.specs.Words.{number_in, trailing}
-use Rattle.zvt_stream.specs.Apdus.{Alive, Cut, IsRefused, Spelled}
+use Rattle.zvt_stream.specs.Apdus.{AliveIn, CutIn, IsRefusedIn, SpelledIn}
 use Rattle.zvt_trace.specs.Meanings.{Meaning, comment, lost, meaning_of, piece}
 use Rattle.zvt_trace.specs.declared.direction.Direction.{Direction}
 use Rattle.zvt_trace.specs.declared.direction.Direction.TheVariants.{FromTill, FromTerminal}
@@ -21,7 +22,7 @@ use Rattle.zvt_play.specs.declared.step.Action.{Action}
 use Rattle.zvt_play.specs.declared.step.Action.TheVariants as code
 use Rattle.zvt_play.specs.declared.step.ScriptStep.{ScriptStep}
 
--- ---- what is done for a line
+-- ---- what the player does for a line
 
 pub data Act : Type 0 where
   send : (bytes : List ℕ) → Act
@@ -99,7 +100,7 @@ abbrev pub mark_or_error : Option Act → Result (Option Act) ScriptLineError
 mark_or_error None = Err error.Mark
 mark_or_error (Some act) = Ok (Some act)
 
--- a comment that does not begin with '#~' says nothing
+-- a comment that does not begin with '#~' has no meaning for the player
 abbrev pub comment_by : Option (List ℕ) → Result (Option Act) ScriptLineError
 comment_by None = Ok None
 comment_by (Some words) = mark_or_error (mark_of words)
@@ -108,44 +109,44 @@ abbrev pub comment_says : List ℕ → Result (Option Act) ScriptLineError
 comment_says line = comment_by (trailing (codes "#~") line)
 
 -- the other side can send the bytes: whole messages, and then perhaps the beginning of one
-pub record CanCome (bytes : List ℕ) : Type 0 where
+pub record CanCome (r : Reading) (bytes : List ℕ) : Type 0 where
   pub messages : List Message
   pub rest : List ℕ
-  pub cut : Cut bytes messages rest
-  pub alive : Alive rest
+  pub cut : CutIn r bytes messages rest
+  pub alive : AliveIn r rest
 
--- after whole messages no message begins with the bytes up to the one at that place of all
-pub record CannotCome (bytes : List ℕ) (at : ℕ) (why : Why) : Type 0 where
+-- no message after the whole ones begins with the bytes up to and including the one at this place, counted from the first byte
+pub record CannotCome (r : Reading) (bytes : List ℕ) (at : ℕ) (why : Why) : Type 0 where
   pub messages : List Message
   pub before : List ℕ
   pub rest : List ℕ
   pub place : ℕ
   pub whole : bytes ≡ before ++ rest
-  pub spelled : Spelled bytes messages rest
-  pub refused : IsRefused rest place why
+  pub spelled : SpelledIn r bytes messages rest
+  pub refused : IsRefusedIn r rest place why
   pub is_at : at ≡ length before + place
 
-abbrev pub AwaitSays : List ℕ → Result (Option Act) ScriptLineError → Type 0
-AwaitSays bytes answer =
-    (CanCome bytes × (answer ≡ Ok (Some (await bytes))))
-    ⊎ ((at : ℕ) × (why : Why) × CannotCome bytes at why × (answer ≡ Err (error.NoMessage at why)))
+abbrev pub AwaitSays : Reading → List ℕ → Result (Option Act) ScriptLineError → Type 0
+AwaitSays r bytes answer =
+    (CanCome r bytes × (answer ≡ Ok (Some (await bytes))))
+    ⊎ ((at : ℕ) × (why : Why) × CannotCome r bytes at why × (answer ≡ Err (error.NoMessage at why)))
 
--- a piece of the own side is sent as it is, and one of the other side is awaited
-abbrev pub PieceSays : (own from : Direction) → List ℕ → Result (Option Act) ScriptLineError → Type 0
-PieceSays FromTill FromTill bytes answer = answer ≡ Ok (Some (send bytes))
-PieceSays FromTill FromTerminal bytes answer = AwaitSays bytes answer
-PieceSays FromTerminal FromTill bytes answer = AwaitSays bytes answer
-PieceSays FromTerminal FromTerminal bytes answer = answer ≡ Ok (Some (send bytes))
+-- a line of the own side is sent unchanged, and a line of the other side is awaited
+abbrev pub PieceSays : Reading → (own from : Direction) → List ℕ → Result (Option Act) ScriptLineError → Type 0
+PieceSays r FromTill FromTill bytes answer = answer ≡ Ok (Some (send bytes))
+PieceSays r FromTill FromTerminal bytes answer = AwaitSays r bytes answer
+PieceSays r FromTerminal FromTill bytes answer = AwaitSays r bytes answer
+PieceSays r FromTerminal FromTerminal bytes answer = answer ≡ Ok (Some (send bytes))
 
-abbrev pub SaysBy : (own : Direction) → (line : List ℕ) → Result Meaning TraceLineError → Result (Option Act) ScriptLineError → Type 0
-SaysBy own line (Ok comment) answer = answer ≡ comment_says line
-SaysBy own line (Ok (piece from bytes)) answer = PieceSays own from bytes answer
-SaysBy own line (Ok lost) answer = answer ≡ Ok (Some break)
-SaysBy own line (Err what) answer = answer ≡ Err (error.Trace what)
+abbrev pub SaysBy : Reading → (own : Direction) → (line : List ℕ) → Result Meaning TraceLineError → Result (Option Act) ScriptLineError → Type 0
+SaysBy r own line (Ok comment) answer = answer ≡ comment_says line
+SaysBy r own line (Ok (piece from bytes)) answer = PieceSays r own from bytes answer
+SaysBy r own line (Ok lost) answer = answer ≡ Ok (Some break)
+SaysBy r own line (Err what) answer = answer ≡ Err (error.Trace what)
 
--- what a line has the player of this side do, or why it can't be played
-abbrev pub LineSays : (own : Direction) → List ℕ → Result (Option Act) ScriptLineError → Type 0
-LineSays own line answer = SaysBy own line (meaning_of line) answer
+-- what the player of this side does for a line, or the reason why it can't be played
+abbrev pub LineSays : Reading → (own : Direction) → List ℕ → Result (Option Act) ScriptLineError → Type 0
+LineSays r own line answer = SaysBy r own line (meaning_of line) answer
 
 -- ---- a trace
 
@@ -165,25 +166,25 @@ abbrev pub some_step : (line : ℕ) → Option Act → List StepAt
 some_step line None = []
 some_step line (Some act) = record { line = line; act = act } ∷ []
 
--- the steps of lines, of which the first has the number after that: one for each line that has one, in order
-abbrev pub LinesSay : (own : Direction) → (before : ℕ) → List (List ℕ) → List StepAt → Type 0
-LinesSay own before [] steps = steps ≡ []
-LinesSay own before (line ∷ later) steps =
-    (said : Option Act) × (rest : List StepAt) × LineSays own line (Ok said) × LinesSay own (before + 1) later rest × (steps ≡ some_step (before + 1) said ++ rest)
+-- the steps of the lines after this many earlier ones: at most one for each line, in order
+abbrev pub LinesSay : Reading → (own : Direction) → (before : ℕ) → List (List ℕ) → List StepAt → Type 0
+LinesSay r own before [] steps = steps ≡ []
+LinesSay r own before (line ∷ later) steps =
+    (said : Option Act) × (rest : List StepAt) × LineSays r own line (Ok said) × LinesSay r own (before + 1) later rest × (steps ≡ some_step (before + 1) said ++ rest)
 
--- the line of that number is the first that can't be played
-pub record IsFirstWrong (own : Direction) (lines : List (List ℕ)) (number : ℕ) (why : ScriptLineError) : Type 0 where
+-- the line with this number is the first that can't be played
+pub record IsFirstWrong (r : Reading) (own : Direction) (lines : List (List ℕ)) (number : ℕ) (why : ScriptLineError) : Type 0 where
   pub done : List (List ℕ)
   pub line : List ℕ
   pub later : List (List ℕ)
   pub steps : List StepAt
   pub cut : lines ≡ done ++ line ∷ later
-  pub good : LinesSay own 0 done steps
-  pub wrong : LineSays own line (Err why)
+  pub good : LinesSay r own 0 done steps
+  pub wrong : LineSays r own line (Err why)
   pub is_number : number ≡ length done + 1
 
--- what reading the lines of a trace answers
-abbrev pub ReadsLines : (own : Direction) → (trace : List ℕ) → Result (Vec ScriptStep Global) ScriptFault → Type 0
-ReadsLines own trace (Ok steps) = LinesSay own 0 (lines trace) (steps_at steps.items)
-ReadsLines own trace (Err (fault.Line number why)) = IsFirstWrong own (lines trace) number why
-ReadsLines own trace (Err fault.Memory) = Unit {0}
+-- the result of reading the lines of a trace
+abbrev pub ReadsLines : Reading → (own : Direction) → (trace : List ℕ) → Result (Vec ScriptStep Global) ScriptFault → Type 0
+ReadsLines r own trace (Ok steps) = LinesSay r own 0 (lines trace) (steps_at steps.items)
+ReadsLines r own trace (Err (fault.Line number why)) = IsFirstWrong r own (lines trace) number why
+ReadsLines r own trace (Err fault.Memory) = Unit {0}

@@ -2,12 +2,12 @@
 
 use zvt_grammar::Why;
 
-/// Why a step could not be played.
+/// The reason why a step could not be played.
 #[derive(Clone, Copy, Drop, PartialEq, Eq)]
 pub enum Difference {
-    /// Another message came, which the stream lends, after the first `at` bytes of the step.
+    /// Another message arrived after the first `at` bytes of the step. The stream lends it.
     Other { at: usize },
-    /// This many bytes came beyond those that the earlier steps await.
+    /// This many more bytes arrived than the earlier steps await.
     Surplus { count: usize },
     /// The other side closed the connection, after `have` bytes of a message.
     Closed { have: usize },

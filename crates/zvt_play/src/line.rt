@@ -1,6 +1,7 @@
-//! Lines of a trace as steps of the player.
+//! Reads lines of a trace as steps of the player.
 ghost use Rattle.std.specs.Prelude.{◌≡◌, ℕ, List, Ok, Err, IfErr, IfOk, IsErr, OnOk, option_map};
 ghost use Rattle.hex.specs.Hex.{decode_of};
+ghost use Rattle.zvt_grammar.specs.Lengths.{reading_of};
 ghost use Rattle.zvt_trace.specs.Meanings.{piece_of, without_spaces};
 ghost use Rattle.zvt_play.specs.Script.{AwaitSays, CanCome, LineSays, SaysBy, act_of};
 ghost use Rattle.zvt_play.specs.declared.line.ScriptLineError.{ScriptLineError};
@@ -8,14 +9,15 @@ ghost use Rattle.zvt_play.specs.declared.line.BadLine.TheVariants.{Memory};
 
 use crate::marks::read_comment;
 use crate::naming::NameFault;
+use crate::role::Role;
 use crate::step::Action;
 use std::alloc::{AllocError, Global};
 use thiserror::Error;
-use zvt_grammar::Why;
+use zvt_grammar::{Lengths, Why};
 use zvt_stream::{FedView, FeedError, Stream};
 use zvt_trace::{Direction, TraceLineError, spelled_bytes};
 
-/// Why a line can't be played.
+/// The reason why a line can't be played.
 #[derive(Clone, Copy, Debug, PartialEq, Eq, Error)]
 pub enum ScriptLineError {
     /// It is not a line of a trace.
@@ -35,7 +37,7 @@ pub enum ScriptLineError {
     NoMessage { at: usize, why: Why },
 }
 
-/// Why a line is not read.
+/// The reason why reading a line failed.
 #[derive(Clone, Copy)]
 pub(crate) enum BadLine {
     Wrong(ScriptLineError),
@@ -50,14 +52,12 @@ impl From<AllocError> for BadLine {
     }
 }
 
-/// Reads a line, which has lost its line feed, for the player of that side.
-pub(crate) fn read_line(
-    alloc: Global,
-    own: Direction,
-    line: &[u8],
-) -> Result<Option<Action>, BadLine>
-    ensures ok { IfOk result (λ read. LineSays own line.now (Ok (option_map act_of read))) }
-    ensures wrong { (why : ScriptLineError) → result ≡ Err (BadLine.Wrong why) → LineSays own line.now (Err why) }
+/// Reads a line without its line feed, for a player with this role.
+pub(crate) fn read_line(alloc: Global, role: Role, line: &[u8]) -> Result<Option<Action>, BadLine>
+    ensures ok { IfOk result (λ read. LineSays (reading_of role.lengths) role.own line.now
+        (Ok (option_map act_of read))) }
+    ensures wrong { (why : ScriptLineError) → result ≡ Err (BadLine.Wrong why)
+        → LineSays (reading_of role.lengths) role.own line.now (Err why) }
 {
     match line {
         [] => Ok(None),
@@ -65,34 +65,36 @@ pub(crate) fn read_line(
             Ok(action) => Ok(action),
             Err(why) => Err(BadLine::Wrong(why)),
         },
-        [b'>', text @ ..] => read_piece(alloc, own, Direction::FromTill, text),
-        [b'<', text @ ..] => read_piece(alloc, own, Direction::FromTerminal, text),
+        [b'>', text @ ..] => read_piece(alloc, role, Direction::FromTill, text),
+        [b'<', text @ ..] => read_piece(alloc, role, Direction::FromTerminal, text),
         [b'!'] => Ok(Some(Action::Break)),
         _ => Err(BadLine::Wrong(ScriptLineError::Trace(TraceLineError::Form))),
     }
 }
 
-/// Reads the bytes of a side, spelled in hexadecimal with spaces.
+/// Reads a line of bytes from the given side. The text is what follows the sign.
 fn read_piece(
     alloc: Global,
-    own: Direction,
+    role: Role,
     from: Direction,
     text: &[u8],
 ) -> Result<Option<Action>, BadLine>
     ensures ok { IfOk result (λ read. (line : List ℕ)
-        → SaysBy own line (piece_of from (decode_of (without_spaces text.now))) (Ok (option_map act_of read))) }
+        → SaysBy (reading_of role.lengths) role.own line (piece_of from (decode_of (without_spaces text.now)))
+        (Ok (option_map act_of read))) }
     ensures wrong { (why : ScriptLineError) → result ≡ Err (BadLine.Wrong why) → (line : List ℕ)
-        → SaysBy own line (piece_of from (decode_of (without_spaces text.now))) (Err why) }
+        → SaysBy (reading_of role.lengths) role.own line (piece_of from (decode_of (without_spaces text.now)))
+        (Err why) }
 {
     let bytes = decode(alloc, text)?;
-    if own == from {
+    if role.own == from {
         return Ok(Some(Action::Send(bytes)));
     }
-    check(alloc, bytes.as_slice())?;
+    check(alloc, role.lengths, bytes.as_slice())?;
     Ok(Some(Action::Await(bytes)))
 }
 
-/// The bytes that the text spells.
+/// Decodes hexadecimal text, which may have spaces.
 fn decode(alloc: Global, text: &[u8]) -> Result<Vec<u8>, BadLine>
     ensures ok { IfOk result (λ bytes. decode_of (without_spaces text.now) ≡ Ok bytes.items) }
     ensures wrong { (why : ScriptLineError) → result ≡ Err (BadLine.Wrong why)
@@ -104,12 +106,13 @@ fn decode(alloc: Global, text: &[u8]) -> Result<Vec<u8>, BadLine>
     }
 }
 
-/// Whether the other side can send these bytes: `Ok`, or where no message can go on.
-fn check(alloc: Global, bytes: &[u8]) -> Result<(), BadLine>
-    ensures ok { OnOk result (CanCome bytes.now) }
-    ensures wrong { (why : ScriptLineError) → result ≡ Err (BadLine.Wrong why) → AwaitSays bytes.now (Err why) }
+/// Checks that the other side can send these bytes: whole messages, and perhaps the beginning of another one.
+fn check(alloc: Global, lengths: Lengths, bytes: &[u8]) -> Result<(), BadLine>
+    ensures ok { OnOk result (CanCome (reading_of lengths) bytes.now) }
+    ensures wrong { (why : ScriptLineError) → result ≡ Err (BadLine.Wrong why)
+        → AwaitSays (reading_of lengths) bytes.now (Err why) }
 {
-    let mut stream = Stream::new(alloc);
+    let mut stream = Stream::of(alloc, lengths);
     let mut rest = bytes;
     'messages: loop {
         match stream.feed_view(rest) {

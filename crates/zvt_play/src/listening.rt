@@ -37,14 +37,14 @@ pub fn listen_on<R: Source>(reader: &mut R, is_owed: bool) -> Result<(), Differe
     }
 }
 
-/// What may come after the last line.
+/// Returns the bytes that may arrive after the last line.
 fn allowed(is_owed: bool) -> &'static [u8]
     ensures { result.now ≡ may_come is_owed }
 {
     if is_owed { &[0x80, 0x00, 0x00] } else { &[] }
 }
 
-/// Reads once: how many bytes came, if some did.
+/// Reads once and returns the number of bytes, or `None` if none arrived.
 fn read_more<R: Source>(reader: &mut R, heard: &mut Unheard) -> Option<usize>
     ensures { MatchOption result
         (NoneCame (R.remaining reader.old) (R.remaining reader.new) (R.failures reader.old) (R.failures reader.new))

@@ -8,13 +8,13 @@ use crate::numbers::NumberField;
 use crate::step::Action;
 use zvt_text::words::{decimal_number, trailing};
 
-/// The most digits of a number.
+/// The most digits of a number of milliseconds.
 const MAX_DIGITS: usize = 7;
 
 /// The most digits of a name.
 const NAME_DIGITS: usize = 2;
 
-/// Reads a comment: nothing, or a mark, which begins with `#~`.
+/// Reads a comment: a mark if it begins with `#~`, and otherwise nothing.
 pub(crate) fn read_comment(line: &[u8]) -> Result<Option<Action>, ScriptLineError>
     ensures { MatchResult result (λ read. comment_says line.now ≡ Ok (option_map act_of read))
         (λ why. comment_says line.now ≡ Err why) }
@@ -28,7 +28,7 @@ pub(crate) fn read_comment(line: &[u8]) -> Result<Option<Action>, ScriptLineErro
     }
 }
 
-/// The action that the words of a mark name.
+/// Returns the action of a mark, given the text after `#~`.
 fn mark(words: &[u8]) -> Option<Action>
     ensures { option_map act_of result ≡ mark_of words.now }
 {
@@ -53,7 +53,7 @@ fn mark(words: &[u8]) -> Option<Action>
     Some(Action::Wait(number(trailing(b" ", words)?)?))
 }
 
-/// A field, and the number of a name: `87 n1`.
+/// Reads a field and the number of a name, such as `87 n1`.
 fn named(words: &[u8]) -> Option<(NumberField, u8)>
     ensures { result ≡ named_in words.now }
 {
@@ -66,7 +66,7 @@ fn named(words: &[u8]) -> Option<(NumberField, u8)>
     Some((NumberField::Receipt, name(trailing(b"87 n", words)?)?))
 }
 
-/// The number of a name: one digit, or two.
+/// Reads the number of a name: one or two digits.
 fn name(digits: &[u8]) -> Option<u8>
     ensures { result ≡ number_in 2 digits.now }
 {
@@ -74,7 +74,7 @@ fn name(digits: &[u8]) -> Option<u8>
     Some(number as u8)
 }
 
-/// The number of one to seven decimal digits.
+/// Reads a number of one to seven decimal digits.
 fn number(digits: &[u8]) -> Option<u32>
     ensures { result ≡ number_in 7 digits.now }
 {

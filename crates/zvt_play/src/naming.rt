@@ -31,7 +31,7 @@ pub enum NameFault {
     NoField,
 }
 
-/// The first step whose mark can't be played where it stands, counted from 0, and why.
+/// Returns the first step whose mark can't be used where it appears, counted from 0, and the reason.
 pub(crate) fn first_fault(steps: &[ScriptStep]) -> Option<(usize, NameFault)>
     ensures { MatchOption result (AreNamed (acts_of steps.now))
         (λ fault. IsFirstFault (acts_of steps.now) fault.0 fault.1) }
@@ -44,7 +44,7 @@ pub(crate) fn first_fault(steps: &[ScriptStep]) -> Option<(usize, NameFault)>
     None
 }
 
-/// Why a step can't be played between these, if its mark can't be.
+/// Returns the reason why a step's mark can't be used between these steps, if there is one.
 fn fault(before: &[ScriptStep], action: &Action, after: &[ScriptStep]) -> Option<NameFault>
     ensures { result ≡ fault_of (acts_of before.now) (act_of action.now) (acts_of after.now) }
 {
@@ -98,7 +98,7 @@ fn is_heard(action: &Action) -> bool
     )
 }
 
-/// The field whose number these steps give to a name first, if they do.
+/// Returns the field of the first step that binds the name, if one does.
 fn bound_field(steps: &[ScriptStep], name: u8) -> Option<NumberField>
     ensures { result ≡ bound_field name (acts_of steps.now) }
 {
@@ -112,7 +112,7 @@ fn bound_field(steps: &[ScriptStep], name: u8) -> Option<NumberField>
     None
 }
 
-/// The field whose number this step gives to a name, if it does.
+/// Returns the field of this step if it binds the name.
 fn bound_here(action: &Action, name: u8) -> Option<NumberField>
     ensures { result ≡ bound_here name (act_of action.now) }
 {
@@ -122,7 +122,7 @@ fn bound_here(action: &Action, name: u8) -> Option<NumberField>
     }
 }
 
-/// Why a name whose number came in the one field can't stand in the other, if it can't.
+/// Returns the reason why a name can't be used for this field, given the field in which it was bound, if any.
 fn size_fault(field: NumberField, bound: Option<NumberField>) -> Option<NameFault>
     ensures { result ≡ size_fault field bound }
 {

@@ -1,4 +1,4 @@
-//! Numbers that are heard, and their names.
+//! Received numbers and their names.
 ghost use Rattle.std.specs.Prelude.{◌≡◌, IfErr, OnOk, option_map};
 ghost use Rattle.std.specs.Option.{option_copied};
 ghost use Rattle.zvt_field.specs.Named.{content_of};
@@ -9,7 +9,7 @@ use crate::difference::Difference;
 use zvt_apdu::ApduView;
 use zvt_field::FieldsView;
 
-/// A field with a number under which a terminal keeps a payment.
+/// A field with a number by which a terminal identifies a payment.
 #[derive(Clone, Copy, Debug, Drop, PartialEq, Eq)]
 pub enum NumberField {
     /// BMP 0B, the trace number.
@@ -43,7 +43,7 @@ impl NumberField {
     }
 }
 
-/// The bytes of a number, as they were heard.
+/// The bytes of a received number.
 #[derive(Clone, Copy, Drop)]
 pub(crate) enum Number {
     Two([u8; 2]),
@@ -62,7 +62,7 @@ impl Number {
     }
 }
 
-/// The numbers heard so far, by name, and the one that the next own line will carry.
+/// The numbers received so far, by name, and the one that the next own line will carry.
 #[derive(Drop)]
 pub struct Names {
     numbers: [Option<Number>; 256],
@@ -87,7 +87,7 @@ impl Names {
         self.numbers[usize::from(name)]
     }
 
-    /// Gives the number in this field of the message that came to a name. No name may have the number so far.
+    /// Gives a name to the number in this field of the received message. No name may have that number yet.
     pub(crate) fn bind(
         &mut self,
         came: Option<ApduView<'_>>,
@@ -122,7 +122,7 @@ impl Names {
         false
     }
 
-    /// Whether this field of the message that came has the number of a name.
+    /// Checks that this field of the received message has the number of a name.
     pub(crate) fn check(
         &self,
         came: Option<ApduView<'_>>,
@@ -160,7 +160,7 @@ impl Names {
     }
 }
 
-/// Whether there is a number, and it has these bytes.
+/// Whether there is a number with these bytes.
 fn is_number(bytes: &[u8], number: Option<Number>) -> bool
     ensures { result ≡ is_number bytes.now number }
 {
@@ -170,14 +170,14 @@ fn is_number(bytes: &[u8], number: Option<Number>) -> bool
     }
 }
 
-/// The number in a field of a message, where the field is there exactly once.
+/// Returns the number in a field of a message, if the field appears exactly once.
 fn number_in(came: Option<ApduView<'_>>, field: NumberField) -> Option<Number>
     ensures { option_map bytes_in result ≡ number_in field came.entry }
 {
     number_by(content(&came?.fields()?, field.bmp())?)
 }
 
-/// The content of the field of that BMP, where it appears exactly once and is no container.
+/// Returns the content of the field with this BMP, if it appears exactly once and is no container.
 fn content<'a>(fields: &FieldsView<'a>, bmp: u8) -> Option<&'a [u8]>
     ensures { option_copied result ≡ content_of bmp fields.now }
 {
@@ -188,7 +188,7 @@ fn content<'a>(fields: &FieldsView<'a>, bmp: u8) -> Option<&'a [u8]>
     }
 }
 
-/// The number of these bytes: two, or three.
+/// Returns two or three bytes as a number.
 fn number_by(content: &[u8]) -> Option<Number>
     ensures { option_map bytes_in result ≡ number_by content.now }
 {

@@ -1,11 +1,14 @@
-//! A script is played over one connection.
-ghost use Rattle.std.specs.Prelude.{◌≡◌, ◌≢◌, ◌<◌, ◌≤◌, [], ℕ, List, Option, IfErr, IfOk, OnOk, length, take};
+//! Plays a script over one connection.
+ghost use Rattle.std.specs.Prelude.{◌≡◌, ◌≢◌, ◌+◌, ◌<◌, ◌≤◌, [], ℕ, List, Option, IfErr, IfOk, MatchResult, OnOk};
+ghost use Rattle.std.specs.Prelude.{length, take};
 ghost use Rattle.std.specs.Io.KnownBytes.{Appends};
 ghost use Rattle.zvt_io.specs.Devices.{IsPrefix};
+ghost use Rattle.zvt_grammar.specs.Reading.{Reading};
 ghost use Rattle.zvt_apdu.specs.Message.{Message};
 ghost use Rattle.zvt_stream.specs.StreamState.{StreamState};
 ghost use Rattle.zvt_play.specs.Numbers.{longest_line, sent_as, used, with_end};
 ghost use Rattle.zvt_play.specs.Playing.{IsReady, PlaysStep, PlaysTo, Stops, StopsPlay, WritesAll, acts_of, line_state};
+ghost use Rattle.zvt_play.specs.Playing.{failed_reads, failed_writes};
 ghost use Rattle.zvt_play.specs.Script.{act_of, send};
 ghost use Rattle.zvt_play.specs.Unheard.{unheard_in};
 
@@ -20,7 +23,7 @@ use std::time::Duration;
 use zvt_io::{Sink, Source};
 use zvt_stream::Endpoint;
 
-/// The longest own line that can have a name's number: a message whose length is one byte.
+/// Size of the longest own line that can carry a name's number: a message with a length of one byte.
 pub(crate) const LONGEST_LINE: usize = 258;
 
 /// Plays the steps over a new connection, up to the first step that breaks it or waits in silence, or to the end.
@@ -35,18 +38,22 @@ pub fn play<C: Clock, R: Source, W: Sink>(
     names: &mut Names,
     steps: &[ScriptStep],
 ) -> Result<usize, Unplayed>
-    requires { IsReady end.old.stream }
+    requires { IsReady end.old.stream.reading end.old.stream }
     ensures sent { IfOk result (λ count. WritesAll (take count (acts_of steps.now)) names.old names.new
         (W.written end.old.writer) (W.written end.new.writer)) }
     ensures sent_before { IfErr result (λ unplayed. unplayed.why ≢ Difference.Write
         → WritesAll (take unplayed.step (acts_of steps.now)) names.old names.new (W.written end.old.writer)
         (W.written end.new.writer)) }
-    ensures ok { IfOk result (λ count. PlaysTo steps.now count
+    ensures ok { IfOk result (λ count. PlaysTo end.old.stream.reading steps.now count
         (line_state [] (R.remaining end.old.reader) (W.written end.old.writer) end.old.stream.lent names.old)
         (R.remaining end.new.reader) (W.written end.new.writer) end.new.stream.lent names.new) }
-    ensures err { IfErr result (λ unplayed. StopsPlay steps.now unplayed
+    ensures err { IfErr result (λ unplayed. StopsPlay end.old.stream.reading steps.now unplayed
         (line_state [] (R.remaining end.old.reader) (W.written end.old.writer) end.old.stream.lent names.old)
         (R.remaining end.new.reader) (W.written end.new.writer) end.new.stream names.new) }
+    ensures reads { MatchResult result (λ _. R.failures end.new.reader ≡ R.failures end.old.reader)
+        (λ unplayed. R.failures end.new.reader ≡ R.failures end.old.reader + failed_reads unplayed.why) }
+    ensures writes { MatchResult result (λ _. W.failures end.new.writer ≡ W.failures end.old.writer)
+        (λ unplayed. W.failures end.new.writer ≡ W.failures end.old.writer + failed_writes unplayed.why) }
 {
     let mut unheard = Unheard::new();
     for (at, step) in steps.iter().enumerate() {
@@ -63,7 +70,7 @@ pub fn play<C: Clock, R: Source, W: Sink>(
     }
 }
 
-/// Plays a step. Answers whether the next one is played over this connection too.
+/// Plays a step. Returns whether the next one is played over this connection too.
 fn take_step<C: Clock, R: Source, W: Sink>(
     clock: &C,
     end: &mut Endpoint<R, W>,
@@ -71,16 +78,20 @@ fn take_step<C: Clock, R: Source, W: Sink>(
     names: &mut Names,
     action: &Action,
 ) -> Result<bool, Difference>
-    requires { IsReady end.old.stream }
-    ensures ok { IfOk result (λ goes_on. PlaysStep (act_of action.now) goes_on
+    requires { IsReady end.old.stream.reading end.old.stream }
+    ensures ok { IfOk result (λ goes_on. PlaysStep end.old.stream.reading (act_of action.now) goes_on
         (line_state (unheard_in unheard.old) (R.remaining end.old.reader) (W.written end.old.writer) end.old.stream.lent
         names.old) (line_state (unheard_in unheard.new) (R.remaining end.new.reader) (W.written end.new.writer)
         end.new.stream.lent names.new)) }
-    ensures ready { OnOk result (IsReady end.new.stream) }
-    ensures err { IfErr result (λ why. Stops why (act_of action.now)
+    ensures ready { OnOk result (IsReady end.old.stream.reading end.new.stream) }
+    ensures err { IfErr result (λ why. Stops end.old.stream.reading why (act_of action.now)
         (line_state (unheard_in unheard.old) (R.remaining end.old.reader) (W.written end.old.writer) end.old.stream.lent
         names.old) (line_state (unheard_in unheard.new) (R.remaining end.new.reader) (W.written end.new.writer)
         end.new.stream.lent names.new) end.new.stream) }
+    ensures reads { MatchResult result (λ _. R.failures end.new.reader ≡ R.failures end.old.reader)
+        (λ why. R.failures end.new.reader ≡ R.failures end.old.reader + failed_reads why) }
+    ensures writes { MatchResult result (λ _. W.failures end.new.writer ≡ W.failures end.old.writer)
+        (λ why. W.failures end.new.writer ≡ W.failures end.old.writer + failed_writes why) }
 {
     match action {
         Action::Send(bytes) => send_step(&mut end.writer, unheard, names, bytes.as_slice())?,
@@ -103,7 +114,7 @@ fn take_step<C: Clock, R: Source, W: Sink>(
     Ok(true)
 }
 
-/// Sends an own line, where all that was read was heard: with the number of the name that was prepared, if one was.
+/// Sends an own line, with the number of the prepared name if there is one. Fails if unheard bytes are left.
 fn send_step<W: Sink>(
     writer: &mut W,
     unheard: &Unheard,
@@ -112,16 +123,19 @@ fn send_step<W: Sink>(
 ) -> Result<(), Difference>
     ensures ok { OnOk result ((unheard_in unheard.now ≡ []) × (names.new ≡ used names.old)
         × Appends (W.written writer.old) (W.written writer.new) (sent_as names.old.next bytes.now)) }
-    ensures err { IfErr result (λ why. (coming : Option (List ℕ)) → (lent : Option Message) → (stream : StreamState)
-        → Stops why (send bytes.now) (line_state (unheard_in unheard.now) coming (W.written writer.old) lent names.old)
+    ensures err { IfErr result (λ why. (r : Reading) → (coming : Option (List ℕ)) → (lent : Option Message)
+        → (stream : StreamState) → Stops r why (send bytes.now)
+        (line_state (unheard_in unheard.now) coming (W.written writer.old) lent names.old)
         (line_state (unheard_in unheard.now) coming (W.written writer.new) lent names.new) stream) }
+    ensures failures { MatchResult result (λ _. W.failures writer.new ≡ W.failures writer.old)
+        (λ why. W.failures writer.new ≡ W.failures writer.old + failed_writes why) }
 {
     all_heard(unheard)?;
     let number = names.take();
     send_line(writer, number, bytes)
 }
 
-/// Writes the bytes of an own line, with this number as the last, where there is one.
+/// Writes an own line. A number replaces its last bytes.
 fn send_line<W: Sink>(
     writer: &mut W,
     number: Option<Number>,
@@ -130,6 +144,8 @@ fn send_line<W: Sink>(
     ensures ok { OnOk result (Appends (W.written writer.old) (W.written writer.new) (sent_as number bytes.now)) }
     ensures err { IfErr result (λ why. (why ≡ Difference.Write) × (part : List ℕ)
         × IsPrefix part (sent_as number bytes.now) × Appends (W.written writer.old) (W.written writer.new) part) }
+    ensures failures { MatchResult result (λ _. W.failures writer.new ≡ W.failures writer.old)
+        (λ why. W.failures writer.new ≡ W.failures writer.old + failed_writes why) }
 {
     let Some(number) = number else {
         return send(writer, bytes);
@@ -143,7 +159,7 @@ fn send_line<W: Sink>(
     send(writer, &line[..bytes.len()])
 }
 
-/// Puts these bytes into a line, with others as the last.
+/// Copies the bytes into a line, with others in place of the last ones.
 fn put_line(line: &mut [u8; LONGEST_LINE], bytes: &[u8], last: &[u8])
     requires short { length bytes.now ≤ longest_line }
     requires within { length last.now ≤ length bytes.now }
@@ -159,6 +175,8 @@ fn send<W: Sink>(writer: &mut W, bytes: &[u8]) -> Result<(), Difference>
     ensures ok { OnOk result (Appends (W.written writer.old) (W.written writer.new) bytes.now) }
     ensures err { IfErr result (λ why. (why ≡ Difference.Write) × (part : List ℕ) × IsPrefix part bytes.now
         × Appends (W.written writer.old) (W.written writer.new) part) }
+    ensures failures { MatchResult result (λ _. W.failures writer.new ≡ W.failures writer.old)
+        (λ why. W.failures writer.new ≡ W.failures writer.old + failed_writes why) }
 {
     match writer.write_all(bytes) {
         Ok(()) => Ok(()),
@@ -166,7 +184,7 @@ fn send<W: Sink>(writer: &mut W, bytes: &[u8]) -> Result<(), Difference>
     }
 }
 
-/// Whether all that was read was heard: else how much was not.
+/// Checks that no unheard bytes are left. Otherwise the difference has their number.
 fn all_heard(unheard: &Unheard) -> Result<(), Difference>
     ensures ok { OnOk result (unheard_in unheard.now ≡ []) }
     ensures err { IfErr result (λ why. (why ≡ Difference.Surplus (length (unheard_in unheard.now)))

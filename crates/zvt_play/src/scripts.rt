@@ -1,17 +1,19 @@
 //! The script of a trace.
 ghost use Rattle.std.specs.Prelude.{◌≡◌, ◌∷◌, [], ◌++◌, OnOk};
+ghost use Rattle.zvt_grammar.specs.Lengths.{reading_of};
 ghost use Rattle.zvt_play.specs.Naming.{ReadsScript};
 ghost use Rattle.zvt_play.specs.Script.{ReadsLines};
 ghost use Rattle.zvt_play.specs.declared.scripts.ScriptFault.TheVariants.{Memory};
 
 use crate::line::{BadLine, ScriptLineError, read_line};
 use crate::naming::first_fault;
+use crate::role::Role;
 use crate::step::ScriptStep;
 use std::alloc::{AllocError, Global};
 use thiserror::Error;
-use zvt_trace::{Direction, next_line};
+use zvt_trace::next_line;
 
-/// Why a trace can't be played.
+/// The reason why a trace can't be played.
 #[derive(Clone, Copy, Debug, Drop, PartialEq, Eq, Error)]
 pub enum ScriptFault {
     /// A line, counted from 1, is the first that can't be played.
@@ -29,15 +31,16 @@ impl From<AllocError> for ScriptFault {
     }
 }
 
-/// The steps of the trace for the player of that side: one for each line of bytes, each `!` and each mark, in order.
+/// Returns the steps of a trace for a player with this role: one for each line of bytes, each `!` and each mark, in
+/// order.
 ///
 /// A line of the player's own side may have any bytes. A line of the other side has messages, and perhaps the
 /// beginning of one, or no bytes. A mark with a name must be usable where it appears: each name is bound once, and
 /// before it is used.
-pub fn script(alloc: Global, own: Direction, trace: &[u8]) -> Result<Vec<ScriptStep>, ScriptFault>
-    ensures { ReadsScript own trace.now result }
+pub fn script(alloc: Global, role: Role, trace: &[u8]) -> Result<Vec<ScriptStep>, ScriptFault>
+    ensures { ReadsScript (reading_of role.lengths) role.own trace.now result }
 {
-    let steps = read_lines(alloc, own, trace)?;
+    let steps = read_lines(alloc, role, trace)?;
     match first_fault(steps.as_slice()) {
         None => Ok(steps),
         Some((at, why)) => Err(ScriptFault::Line {
@@ -47,9 +50,9 @@ pub fn script(alloc: Global, own: Direction, trace: &[u8]) -> Result<Vec<ScriptS
     }
 }
 
-/// The steps of the lines, each as it is read alone.
-fn read_lines(alloc: Global, own: Direction, trace: &[u8]) -> Result<Vec<ScriptStep>, ScriptFault>
-    ensures { ReadsLines own trace.now result }
+/// Reads each line by itself, without checking where its mark appears.
+fn read_lines(alloc: Global, role: Role, trace: &[u8]) -> Result<Vec<ScriptStep>, ScriptFault>
+    ensures { ReadsLines (reading_of role.lengths) role.own trace.now result }
 {
     let mut steps = Vec::new(alloc);
     let mut rest = trace;
@@ -57,7 +60,7 @@ fn read_lines(alloc: Global, own: Direction, trace: &[u8]) -> Result<Vec<ScriptS
     'lines: while !rest.is_empty() {
         let (line, after) = next_line(rest);
         number += 1;
-        match read_line(alloc, own, line) {
+        match read_line(alloc, role, line) {
             Ok(None) => {}
             Ok(Some(action)) => add(
                 &mut steps,

@@ -7,21 +7,21 @@ use crate::numbers::NumberField;
 pub enum Action {
     /// Sends these bytes in one write.
     Send(Vec<u8>),
-    /// Hears messages that begin with these bytes. Where there are none, it hears one message, whatever it is.
+    /// Receives messages that begin with these bytes. Without bytes, receives one message of any kind.
     Await(Vec<u8>),
     /// Breaks the connection.
     Break,
     /// Waits this number of milliseconds.
     Wait(u32),
-    /// Answers nothing more on this connection.
+    /// Sends nothing more on this connection.
     Silence,
-    /// Ends the connection once nothing came for this number of milliseconds.
+    /// Ends the connection after nothing has arrived for this number of milliseconds.
     Listen(u32),
-    /// Gives a name to the number in this field of the message that came last. No name may have that number.
+    /// Gives a name to the number in this field of the last received message. No name may have that number yet.
     Bind { field: NumberField, name: u8 },
-    /// Compares the number in this field of the message that came last with the one of a name.
+    /// Compares the number in this field of the last received message with the number of a name.
     Same { field: NumberField, name: u8 },
-    /// Has the next line that is sent end with the number of a name, in place of its own in this field.
+    /// Sends the next own line with the number of a name as its last bytes, in place of the number in this field.
     Use { field: NumberField, name: u8 },
 }
 

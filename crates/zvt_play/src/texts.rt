@@ -1,5 +1,6 @@
-//! The text about a step that could not be played.
+//! Texts about a step that could not be played.
 ghost use Rattle.std.specs.Prelude.{◌≡◌, ◌++◌, ℕ, List, codes, IfOk, OnOk};
+ghost use Rattle.zvt_grammar.specs.Lengths.{reading_of};
 ghost use Rattle.zvt_trace.specs.Emitting.{other};
 ghost use Rattle.zvt_trace.specs.Lines.{direction_text};
 ghost use Rattle.zvt_play.specs.DifferenceTexts.{SaysAwaited, SaysDifference, SaysWanted, beginning_text, came_text};
@@ -7,35 +8,37 @@ ghost use Rattle.zvt_play.specs.DifferenceTexts.{cause_text, field_text, heard_b
 
 use crate::difference::Difference;
 use crate::numbers::{Names, Number, NumberField};
+use crate::role::Role;
 use crate::step::{Action, ScriptStep};
 use std::alloc::{AllocError, Global};
 use zvt_apdu::ApduView;
+use zvt_grammar::Lengths;
 use zvt_stream::Stream;
 use zvt_text::{Text, hexadecimal, message};
 use zvt_trace::Direction;
 
-/// Describes a difference: the message that was awaited, and the one that came, if any. An awaited name is shown with
-/// its number. For surplus bytes, returns the text of [`surplus_text`].
+/// Describes a difference: the expected message, and the one that arrived, if any. An expected name is shown with its
+/// number. For surplus bytes, returns the text of [`surplus_text`].
 pub fn difference_text(
     alloc: Global,
-    own: Direction,
+    role: Role,
     step: Option<&ScriptStep>,
     names: &Names,
     why: Difference,
     came: Option<&ApduView<'_>>,
 ) -> Result<Text, AllocError>
-    ensures { IfOk result (SaysDifference own step.entry names.now why came.entry) }
+    ensures { IfOk result (SaysDifference (reading_of role.lengths) role.own step.entry names.now why came.entry) }
 {
     if let Difference::Surplus { count } = why {
         return surplus_text(alloc, step, count);
     }
     let mut text = Text::new(alloc);
     add_place(&mut text, step)?;
-    add_other(&mut text, alloc, other_side(own), step, names, why, came)?;
+    add_other(&mut text, alloc, role, step, names, why, came)?;
     Ok(text)
 }
 
-/// Describes bytes that came although the trace has none before this step, or before its end.
+/// Describes bytes that arrived although the trace has none before this step, or before its end.
 pub fn surplus_text(
     alloc: Global,
     step: Option<&ScriptStep>,
@@ -51,7 +54,7 @@ pub fn surplus_text(
     Ok(text)
 }
 
-/// The side that is not played.
+/// Returns the side that is not played.
 fn other_side(own: Direction) -> Direction
     ensures { result ≡ other own }
 {
@@ -74,23 +77,25 @@ fn add_place(text: &mut Text, step: Option<&ScriptStep>) -> Result<(), AllocErro
     }
 }
 
-/// Adds what is awaited of this side, and what came in place of that.
+/// Adds what is expected from the other side, and what arrived instead.
 fn add_other(
     text: &mut Text,
     alloc: Global,
-    from: Direction,
+    role: Role,
     step: Option<&ScriptStep>,
     names: &Names,
     why: Difference,
     came: Option<&ApduView<'_>>,
 ) -> Result<(), AllocError>
-    ensures { OnOk result ((awaited : List ℕ) × SaysAwaited step.entry names.now why awaited
-        × (text.new ≡ text.old ++ codes " awaits\n" ++ direction_text from ++ codes " " ++ awaited ++ cause_text from
-        why came.entry)) }
+    ensures { OnOk result ((awaited : List ℕ)
+        × SaysAwaited (reading_of role.lengths) step.entry names.now why awaited
+        × (text.new ≡ text.old ++ codes " awaits\n" ++ direction_text (other role.own) ++ codes " " ++ awaited
+        ++ cause_text (other role.own) why came.entry)) }
 {
+    let from = other_side(role.own);
     text.word(b" awaits\n")?;
     add_sign(text, from)?;
-    add_awaited(text, alloc, step, names, why)?;
+    add_awaited(text, alloc, role.lengths, step, names, why)?;
     add_cause(text, from, why, came)
 }
 
@@ -102,15 +107,16 @@ fn add_sign(text: &mut Text, from: Direction) -> Result<(), AllocError>
     text.push(b' ')
 }
 
-/// Adds the message that is awaited.
+/// Adds the expected message.
 fn add_awaited(
     text: &mut Text,
     alloc: Global,
+    lengths: Lengths,
     step: Option<&ScriptStep>,
     names: &Names,
     why: Difference,
 ) -> Result<(), AllocError>
-    ensures { OnOk result ((awaited : List ℕ) × SaysAwaited step.entry names.now why awaited
+    ensures { OnOk result ((awaited : List ℕ) × SaysAwaited (reading_of lengths) step.entry names.now why awaited
         × (text.new ≡ text.old ++ awaited)) }
 {
     match step {
@@ -121,7 +127,7 @@ fn add_awaited(
             },
         ) => {
             let before = heard_before(why).min(bytes.len());
-            add_wanted(text, alloc, &bytes[before..])
+            add_wanted(text, alloc, lengths, &bytes[before..])
         }
         Some(
             ScriptStep {
@@ -147,7 +153,7 @@ fn add_awaited(
     }
 }
 
-/// Adds what has a field, by its BMP.
+/// Adds the beginning of a text about a field, which is named by its BMP.
 fn add_field(text: &mut Text, field: NumberField) -> Result<(), AllocError>
     ensures { OnOk result (text.new ≡ text.old ++ field_text field) }
 {
@@ -170,7 +176,7 @@ fn add_name(text: &mut Text, name: u8, number: Option<Number>) -> Result<(), All
     Ok(())
 }
 
-/// How many bytes of a step came before a difference.
+/// Returns how many bytes of a step arrived before a difference.
 fn heard_before(why: Difference) -> usize
     ensures { result ≡ heard_before why }
 {
@@ -180,14 +186,20 @@ fn heard_before(why: Difference) -> usize
     }
 }
 
-/// Adds the first message of these bytes, or what begins it.
-fn add_wanted(text: &mut Text, alloc: Global, wanted: &[u8]) -> Result<(), AllocError>
-    ensures { OnOk result ((first : List ℕ) × SaysWanted wanted.now first × (text.new ≡ text.old ++ first)) }
+/// Adds the first message in these bytes, or its beginning if it is incomplete.
+fn add_wanted(
+    text: &mut Text,
+    alloc: Global,
+    lengths: Lengths,
+    wanted: &[u8],
+) -> Result<(), AllocError>
+    ensures { OnOk result ((first : List ℕ) × SaysWanted (reading_of lengths) wanted.now first
+        × (text.new ≡ text.old ++ first)) }
 {
     if wanted.is_empty() {
         return text.word(b"any message\n");
     }
-    let mut stream = Stream::new(alloc);
+    let mut stream = Stream::of(alloc, lengths);
     let Ok(_fed) = stream.feed_view(wanted) else {
         return Err(AllocError);
     };
@@ -197,7 +209,7 @@ fn add_wanted(text: &mut Text, alloc: Global, wanted: &[u8]) -> Result<(), Alloc
     }
 }
 
-/// Adds the first two of these bytes, and how many they are.
+/// Adds the first two of these bytes, and their number.
 fn add_beginning(text: &mut Text, wanted: &[u8]) -> Result<(), AllocError>
     ensures { OnOk result (text.new ≡ text.old ++ beginning_text wanted.now) }
 {
@@ -208,7 +220,7 @@ fn add_beginning(text: &mut Text, wanted: &[u8]) -> Result<(), AllocError>
     text.word(b" bytes of it are given\n")
 }
 
-/// Adds what came, or why nothing did.
+/// Adds what arrived, or the reason why nothing did.
 fn add_cause(
     text: &mut Text,
     from: Direction,
@@ -241,7 +253,7 @@ fn add_cause(
     }
 }
 
-/// Adds the message that came.
+/// Adds the message that arrived.
 fn add_came(text: &mut Text, from: Direction, came: Option<&ApduView<'_>>) -> Result<(), AllocError>
     ensures { OnOk result (text.new ≡ text.old ++ came_text from came.entry) }
 {

@@ -5,7 +5,7 @@ ghost use Rattle.zvt_io.specs.Devices.{CountsFailure};
 
 use zvt_io::{Failed, Source};
 
-/// How many bytes are read at once.
+/// The most bytes of one read.
 const CHUNK: usize = 1_024;
 
 /// Bytes that were read but not processed yet.
@@ -21,7 +21,7 @@ pub(crate) struct Unheard {
 impl Unheard {
     ghost use Rattle.zvt_play.specs.Unheard.{unheard_in};
 
-    /// Nothing.
+    /// Creates an empty buffer.
     pub(crate) fn new() -> Unheard
         ensures { unheard_in result ≡ [] }
     {

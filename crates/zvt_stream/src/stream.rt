@@ -151,7 +151,17 @@ impl Stream {
         ensures count { IfOk result (λ stream. stream.judged ≡ 0) }
         ensures reading { IfOk result (λ stream. stream.reading ≡ shortest) }
     {
-        let mut stream = Stream::new(alloc);
+        Stream::reserved_of(alloc, Lengths::Shortest)
+    }
+
+    /// Creates a stream as [`reserved`](Stream::reserved) does, which accepts the given forms of length.
+    pub fn reserved_of(alloc: Global, lengths: Lengths) -> Result<Stream, AllocError>
+        ensures new { IfOk result (λ stream. Holds [] stream × (stream.lent ≡ None)) }
+        ensures reserved { IfOk result (λ stream. IsReserved stream) }
+        ensures count { IfOk result (λ stream. stream.judged ≡ 0) }
+        ensures reading { IfOk result (λ stream. stream.reading ≡ reading_of lengths) }
+    {
+        let mut stream = Stream::of(alloc, lengths);
         stream.held = Held::reserved(alloc)?;
         Ok(stream)
     }

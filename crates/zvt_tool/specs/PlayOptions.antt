@@ -2,8 +2,8 @@
 use Rattle.std.specs.Prelude.{◌≡◌, ◌∷◌, [], List, Some, codes, map}
 use Rattle.std.specs.Borrow.{Bor}
 use Rattle.clap.specs.Words.{App, Row, Text, first_of}
-use Rattle.zvt_tool.specs.Given.{GivesNumber, IsNumberOf, IsTextOf, words_of}
-use Rattle.zvt_tool.specs.Options.{command_app, host_rule, needed_port_rule, option_rule, port_option_rule, several_rule}
+use Rattle.zvt_tool.specs.Given.{GivesNumber, IsFlagOf, IsNumberOf, IsTextOf, words_of}
+use Rattle.zvt_tool.specs.Options.{command_app, flag_rule, host_rule, needed_port_rule, option_rule, port_option_rule, several_rule}
 use Rattle.zvt_tool.specs.declared.play_options.CheckOptions.{CheckOptions}
 use Rattle.zvt_tool.specs.declared.play_options.PlayOptions.{PlayOptions}
 
@@ -14,6 +14,7 @@ play_app = command_app (codes "play") (
     port_option_rule (codes "port") ∷
     port_option_rule (codes "listen") ∷
     host_rule ∷
+    flag_rule (codes "loose") ∷
     [])
 
 -- the options of `play` that the words give
@@ -23,6 +24,7 @@ pub record ArePlayOptionsOf (rows : List Row) (options : PlayOptions) : Type 0 w
   pub port : IsNumberOf (codes "port") rows 65535 options.port
   pub listen : IsNumberOf (codes "listen") rows 65535 options.listen
   pub host : first_of (codes "host") rows ≡ Some options.host.now
+  pub loose : IsFlagOf (codes "loose") rows options.loose
 
 -- a command of this name that plays situations, over connections of the port with that name
 abbrev pub check_app : Text → Text → App
@@ -30,6 +32,7 @@ check_app name port = command_app name (
     needed_port_rule port ∷
     host_rule ∷
     option_rule (codes "junit") ∷
+    flag_rule (codes "loose") ∷
     several_rule (codes "file") ∷
     [])
 
@@ -38,4 +41,5 @@ pub record AreCheckOptionsOf (port : Text) (rows : List Row) (options : CheckOpt
   pub gives_port : GivesNumber port rows 65535 options.port
   pub host : first_of (codes "host") rows ≡ Some options.host.now
   pub junit : IsTextOf (codes "junit") rows options.junit
+  pub loose : IsFlagOf (codes "loose") rows options.loose
   pub files : map (λ file. file.now) options.files.items ≡ words_of (codes "file") rows

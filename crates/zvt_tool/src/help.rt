@@ -64,6 +64,8 @@ pub const CHECK_STEPS: &str =
 
 pub const PLAY_HOST: &str = "Host name or address of the other side, or the address to listen on";
 
+pub const PLAY_LOOSE: &str = "Accept padded lengths in what the other side sends";
+
 pub const CHECK_PORT: &str = "TCP port of each situation's connections";
 
 pub const JUNIT: &str = "Also write the report to this file, in JUnit format";

@@ -7,7 +7,7 @@ ghost use Rattle.zvt_tool.specs.Given.{GivesNumber};
 ghost use Rattle.zvt_tool.specs.PlayOptions.{AreCheckOptionsOf, check_app, play_app};
 
 use crate::choices::Choice;
-use crate::given::{number, text, words};
+use crate::given::{flag, number, text, words};
 use crate::help;
 use crate::options::{CommandOption, CommandRow};
 use clap::ArgMatches;
@@ -26,6 +26,8 @@ pub struct PlayOptions<'a> {
     pub listen: Option<u16>,
     /// The host of either is 127.0.0.1 unless one is given.
     pub host: &'a str,
+    /// Whether the other side may send lengths in any form that holds them.
+    pub loose: bool,
 }
 
 /// The options of `check-till` and `check-terminal`.
@@ -37,6 +39,8 @@ pub struct CheckOptions<'a> {
     pub host: &'a str,
     /// The file of the report in JUnit's form.
     pub junit: Option<&'a str>,
+    /// Whether the other side may send lengths in any form that holds them.
+    pub loose: bool,
     /// The situations, in order.
     pub files: Vec<&'a str>,
 }
@@ -71,6 +75,7 @@ Example:
                 "Listen on this TCP port, where the other side connects",
             ),
             CommandOption::Host(help::PLAY_HOST),
+            CommandOption::Flag("loose", help::PLAY_LOOSE),
         ],
     }
 }
@@ -91,6 +96,7 @@ Example:
             CommandOption::NeededPort("listen", help::CHECK_PORT),
             CommandOption::Host(help::PLAY_HOST),
             CommandOption::Value("junit", "FILE", help::JUNIT),
+            CommandOption::Flag("loose", help::PLAY_LOOSE),
             CommandOption::Several("file", "FILE", help::SITUATIONS),
         ],
     }
@@ -112,6 +118,7 @@ Example:
             CommandOption::NeededPort("port", help::CHECK_PORT),
             CommandOption::Host(help::PLAY_HOST),
             CommandOption::Value("junit", "FILE", help::JUNIT),
+            CommandOption::Flag("loose", help::PLAY_LOOSE),
             CommandOption::Several("file", "FILE", help::SITUATIONS),
         ],
     }
@@ -128,6 +135,7 @@ pub fn read_play<'a>(inner: &ArgMatches<'a>) -> Option<Choice<'a>>
         port: number(inner, "port"),
         listen: number(inner, "listen"),
         host,
+        loose: flag(inner, "loose"),
     }))
 }
 
@@ -176,10 +184,13 @@ fn check_options<'a>(
         (rows_of (found_of inner.now)) ≡ Some host.entry.now
         → IfOk result (AreCheckOptionsOf name (rows_of (found_of inner.now))) }
 {
+    let loose = flag(inner, "loose");
+    let files = words(alloc, inner, "file")?;
     Ok(CheckOptions {
         port,
         host,
         junit: text(inner, "junit"),
-        files: words(alloc, inner, "file")?,
+        loose,
+        files,
     })
 }
