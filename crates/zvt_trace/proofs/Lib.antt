@@ -7,6 +7,7 @@ pub mod InputLemmas
 pub mod KeptLemmas
 pub mod LineLemmas
 pub mod PairLemmas
+pub mod OneScopeLemmas
 mod PartRows
 pub mod PassLemmas
 pub mod PieceLemmas
