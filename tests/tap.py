@@ -5,8 +5,8 @@
 
 PROGRAM is the one that `rt ci` built, unless another is named. First `zvt till` and `zvt terminal` talk through a tap: what they
 write is what they write without it. Then 300 lines, or with `--many` 10,000, carry parts of the examples, random bytes and
-nothing, cut anywhere, in both ways at once. 50 lines, or 1,000, come one after another. Then come sides that close one way,
-reset, send a part of a message, read nothing, lose their power, or are not there, traces that can't be written, reports that
+nothing, cut anywhere, in both ways at once. 50 lines, or 1,000, come one after another. Two taps run side by side, and one as
+the example for systemd starts it. Then come sides that close one way, reset, send a part of a message, read nothing, lose their power, or are not there, traces that can't be written, reports that
 nobody reads, and a system that refuses connections. In all cases the trace has what was sent, in order. Standard output is what
 `zvt show` writes of the trace of each line, and then `zvt audit`. The status is 1 where anything is not as expected. It takes 20
 seconds.
@@ -280,6 +280,63 @@ def at_once():
     terminal.close()
     trace = ended("at once", tap, 0, "")
     check("at once: the trace", trace, (b"> 06B000\n< 800000\n" * 200) + b"!\n")
+    door.close()
+
+
+# ---- several tills, each with a tap of its own
+
+
+def side_by_side():
+    """A line that stands still delays no other: its terminal reads nothing, while another till's orders are answered."""
+    door = listener()
+    port = door.getsockname()[1]
+    stuck, other = Tap(port, trace=None), Tap(port)
+    full, unread = pair(stuck, door)
+    till, terminal = pair(other, door)
+    full.settimeout(0.2)
+    try:
+        for _ in range(UNREAD >> 16):
+            full.sendall(bytes(1 << 16))
+    except OSError:
+        pass
+    order, answer = bytes.fromhex("06B000"), bytes.fromhex("800000")
+    began = time.monotonic()
+    for _ in range(20):
+        till.sendall(order)
+        check("side by side: an order", terminal.recv(100), order)
+        terminal.sendall(answer)
+        check("side by side: its answer", till.recv(100), answer)
+    check("side by side: 20 answers take less than a second", time.monotonic() - began < 1, True)
+    for end in (till, terminal):
+        end.close()
+    trace = ended("side by side", other, 0, "")
+    check("side by side: the trace", trace, (b"> 06B000\n< 800000\n" * 20) + b"!\n")
+    reset(full)
+    reset(unread)
+    ended("side by side: the line that stood still", stuck, 4, whole=False)
+    door.close()
+
+
+def unit():
+    """The command of the example for systemd forwards a line."""
+    door = listener()
+    settings = re.search(r"^ExecStart=zvt tap (.*)$", (EXAMPLES / "zvt-tap@.service").read_text(), re.M)[1]
+    with tempfile.TemporaryDirectory() as state:
+        os.mkdir(os.path.join(state, "zvt-tap"))
+        for name, value in {"${LISTEN}": "0", "${TO}": f"127.0.0.1:{door.getsockname()[1]}", "%S": state, "%i": "till3"}.items():
+            settings = settings.replace(name, value)
+        running = subprocess.Popen([PROGRAM, "tap", *settings.split()], stdout=subprocess.PIPE, stderr=subprocess.PIPE)
+        port = int(re.search(rb":(\d+)\n", running.stderr.readline())[1])
+        with socket.create_connection(("127.0.0.1", port), SECONDS) as till, door.accept()[0] as terminal:
+            till.sendall(bytes.fromhex("06B000"))
+            check("the unit: an order", terminal.recv(100), bytes.fromhex("06B000"))
+        wanted, since = b"> 06B000\n!\n", time.monotonic()
+        trace = pathlib.Path(state, "zvt-tap", "till3.trace")
+        while trace.read_bytes() != wanted and time.monotonic() - since < SECONDS:
+            time.sleep(0.05)
+        check("the unit: the trace", trace.read_bytes(), wanted)
+        running.kill()
+        running.communicate()
     door.close()
 
 
@@ -610,7 +667,7 @@ def main():
     slow = [threading.Thread(target=to_its_end, args=(part,)) for part in (unread, reconnects, keeps_on)]
     for part in slow:
         part.start()
-    for part in (programs, at_once, half_closed, resets, parts, padded, missing, traces, no_output, unread_output, no_reports, refused_connections, in_a_row, cut_lines):
+    for part in (programs, at_once, side_by_side, unit, half_closed, resets, parts, padded, missing, traces, no_output, unread_output, no_reports, refused_connections, in_a_row, cut_lines):
         part()
     for part in slow:
         part.join()

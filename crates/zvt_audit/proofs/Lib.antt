@@ -5,3 +5,4 @@ pub mod EndLemmas
 pub mod EndRows
 pub mod HearLemmas
 pub mod JsonLemmas
+pub mod LineLemmas

@@ -7,3 +7,4 @@ pub mod Heard
 pub mod Json
 pub mod Orders
 pub mod Sums
+pub mod Line

@@ -3,8 +3,6 @@ ghost use Rattle.std.specs.Prelude.{◌≡◌, ◌<◌, ◌≤◌, ◌++◌, [],
 ghost use Rattle.std.specs.Io.KnownBytes.{Consumes};
 ghost use Rattle.zvt_grammar.specs.Lengths.{reading_of};
 ghost use Rattle.zvt_grammar.specs.Reading.{Reading};
-ghost use Rattle.zvt_trace.specs.Chunks.{IsBetweenLines};
-ghost use Rattle.zvt_trace.specs.Lines.{piece_text};
 ghost use Rattle.zvt_trace.specs.Written.{limit};
 ghost use Rattle.zvt_audit.specs.Audited.{AnswersFollowed, AnswersReadBy};
 ghost use Rattle.zvt_audit.specs.Heard.{AnswersHearing, AnswersTurn, HasAudited, IsAuditing};
@@ -15,7 +13,7 @@ use std::alloc::{AllocError, Global};
 use zvt_grammar::Lengths;
 use zvt_io::{Sink, Source};
 use zvt_text::Form;
-use zvt_trace::{Direction, Scope, TraceFault, Walker, read_chunk};
+use zvt_trace::{Scope, TraceFault, Walker, read_chunk};
 
 /// The number of bytes that are read at once.
 const CHUNK: usize = 65_536;
@@ -74,7 +72,6 @@ impl Audit {
     pub fn new(alloc: Global, lengths: Lengths) -> Result<Audit, AllocError>
         ensures heard { IfOk result (λ audit. HasAudited (reading_of lengths) [] audit) }
         ensures ready { IfOk result IsAuditing }
-        ensures between { IfOk result (λ audit. IsBetweenLines audit.walker) }
     {
         let auditor = connected(alloc)?;
         Ok(Audit {
@@ -92,18 +89,6 @@ impl Audit {
         ensures ready { OnOk result (IsAuditing self.new) }
     {
         self.walker.feed(&mut self.auditor, chunk)
-    }
-
-    /// Processes bytes of a side like the line of a trace that spells them. No line may be unfinished.
-    pub fn take(&mut self, from: Direction, bytes: &[u8]) -> Result<(), TraceFault>
-        requires ready { IsAuditing self.old }
-        requires between { IsBetweenLines self.old.walker }
-        ensures hears { (r : Reading) (read : List ℕ) → HasAudited r read self.old
-            → AnswersTurn r (read ++ piece_text from bytes.now) self.new result }
-        ensures ready { OnOk result (IsAuditing self.new) }
-        ensures between { IsBetweenLines self.new.walker }
-    {
-        self.walker.take(&mut self.auditor, from, bytes)
     }
 
     /// Processes a last line without a line feed and writes the books in this form.

@@ -8,11 +8,13 @@ mod ends;
 mod follow;
 mod form;
 mod happened;
+mod line;
 mod objects;
 mod orders;
 mod sum;
 mod summary;
 
 pub use follow::{Audit, follow_audit};
+pub use line::{LineAudit, LineBooks};
 pub use sum::Sum;
 pub use summary::{AuditSummary, audit_trace};

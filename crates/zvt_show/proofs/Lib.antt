@@ -1,4 +1,6 @@
 pub mod AddLemmas
+pub mod ApartLemmas
+pub mod BesideLemmas
 pub mod BlockLemmas
 pub mod FollowLemmas
 pub mod PageLemmas

@@ -1,5 +1,5 @@
 -- What is shown of a trace, once more of it has come.
-use Rattle.std.proofs.Common.{◌≡◌, ◌∙◌, ◌++◌, [], ap, refl, subst, sym, true, false, append_assoc, is_some, List, ℕ, Option, None, Some, Result, Ok, Err}
+use Rattle.std.proofs.Common.{◌≡◌, ◌∙◌, ◌++◌, [], ap, subst, sym, true, false, append_assoc, is_some, List, ℕ, Option, None, Some, Result, Ok, Err}
 use Rattle.std.proofs.lemmas.List.{append-nil}
 use Rattle.std.proofs.Common.{inl, inr}
 use Rattle.std.specs.Result.{result_err}

@@ -23,7 +23,7 @@ use Rattle.zvt_show.proofs.PageLemmas.{fails, shown, writes}
 
 -- ---- what the walker answers, by the reading of the follower
 
-at_both : (P : Reading → Scope → Type 0) (r q : Reading) (s t : Scope) → r ≡ q → s ≡ t → P r s → P q t
+pub at_both : (P : Reading → Scope → Type 0) (r q : Reading) (s t : Scope) → r ≡ q → s ≡ t → P r s → P q t
 at_both P r q s t same_reading same_scope p = subst (λ (x : Scope). P q x) same_scope (subst (λ (x : Reading). P x s) same_reading p)
 
 pub turn_fed : {S : Type 0} (r : Reading) (scope : Scope) (hears : Hears S) (failing : Fails S) (style : Style) (bytes all : List ℕ) (first now : Option (List ℕ)) (old : Follower) (walker : Walker) (answer : Result Unit TraceFault) (x y : S) → (has : HasWritten r scope style bytes first now old)

@@ -1,5 +1,6 @@
 pub mod Printed
 pub mod Shown
+pub mod Beside
 pub mod Followed
 pub mod Lines
 pub mod Text

@@ -1,8 +1,9 @@
--- What a printer writes, whose pages and device are lent.
+-- What is written by a printer whose pages and device are lent, and by a printing that has its own.
 use Rattle.std.specs.Prelude.{◌≡◌, ℕ, List, Option}
 use Rattle.zvt_trace.specs.Listening.{Fails, Hears}
 use Rattle.zvt_show.specs.Written.{FailsEvent, Page, WritesEvent, page}
 use Rattle.zvt_show.specs.declared.pages.Printer.{Printer}
+use Rattle.zvt_show.specs.declared.pages.Printing.{Printing}
 
 -- what its device has, what is to be written there, and how many writes failed
 abbrev pub printed : {W : Type 0} → (W → Option (List ℕ)) → (W → ℕ) → Printer W → Page
@@ -18,3 +19,7 @@ Prints written failures old event new = WritesEvent event (printed written failu
 
 abbrev pub FailsPrinting : {W : Type 0} → (W → Option (List ℕ)) → (W → ℕ) → Fails (Printer W)
 FailsPrinting written failures old event why new = FailsEvent why (printed written failures old) (printed written failures new) × IsSamePrinter old new
+
+-- what the device of a printing has, what is to be written there, and how many writes failed
+abbrev pub printing_page : {W : Type 0} → (W → Option (List ℕ)) → (W → ℕ) → Printing W → Page
+printing_page written failures printing = page printing.pages.style (written printing.output) printing.pages.block (failures printing.output)

@@ -1,5 +1,5 @@
 -- What is shown of a line while it goes on.
-use Rattle.std.specs.Prelude.{◌⊎◌, ◌++◌, ◌∷◌, [], codes, ℕ, List, Option, None, Some, Result, Ok, Err}
+use Rattle.std.specs.Prelude.{◌⊎◌, ◌++◌, ℕ, List, Option, None, Some, Result, Ok, Err}
 use Rattle.std.specs.Str.Lines.{lines}
 use Rattle.zvt_grammar.specs.Reading.{Reading}
 use Rattle.zvt_io.specs.Devices.{IsPrefix}

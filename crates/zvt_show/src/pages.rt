@@ -105,6 +105,37 @@ impl<W: Sink> Listener for Printer<'_, W> {
     }
 }
 
+/// Writes the text of events to a device of its own.
+#[derive(Drop)]
+pub(crate) struct Printing<W> {
+    pub(crate) pages: Pages,
+    pub(crate) output: W,
+}
+
+impl<W: Sink> Listener for Printing<W> {
+    ghost use Rattle.zvt_show.specs.Printed.{printing_page};
+    ghost use Rattle.zvt_show.specs.Written.{FailsEvent, WritesEvent};
+
+    ghost hears = { λ old event new. WritesEvent event (printing_page W.written W.failures old)
+        (printing_page W.written W.failures new) };
+
+    ghost fails = { λ old event failure new. FailsEvent failure (printing_page W.written W.failures old)
+        (printing_page W.written W.failures new) };
+
+    #[inline(always)]
+    fn hear(&mut self, number: u64, trace_event: &TraceEvent<'_>) -> Result<(), ListenerError> {
+        flush_full(&mut self.pages.block, &mut self.output)?;
+        render_event(
+            &mut self.pages.block,
+            self.pages.alloc,
+            self.pages.style,
+            number,
+            trace_event,
+        )?;
+        Ok(())
+    }
+}
+
 /// Writes a full block, before the text of the next event joins it.
 #[inline(always)]
 fn flush_full<W: Sink>(block: &mut Text, writer: &mut W) -> Result<(), ListenerError>

@@ -1,16 +1,20 @@
 -- What the log of a line has observed, once more chunks have come.
-use Rattle.std.proofs.Common.{◌≡◌, ◌⊎◌, ◌<◌, ◌&&◌, inl, inr, Bool, true, false, ℕ, List, [], ◌∷◌, ◌++◌, Option, append-nil, append_assoc, codes, le_refl, le_trans, lt_of_le_of_lt, lt_of_lt_of_le, refl, subst, sym}
+use Rattle.std.proofs.Common.{◌≡◌, ◌⊎◌, ◌<◌, ◌&&◌, inl, inr, Bool, true, false, ℕ, List, [], ◌∷◌, ◌++◌, Option, Result, Ok, Err, append-nil, append_assoc, codes, le_refl, le_trans, lt_of_le_of_lt, lt_of_lt_of_le, refl, subst, sym}
 use Rattle.zvt_grammar.specs.Reading.{Reading}
-use Rattle.zvt_show.specs.Shown.{HasShown, Showing, Shows}
+use Rattle.zvt_audit.specs.Line.{AnswersLine, hears_line}
+use Rattle.zvt_audit.specs.declared.line.LineAudit.{LineAudit}
+use Rattle.zvt_audit.specs.declared.line.LineBooks.{LineBooks}
+use Rattle.zvt_show.specs.Beside.{Tells, Watching, showing_of}
+use Rattle.zvt_show.specs.Shown.{HasShown, Shows}
 use Rattle.zvt_show.specs.declared.render.Style.TheVariants.{Show}
 use Rattle.zvt_trace.specs.Lines.{piece_text}
-use Rattle.zvt_trace.specs.Observing.{BothObserve, Misses, Observes, OneMisses}
-use Rattle.zvt_trace.specs.declared.both.Both.{Both}
+use Rattle.zvt_trace.specs.Observing.{Misses, Observes}
 use Rattle.zvt_trace.specs.declared.direction.Direction.{Direction}
 use Rattle.zvt_trace.specs.declared.listener.ListenerError.{ListenerError}
 use Rattle.zvt_trace.specs.declared.listener.ListenerError.TheVariants.{Memory, Write}
 use Rattle.zvt_tap.specs.Chunks.{Chunk, trace_text}
-use Rattle.zvt_tap.specs.Heard.{HasHeard, Hearing, HearsOn}
+use Rattle.zvt_trace.specs.declared.fault.TraceFault.{TraceFault}
+use Rattle.zvt_tap.specs.Heard.{AnswersHeard, HasHeard}
 use Rattle.zvt_tap.specs.Log.{FoundStopped, HasObserved}
 use Rattle.zvt_tap.specs.Traced.{FailsOnlyIf, GoesOn, HasTraced, Stops, TracesOn, failures_by, traced_by}
 use Rattle.zvt_tap.specs.Watching.{Loses, ObservesAll, ObservesUntil, Records, Sees}
@@ -39,11 +43,17 @@ first_holds : (a b : Bool) → (a && b) ≡ true → a ≡ true
 first_holds true b is = refl
 first_holds false b is = is
 
+-- ---- the audit
+
+pub line_heard : (r : Reading) (trace : List ℕ) (old new : Option (List ℕ)) (answer : Result LineBooks TraceFault) → AnswersLine r trace old new answer → AnswersHeard r trace old new answer
+line_heard r trace old new (Ok found) answers = answers
+line_heard r trace old new (Err fault) answers = inl answers
+
 -- ---- a log
 
 module _ {T O : Type 0} (written : T → Option (List ℕ)) (failures : T → ℕ) (output : O → Option (List ℕ)) where
   abbrev pub Log : Type 0
-  Log = Watched (Tracing T) (Both (Showing O) Hearing)
+  Log = Watched (Tracing T) (Watching O LineAudit)
 
   abbrev pub traces : Observes (Tracing T)
   traces old from bytes new = GoesOn written failures old (piece_text from bytes) new
@@ -51,20 +61,11 @@ module _ {T O : Type 0} (written : T → Option (List ℕ)) (failures : T → �
   abbrev pub stops : Misses (Tracing T)
   stops old from bytes why new = Stops written failures old (piece_text from bytes) why new
 
-  abbrev pub shows : Observes (Showing O)
-  shows old from bytes new = Shows output old (piece_text from bytes) new
+  abbrev pub watches : Observes (Watching O LineAudit)
+  watches old from bytes new = Shows output (showing_of old) (piece_text from bytes) (showing_of new) × Tells hears_line old (piece_text from bytes) new
 
-  abbrev pub hears : Observes Hearing
-  hears old from bytes new = HearsOn old (piece_text from bytes) new
-
-  abbrev pub never : {S : Type 0} → Misses S
-  never old from bytes why new = ⊥
-
-  abbrev pub watches : Observes (Both (Showing O) Hearing)
-  watches old from bytes new = BothObserve shows hears from bytes old.first old.second new.first new.second
-
-  abbrev pub overlooks : Misses (Both (Showing O) Hearing)
-  overlooks old from bytes why new = OneMisses shows never never from bytes why old.first old.second new.first new.second
+  abbrev pub overlooks : Misses (Watching O LineAudit)
+  overlooks old from bytes why new = ⊥
 
   abbrev pub logs : Observes Log
   logs = Records traces stops watches overlooks
@@ -73,17 +74,16 @@ module _ {T O : Type 0} (written : T → Option (List ℕ)) (failures : T → �
   loses = Loses traces stops watches overlooks
 
   abbrev pub Has : Reading → List ℕ → (first_trace first_output : Option (List ℕ)) → Log → Type 0
-  Has r trace first_trace first_output log = HasObserved written output r trace first_trace first_output log.recorder log.watcher.first log.watcher.second
+  Has r trace first_trace first_output log = HasObserved written output r trace first_trace first_output log.recorder log.watcher
 
   -- no watcher overlooks a chunk
-  sees : (from : Direction) (bytes : List ℕ) (old new : Both (Showing O) Hearing) → Sees watches overlooks from bytes old new → watches old from bytes new
+  sees : (from : Direction) (bytes : List ℕ) (old new : Watching O LineAudit) → Sees watches overlooks from bytes old new → watches old from bytes new
   sees from bytes old new (inl seen) = seen
-  sees from bytes old new (inr (why, inl missed)) = absurd missed.0
-  sees from bytes old new (inr (why, inr missed)) = absurd missed.1
+  sees from bytes old new (inr (why, never)) = absurd never
 
-  one_more : (r : Reading) (trace text : List ℕ) (first held : Option (List ℕ)) (old new : Log) → TracesOn written failures old.recorder text new.recorder → Shows output old.watcher.first text new.watcher.first → HearsOn old.watcher.second text new.watcher.second
+  one_more : (r : Reading) (trace text : List ℕ) (first held : Option (List ℕ)) (old new : Log) → TracesOn written failures old.recorder text new.recorder → Shows output (showing_of old.watcher) text (showing_of new.watcher) → Tells hears_line old.watcher text new.watcher
       → Has r trace first held old → Has r (trace ++ text) first held new
-  one_more r trace text first held old new traced shown heard has = record { traced = traced.traced trace first has.traced; shows = shown r _ trace held has.shows; hears = heard r trace has.hears }
+  one_more r trace text first held old new traced shown heard has = record { traced = traced.traced trace first has.traced; shows = shown r _ trace held has.shows; hears = (has.hears.0, has.hears.1, heard r trace has.hears.0 has.hears.2) }
 
   one_logged : (r : Reading) (trace : List ℕ) (first held : Option (List ℕ)) (from : Direction) (bytes : List ℕ) (old new : Log) → logs old from bytes new → Has r trace first held old → Has r (trace ++ piece_text from bytes) first held new
   one_logged r trace first held from bytes old new (traced, seen) has =
@@ -103,8 +103,8 @@ module _ {T O : Type 0} (written : T → Option (List ℕ)) (failures : T → �
       let before = all_logged r [] first held chunks old middle all has in
       finds (trace_text chunks) (record {
         traced = subst (λ (t : List ℕ). HasTraced new.recorder.failed t first (traced_by written new.recorder.trace)) (append-nil (trace_text chunks)) (missed.0.traced (trace_text chunks) first before.traced);
-        shows = subst (λ (w : Both (Showing O) Hearing). HasShown output r Show (trace_text chunks) held w.first) (sym missed.1) before.shows;
-        hears = subst (λ (w : Both (Showing O) Hearing). HasHeard r (trace_text chunks) w.second) (sym missed.1) before.hears;
+        shows = subst (λ (w : Watching O LineAudit). HasShown output r Show (trace_text chunks) held (showing_of w)) (sym missed.1) before.shows;
+        hears = subst (λ (w : Watching O LineAudit). HasHeard r (trace_text chunks) w) (sym missed.1) before.hears;
       })
   found_stopped r first held Found failed old new finds fails has Write chunks last (middle, all, missed) =
       let before = all_logged r [] first held chunks old middle all has in

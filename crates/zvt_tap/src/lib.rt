@@ -6,7 +6,6 @@
 #![tactic(auto)]
 
 mod fault;
-mod heard;
 mod line;
 mod log;
 mod relay;
@@ -15,7 +14,6 @@ mod tracing;
 mod watched;
 
 pub use fault::TapFault;
-pub use heard::Heard;
 pub use line::{Tapped, tap_line};
 pub use log::{Found, TapLog, new_log};
 pub use relay::{Ends, MAX_CHUNK, Readiness, run_relay};

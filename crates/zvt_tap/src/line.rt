@@ -30,7 +30,7 @@ pub fn tap_line<L: Readiness, R: Source, W: Sink, T: Sink + Drop, O: Sink + Drop
     log: TapLog<T, O>,
 ) -> Tapped<T, O>
     ensures tapped { (r : Reading) (first held : Option (List ℕ)) → HasObserved T.written O.written r [] first held
-        log.recorder log.watcher.first log.watcher.second → AnswersRelay
+        log.recorder log.watcher → AnswersRelay
         (λ chunks. HasFound r (ended_trace chunks) first held result.found.tracing.failed
         (traced_by T.written result.found.tracing.trace) (O.written result.found.output) result.found.shown
         result.found.audited)

@@ -2,22 +2,23 @@
 ghost use Rattle.std.specs.Prelude.{◌≡◌, ◌++◌, ◌∷◌, [], codes, ℕ, List, Option, IfOk};
 ghost use Rattle.zvt_grammar.specs.Lengths.{reading_of};
 ghost use Rattle.zvt_grammar.specs.Reading.{Reading};
+ghost use Rattle.zvt_tap.specs.Heard.{AnswersHeard, HasAudited};
 ghost use Rattle.zvt_tap.specs.Log.{HasFound, HasObserved};
 ghost use Rattle.zvt_tap.specs.Traced.{FailsOnlyIf, HasTraced, failures_by, traced_by};
 
-use crate::heard::Heard;
 use crate::tracing::Tracing;
 use crate::watched::Watched;
 use std::alloc::{AllocError, Global};
-use zvt_audit::AuditSummary;
+use zvt_audit::{LineAudit, LineBooks};
 use zvt_grammar::Lengths;
 use zvt_io::Sink;
-use zvt_show::{Shown, ShownToEnd, Style};
-use zvt_trace::{Both, Tally, TraceFault};
+use zvt_show::{BesideToEnd, ShownBeside, Style};
+use zvt_trace::{Tally, TraceFault};
 
-/// The log of a line: a trace, and on an output the text that `show` prints for the trace, followed by its audit. Each
-/// of these stops at its own fault, and the others continue.
-pub type TapLog<T, O> = Watched<Tracing<T>, Both<Shown<O>, Heard>>;
+/// The log of a line: a trace, and on an output the text that `show` prints for the trace, followed by its audit. The
+/// bytes are decoded once, for the text and for the audit. Each of the three stops at its own failure, and the others
+/// continue. Without memory to decode a chunk both the text and the audit stop.
+pub type TapLog<T, O> = Watched<Tracing<T>, ShownBeside<O, LineAudit>>;
 
 /// The findings of a log, and its devices.
 #[derive(Drop)]
@@ -26,7 +27,7 @@ pub struct Found<T, O> {
     pub output: O,
     /// How many messages were shown, and how many streams were refused or cut off.
     pub shown: Result<Tally, TraceFault>,
-    pub audited: Result<AuditSummary, TraceFault>,
+    pub audited: Result<LineBooks, TraceFault>,
 }
 
 /// The log of a line whose messages have such lengths. It has observed nothing.
@@ -38,17 +39,13 @@ pub fn new_log<T: Sink + Drop, O: Sink + Drop>(
 ) -> Result<TapLog<T, O>, AllocError>
     ensures observed { (first : Option (List ℕ)) → HasTraced tracing.failed [] first
         (traced_by T.written tracing.trace) → IfOk result (λ log. HasObserved T.written O.written (reading_of lengths)
-        [] first (O.written output) log.recorder log.watcher.first log.watcher.second) }
+        [] first (O.written output) log.recorder log.watcher) }
     ensures tracing { IfOk result (λ log. log.recorder ≡ tracing) }
 {
-    let heard = Heard::new(alloc, lengths)?;
-    let shown = Shown::new(alloc, Style::Show, lengths, output);
+    let audit = LineAudit::new(alloc)?;
     Ok(Watched {
         recorder: tracing,
-        watcher: Both {
-            first: shown,
-            second: heard,
-        },
+        watcher: ShownBeside::new(alloc, Style::Show, lengths, output, audit),
     })
 }
 
@@ -58,22 +55,40 @@ pub(crate) fn end_log<T: Sink + Drop, O: Sink + Drop>(
     log: TapLog<T, O>,
 ) -> Found<T, O>
     ensures found { (r : Reading) (trace : List ℕ) (first held : Option (List ℕ)) → HasObserved T.written O.written r
-        trace first held log.recorder log.watcher.first log.watcher.second
+        trace first held log.recorder log.watcher
         → HasFound r (trace ++ (codes "!" ++ 10 ∷ [])) first held result.tracing.failed
         (traced_by T.written result.tracing.trace) (O.written result.output) result.shown result.audited }
     ensures failed { FailsOnlyIf log.recorder.failed result.tracing.failed (failures_by T.failures log.recorder.trace)
         (failures_by T.failures result.tracing.trace) }
 {
     let Watched { recorder, watcher } = log;
-    let Both { first, second } = watcher;
     let mut tracing = recorder;
     tracing.end();
-    let ShownToEnd { shown, mut output } = first.end();
-    let audited = second.end(alloc, &mut output);
+    let BesideToEnd {
+        shown,
+        mut output,
+        beside,
+    } = watcher.end();
+    let audited = write_books(alloc, beside, &mut output);
     Found {
         tracing,
         output,
         shown,
         audited,
+    }
+}
+
+/// Writes the books of an audit that has heard the whole line.
+fn write_books<O: Sink>(
+    alloc: Global,
+    audit: Result<LineAudit, TraceFault>,
+    output: &mut O,
+) -> Result<LineBooks, TraceFault>
+    ensures { (r : Reading) (trace : List ℕ) → HasAudited r trace audit → AnswersHeard r trace (O.written output.old)
+        (O.written output.new) result }
+{
+    match audit {
+        Ok(audit) => audit.finish(alloc, output),
+        Err(fault) => Err(fault),
     }
 }

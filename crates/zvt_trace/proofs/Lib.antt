@@ -8,6 +8,7 @@ pub mod KeptLemmas
 pub mod LentLemmas
 pub mod LineLemmas
 pub mod PairLemmas
+pub mod OneScopeLemmas
 mod PartRows
 pub mod PassLemmas
 pub mod PieceLemmas

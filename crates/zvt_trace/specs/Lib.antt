@@ -1,3 +1,4 @@
+pub mod Apart
 pub mod ChunkLaw
 pub mod Chunks
 pub mod Decoding

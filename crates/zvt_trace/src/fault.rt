@@ -53,7 +53,7 @@ impl fmt::Display for TraceLineError {
 }
 
 /// The reason why a command on a trace ended early. Output for earlier lines has already been written.
-#[derive(Debug, Drop, Error)]
+#[derive(Clone, Copy, Debug, Drop, Error)]
 pub enum TraceFault {
     /// A line of the trace is not valid. Lines are counted from 1.
     #[error("line {line} of the trace: {what}")]

@@ -7,6 +7,7 @@
 //! [`TraceWriter`] is an observer that writes a trace.
 #![tactic(auto)]
 
+mod alone;
 mod both;
 mod chunks;
 mod decoder;
@@ -25,9 +26,11 @@ mod observer;
 mod side;
 mod spelled;
 mod tally;
+mod until_refused;
 mod walker;
 mod writer;
 
+pub use alone::Alone;
 pub use both::Both;
 pub use chunks::Walker;
 pub use decoder::Line;
@@ -41,6 +44,7 @@ pub use listener::{Listener, ListenerError, Scope};
 pub use observed::Observed;
 pub use observer::Observer;
 pub use spelled::spelled_bytes;
+pub use until_refused::UntilRefused;
 pub use walker::walk;
 pub use writer::{TraceWriter, end_trace, ends_lacking};
 pub use zvt_stream::Head;

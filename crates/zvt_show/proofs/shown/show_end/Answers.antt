@@ -1,4 +1,4 @@
-use Rattle.std.proofs.Common.{◌++◌, ◌∷◌, [], ℕ, List, None, Option, Some, codes, subst}
+use Rattle.std.proofs.Common.{◌++◌, ◌∷◌, [], Option, codes, subst}
 use Rattle.std.proofs.lemmas.Result.{err_from_is_err_and}
 use Rattle.zvt_trace.specs.declared.fault.TraceFault.{TraceFault}
 use Rattle.zvt_trace.specs.declared.listener.Scope.TheVariants.{OneSide}

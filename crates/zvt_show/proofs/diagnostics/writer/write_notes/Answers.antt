@@ -1,6 +1,5 @@
 use Rattle.std.proofs.lemmas.Result.{err_from_is_err_and}
 use Rattle.std.specs.Str.Lines.{lines}
-use Rattle.zvt_show.specs.declared.diagnostics.notes.Notes.{Notes}
 use Rattle.zvt_show.proofs.NoteLemmas.{answered, unwritten}
 use Rattle.zvt_show.proofs.diagnostics.writer.write_notes.Goals as goal
 
