@@ -87,19 +87,19 @@ fn named_bytes(high: u8, low: u8, first: &[u8], payload: Vec<u8>) -> Message
     ensures { (r : Reading) → IsMessage r high low (first.now ++ payload.items) (message_of result) }
 {
     let [byte, ..] = first else {
-        return if high == 0x84 {
+        return if high == control_bytes::NACK {
             Message::Nack { code: low, payload }
         } else {
             Message::Ack { payload }
         };
     };
-    if high == 0x04 {
+    if high == control_bytes::INTERMEDIATE[0] {
         return Message::Intermediate {
             status: *byte,
             payload,
         };
     }
-    if low == 0x1E {
+    if low == control_bytes::ABORT[1] {
         return Message::Abort {
             code: *byte,
             payload,
@@ -144,19 +144,23 @@ fn named_fields(high: u8, low: u8, first: &[u8], fields: Fields) -> Message
 {
     if first.len() == 3 {
         let password = [first[0], first[1], first[2]];
-        return if low == 0x30 {
+        return if low == control_bytes::REVERSAL[1] {
             Message::Reversal { password, fields }
         } else {
             Message::EndOfDay { password, fields }
         };
     }
-    if high == 0x04 {
+    if high == control_bytes::STATUS[0] {
         return Message::Status(fields);
     }
-    match low {
-        0x01 => Message::Authorisation(fields),
-        0x0F => Message::Completion(fields),
-        0xB0 => Message::AbortOrder(fields),
-        _ => Message::TextBlock(fields),
+    if low == control_bytes::AUTHORISATION[1] {
+        return Message::Authorisation(fields);
     }
+    if low == control_bytes::COMPLETION[1] {
+        return Message::Completion(fields);
+    }
+    if low == control_bytes::ABORT_ORDER[1] {
+        return Message::AbortOrder(fields);
+    }
+    Message::TextBlock(fields)
 }
