@@ -1,4 +1,4 @@
-//! Records of text lines, and the gate that makes each of them count at once.
+//! Appends records of text lines, each of which takes effect at once through a gate.
 ghost use Rattle.std.specs.Prelude.{◌≡◌, true, All, ◌↔◌, ◌⊎◌, ◌+◌, ◌<◌, ◌≤◌, ◌^◌, ◌++◌, [], ◌∷◌, List, ℕ, get_or};
 ghost use Rattle.std.specs.Prelude.{length, drop, IfOk, OnErr, OnOk, IsErrOf, IsTrue};
 ghost use Rattle.zvt_journal.specs.Device.{Only, LeavesOnly};
@@ -13,26 +13,27 @@ use std::alloc::{AllocError, Global};
 
 pub(crate) const LINE_FEED: u8 = b'\n';
 
-/// The length from which on a journal takes no record.
+/// The file size from which on a journal accepts no record, in bytes.
 const MAX_JOURNAL_LEN: usize = 1 << 60;
 
-/// The length of the longest record. A crash leaves no more bytes than these, and one, after the whole lines of a file.
+/// Maximum size of a record in bytes. After the complete lines of a file, a crash leaves at most one byte more than
+/// this.
 pub const MAX_RECORD_LEN: usize = 1 << 18;
 
-/// A journal that is open, over its device. [`open`] says where its gate is.
+/// An open journal over its device. [`open`] returns the position of its gate.
 #[derive(Drop)]
 pub struct Journal<D: Device> {
     pub alloc: Global,
     pub device: D,
-    /// The place of the closed gate: how many bytes the records have.
+    /// The position of the closed gate, which is the size of the records in bytes.
     pub gate: usize,
 }
 
 impl<D: Device> Journal<D> {
-    /// Reserves disk space, so that the next record and those that follow from it do not find the disk full. The file
-    /// stays as it is.
+    /// Reserves disk space, so that the next record and the records that follow from it do not find the disk full. The
+    /// file does not change.
     ///
-    /// An error comes only if the disk failed to give the space. The journal can still be used after it.
+    /// Fails only if the disk does not have the space. The journal can still be used then.
     pub fn reserve(&mut self) -> Result<(), NoSpace>
         requires { IsSettled (D.seen self.old.device) (D.may_leave self.old.device) self.old.gate }
 
@@ -91,7 +92,8 @@ impl<D: Device> Journal<D> {
         Ok(())
     }
 
-    /// Adds records one after another, in the order given. After `Err` the file has some first ones of them.
+    /// Appends records one after another, in the order given. After `Err`, the file contains the first of them, and
+    /// none of the others.
     pub fn append_all(&mut self, entries: &[Vec<u8>]) -> Result<(), DeviceError>
         requires settled { IsSettled (D.seen self.old.device) (D.may_leave self.old.device) self.old.gate }
         requires entries { All (λ entry. IsRecord entry.items) entries.now }
@@ -168,15 +170,15 @@ pub fn open<D: Device>(device: &mut D, mut bytes: Vec<u8>) -> Result<Vec<u8>, De
     Ok(bytes)
 }
 
-/// Whether these bytes are a closed gate, and no more.
+/// Returns whether these bytes are a closed gate and nothing more.
 fn is_gate_alone(rest: &[u8]) -> bool
     ensures { IsTrue result ↔ (rest.now ≡ 10 ∷ []) }
 {
     matches!(rest, [LINE_FEED])
 }
 
-/// Whether these are whole lines, none of them empty, at least one, and no mark comes second: what a journal takes as a
-/// record.
+/// Returns whether a journal accepts this text as a record: it is at least one line, all lines are complete and none is
+/// empty, and the text without its first byte does not begin like a record.
 #[tactic(auto, using(crate::proofs::Meaning::record_if, crate::proofs::Meaning::record_whole))]
 pub fn is_record(text: &[u8]) -> bool
     ensures { IsTrue result ↔ IsRecord text.now }
@@ -184,28 +186,28 @@ pub fn is_record(text: &[u8]) -> bool
     !text.is_empty() && !begins_marked(&text[1..]) && whole_lines(text) == text.len()
 }
 
-/// Recovery returns exactly the lines before a closed gate, whatever follows it. Every file stands for such lines, and
-/// recovering them again changes nothing.
+/// Law: recovery returns exactly the lines before a closed gate, whatever follows it. Every file stands for such lines,
+/// and recovering them again changes nothing.
 pub fn lines_are_recovered()
     ensures lines { LinesAreRecovered }
     ensures converse { RecoveredIsLines }
     ensures again { (file : List ℕ) → recovered (recovered file) ≡ recovered file }
 {}
 
-/// No crash of an append, of several, or of [`open`] leaves a file that opening refuses. By the clauses `known` and
-/// `repairable` of these calls a file that a crash leaves is known and repairable.
+/// Law: no crash during an append, several appends, or [`open`] leaves a file that opening refuses. By the clauses
+/// `known` and `repairable` of these calls, a file that a crash leaves is known and repairable.
 pub fn no_crash_is_refused()
     ensures { NoneIsRefused }
 {}
 
-/// Whether the text begins as a line of a till's record does.
+/// Returns whether the text begins like a line of a till's record.
 pub(crate) fn begins_marked(text: &[u8]) -> bool
     ensures { result ≡ begins_marked text.now }
 {
     matches!(text.first(), Some(&(b'!' | b'#' | b'<' | b'>')))
 }
 
-/// How many bytes of whole lines come before the first empty line.
+/// Returns the number of bytes in the complete lines before the first empty line.
 pub(crate) fn whole_lines(bytes: &[u8]) -> usize
     ensures whole { result ≡ whole 0 bytes.now }
     ensures within { result ≤ length bytes.now }
