@@ -1,4 +1,4 @@
-//! The books of a whole log.
+//! Keeps the books of a log that is still growing.
 //!
 //! Functions that an audit calls for every message are `#[inline(always)]`. Functions that few messages need are
 //! `#[inline(never)]`, to keep that path short.
@@ -104,7 +104,7 @@ impl Bookkeeping {
         }
     }
 
-    /// The terminal completes the running order.
+    /// Completes the running order.
     #[inline(never)]
     fn complete(&mut self) -> Result<(), AllocError>
         ensures { OnOk result ((log : List Happening) → HasJudged log self.old

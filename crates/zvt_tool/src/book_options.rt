@@ -12,7 +12,7 @@ use crate::options::{CommandOption, CommandRow};
 use clap::ArgMatches;
 use std::alloc::{AllocError, Global};
 
-/// The row of `book`: its options and help.
+/// Returns the row of `book`: its options and help.
 pub fn book_row() -> CommandRow<'static>
     ensures { app_for result ≡ book_app }
 {
@@ -42,7 +42,7 @@ Example:
     }
 }
 
-/// The row of `loop`: its options and help.
+/// Returns the row of `loop`: its options and help.
 pub fn loop_row() -> CommandRow<'static>
     ensures { app_for result ≡ loop_app }
 {
@@ -67,7 +67,7 @@ Example:
     }
 }
 
-/// What the words give `book`.
+/// Returns the choice from the arguments of `book`.
 pub fn read_book<'a>(alloc: Global, inner: &ArgMatches<'a>) -> Result<Choice<'a>, AllocError>
     ensures { IfOk result (IsChoiceOf (Some (codes "book", rows_of (found_of inner.now)))) }
 {
@@ -78,7 +78,7 @@ pub fn read_book<'a>(alloc: Global, inner: &ArgMatches<'a>) -> Result<Choice<'a>
     })
 }
 
-/// What the words give `loop`.
+/// Returns the choice from the arguments of `loop`.
 pub fn read_loop<'a>(alloc: Global, inner: &ArgMatches<'a>) -> Result<Choice<'a>, AllocError>
     ensures { IfOk result (IsChoiceOf (Some (codes "loop", rows_of (found_of inner.now)))) }
 {
