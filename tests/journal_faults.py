@@ -161,14 +161,14 @@ class Trial(Checks):
         self.cases += 2
 
     def empty_lines(self):
-        """An empty line within a book: no crash leaves it, and what lies behind it is not given up."""
+        """An empty line within a book: no crash leaves it, and the records after it are not given up."""
         of = journal_dialogues.Dialogue()
         of.registered()
         for number in range(1, 31):
             of.paid(number, number)
         for at in range(1, len(of.records)):
             front, rest = b"".join(of.records[:at]), b"".join(of.records[at:])
-            said = f"line {front.count(10) + 1} is empty, and {len(of.records) - at} records lie behind it"
+            said = f"line {front.count(10) + 1} is empty and {len(of.records) - at} records follow it"
             for name, content in (("an empty line", front + b"\n" + rest + b"\n"), ("and none at the end", front + b"\n" + rest)):
                 path = self.work / "emptied"
                 path.write_bytes(content)

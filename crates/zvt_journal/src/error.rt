@@ -29,8 +29,8 @@ pub enum JournalFileError {
     NotAJournal,
     /// Complete records follow the first empty line, which is this line. No crash leaves such a file: an editor
     /// inserted the empty line, or the disk lost the bytes in its place.
-    #[error("line {line} is empty, and {records} records lie behind it, which no crash leaves: \
-        remove that line to have them back, or all that comes after it to give them up")]
+    #[error("line {line} is empty and {records} records follow it, which no crash leaves: delete that line to \
+        restore them, or everything after it to give them up")]
     RecordsBehind { line: usize, records: usize },
     /// More bytes follow the first empty line than a crash can leave behind.
     #[error("{bytes} bytes follow the first empty line, more than a crash can leave: if an editor inserted \
@@ -41,8 +41,8 @@ pub enum JournalFileError {
     CutNotKept(io::Error),
     /// The name of the file cannot be made durable, because its directory cannot be opened or synced. No file was
     /// created.
-    #[error("cannot make the name of this file durable, for which its folder has to be readable and on a disk \
-        that syncs folders: {0}")]
+    #[error("cannot make the name of this file durable: its directory has to be readable, and on a disk that can \
+        sync directories: {0}")]
     FolderNotSynced(io::Error),
     /// The file could not be opened, read, written or made durable.
     #[error("cannot open, read or write this file: {0}")]

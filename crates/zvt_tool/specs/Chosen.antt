@@ -51,7 +51,7 @@ IsCommandOf name rows (Play options) = (name ≡ codes "play") × ArePlayOptions
 IsCommandOf name rows (CheckTill options) = (name ≡ codes "check-till") × AreCheckOptionsOf (codes "listen") rows options
 IsCommandOf name rows (CheckTerminal options) = (name ≡ codes "check-terminal") × AreCheckOptionsOf (codes "port") rows options
 
--- a name that belongs to no command, except perhaps to one that plays scenarios
+-- a name that belongs to no command, except perhaps to one that plays situations
 abbrev pub PlaysAtMost : Text → Type 0
 PlaysAtMost name =
     (name ≢ codes "show") × (name ≢ codes "join") × (name ≢ codes "normalise") × (name ≢ codes "audit")

@@ -24,7 +24,7 @@ pub record ArePlayOptionsOf (rows : List Row) (options : PlayOptions) : Type 0 w
   pub listen : IsNumberOf (codes "listen") rows 65535 options.listen
   pub host : first_of (codes "host") rows ≡ Some options.host.now
 
--- a command with this name that plays scenarios, over connections of the port with that name
+-- a command with this name that plays situations, over connections of the port with that name
 abbrev pub check_app : Text → Text → App
 check_app name port = command_app name (
     needed_port_rule port ∷
@@ -33,7 +33,7 @@ check_app name port = command_app name (
     several_rule (codes "file") ∷
     [])
 
--- the options of a command that plays scenarios and whose port has this name
+-- the options of a command that plays situations and whose port has this name
 pub record AreCheckOptionsOf (port : Text) (rows : List Row) (options : CheckOptions) : Type 0 where
   pub gives_port : GivesNumber port rows 65535 options.port
   pub host : first_of (codes "host") rows ≡ Some options.host.now

@@ -1,4 +1,4 @@
--- The verdicts of scenarios: lines of TAP, and a report in the JUnit format.
+-- The verdicts of situations: lines of TAP, and a report in the JUnit format.
 use Rattle.std.specs.Prelude.{◌≡◌, ◌==◌, ◌||◌, ℕ, Bool, true, false, nat_lt, List, [], ◌∷◌, ◌++◌, codes, if◌then◌else◌, refl}
 use Rattle.std.specs.Fmt.{decimal, digits}
 
@@ -20,17 +20,17 @@ abbrev pub escaped : List ℕ → List ℕ
 escaped [] = []
 escaped (byte ∷ bytes) = escaped_byte byte ++ escaped bytes
 
--- the version and the number of scenarios
+-- the version and the number of situations
 abbrev pub plan : (situations : ℕ) → List ℕ
 plan situations = codes "TAP version 13\n1.." ++ (decimal situations ++ 10 ∷ [])
 
--- a scenario in a report, with what arrived if that differs from what was expected
+-- a situation in a report, with what arrived if that differs from what was expected
 abbrev pub case : (name difference : List ℕ) → List ℕ
 case name [] = codes "  <testcase name=\"" ++ (escaped name ++ codes "\"/>\n")
 case name (byte ∷ more) =
     codes "  <testcase name=\"" ++ (escaped name ++ (codes "\"><failure>" ++ (escaped (byte ∷ more) ++ codes "</failure></testcase>\n")))
 
--- a scenario whose play broke off, and why
+-- a situation whose play broke off, and why
 abbrev pub broken : (name why : List ℕ) → List ℕ
 broken name why = codes "  <testcase name=\"" ++ (escaped name ++ (codes "\"><error>" ++ (escaped why ++ codes "</error></testcase>\n")))
 

@@ -110,7 +110,7 @@ fn chosen<'a>(
     })
 }
 
-/// Returns the choice for the command with this name, if it plays scenarios.
+/// Returns the choice for the command with this name, if it plays situations.
 fn check<'a>(
     alloc: Global,
     name: &str,

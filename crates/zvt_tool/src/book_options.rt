@@ -20,7 +20,7 @@ pub fn book_row() -> CommandRow<'static>
         name: "book",
         about: "Print a till's book: payments, reversals, unclear payments and the net total",
         more: "Lines of a book:
-  booked N trace T receipt R  A completed payment, followed by what became of its reversal, if there was one:
+  booked N trace T receipt R  A completed payment, followed by the state of its reversal, if there was one:
                               reversed, reversal unclear CAUSE, or taken back
   unclear N CAUSE             A payment that may have been charged or not
   total N                     The sum of the payments that were not reversed

@@ -101,7 +101,7 @@ pub fn show_row() -> CommandRow<'static>
             CommandOption::Flag("follow", help::FOLLOW),
             CommandOption::Flag(
                 "resync",
-                "Go on after a message that is refused, at the end that its length announces",
+                "After a refused message, continue at the end that its length announces",
             ),
         ],
     }

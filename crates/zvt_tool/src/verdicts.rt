@@ -1,11 +1,11 @@
-//! The verdicts of scenarios: lines of TAP (the Test Anything Protocol), and a report in the JUnit format.
+//! The verdicts of situations: lines of TAP (the Test Anything Protocol), and a report in the JUnit format.
 ghost use Rattle.std.specs.Prelude.{◌≡◌, ◌++◌, OnOk};
 ghost use Rattle.zvt_tool.specs.Verdicts.{broken, case, escaped, escaped_byte, plan, suite, verdict_line};
 
 use std::alloc::AllocError;
 use zvt_text::Text;
 
-/// Adds the first lines: the version, and the number of scenarios.
+/// Adds the first lines: the version, and the number of situations.
 pub fn add_plan(text: &mut Text, situations: usize) -> Result<(), AllocError>
     ensures { OnOk result (text.new ≡ text.old ++ plan situations) }
 {
@@ -14,7 +14,7 @@ pub fn add_plan(text: &mut Text, situations: usize) -> Result<(), AllocError>
     text.push(b'\n')
 }
 
-/// Adds the line of the scenario with this number, counted from 1, which passed or failed.
+/// Adds the line of the situation with this number, counted from 1, which passed or failed.
 pub fn add_verdict(
     text: &mut Text,
     is_passed: bool,
@@ -33,8 +33,8 @@ pub fn add_verdict(
     text.push(b'\n')
 }
 
-/// Appends a scenario to the test cases of a report. `difference` describes what arrived instead of the expected bytes,
-/// and is empty if the scenario passed.
+/// Appends a situation to the test cases of a report. `difference` describes what arrived instead of the expected bytes,
+/// and is empty if the situation passed.
 pub fn add_case(text: &mut Text, name: &str, difference: &[u8]) -> Result<(), AllocError>
     ensures { OnOk result (text.new ≡ text.old ++ case name.now difference.now) }
 {
@@ -48,7 +48,7 @@ pub fn add_case(text: &mut Text, name: &str, difference: &[u8]) -> Result<(), Al
     text.word(b"</failure></testcase>\n")
 }
 
-/// Appends a scenario whose play broke off to the test cases of a report, with the reason.
+/// Appends a situation whose play broke off to the test cases of a report, with the reason.
 pub fn add_error(text: &mut Text, name: &str, why: &[u8]) -> Result<(), AllocError>
     ensures { OnOk result (text.new ≡ text.old ++ broken name.now why.now) }
 {
@@ -59,7 +59,7 @@ pub fn add_error(text: &mut Text, name: &str, why: &[u8]) -> Result<(), AllocErr
     text.word(b"</error></testcase>\n")
 }
 
-/// Adds the report with these cases. `failed` scenarios differ, and `broken` broke off.
+/// Adds the report with these cases. `failed` situations differ, and `broken` broke off.
 pub fn add_suite(
     text: &mut Text,
     name: &str,
