@@ -58,7 +58,7 @@ pub fn kind_at(high: u8, low: u8) -> Kind
     }
 }
 
-/// The message whose data are these first bytes and bytes of any value.
+/// Returns the message whose data are these first bytes, followed by bytes of any value.
 #[inline(always)]
 pub(crate) fn bytes_message(high: u8, low: u8, first: &[u8], payload: Vec<u8>) -> Message
     requires laid { layout_of high low (length first.now + length payload.items) ≡ bytes_after (length first.now) }
@@ -79,7 +79,7 @@ pub(crate) fn bytes_message(high: u8, low: u8, first: &[u8], payload: Vec<u8>) -
     }
 }
 
-/// The message of these control bytes whose data are a byte of its own, if any, and bytes of any value.
+/// Returns the message with these control bytes whose data are one fixed byte, if any, followed by bytes of any value.
 #[inline(always)]
 fn named_bytes(high: u8, low: u8, first: &[u8], payload: Vec<u8>) -> Message
     requires named { form_of high low ≡ Some (BytesFrom (length first.now)) }
@@ -134,7 +134,7 @@ pub(crate) fn fields_message(high: u8, low: u8, first: &[u8], fields: Fields) ->
     }
 }
 
-/// The message of these control bytes whose data are a password, if any, and fields.
+/// Returns the message with these control bytes whose data are a password, if any, followed by fields.
 #[inline(always)]
 fn named_fields(high: u8, low: u8, first: &[u8], fields: Fields) -> Message
     requires named { form_of high low ≡ Some (FieldsFrom (length first.now)) }

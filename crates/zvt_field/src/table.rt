@@ -114,7 +114,8 @@ pub fn name(bmp: u8) -> Option<&'static str>
     Some(find(bmp)?.name)
 }
 
-/// Returns how an output shows the content of the field with this BMP. What the table does not list is shown as bytes.
+/// Returns how an output shows the content of the field with this BMP. A field that the table does not list is shown as
+/// bytes.
 #[inline(always)]
 pub fn format(bmp: u8) -> Format
     ensures value { result ≡ format_of bmp }
