@@ -44,8 +44,8 @@ pub fn open_file(alloc: Global, path: &[u8]) -> Noted<Result<Opened, JournalFile
     ensures whole { IfOk result.answer (λ opened. recovered opened.text.items ≡ opened.text.items) }
     ensures settled { IfOk result.answer (λ opened. IsSettled (file_seen opened.device) (file_may_leave opened.device)
         (length opened.text.items)) }
-    // The file was locked, then made durable and read, and then looked at again; what was cut was kept before that, and
-    // the name was made durable. An error comes only with its cause.
+    // The file was locked, made durable, read and checked again; bytes to be removed were saved before they were cut,
+    // and the name was made durable. An error occurs only with its cause.
     ensures calls { MatchResult result.answer
         (λ opened. WasOpened path.now result.calls.made opened.text.items opened.cut opened.created)
         (λ error. WhyRefused error result.calls.made) }

@@ -65,18 +65,18 @@ impl<D: Device> Journal<D> {
             entry.now) }
         ensures longest { OnOk result (length entry.now ≤ 2 ^ 18) }
 
-        // A crash at any moment of the call leaves the text from before it, with the record or without.
+        // A crash at any moment of the call leaves the earlier text, with or without the record.
         ensures any_moment { LeavesOnly D.moment D.left_since self.old.device self.new.device
             (IsWithOrWithout (recovered (D.seen self.old.device)) entry.now) }
 
-        // Opening repairs that file: no more comes after its whole lines than a record and one byte, and no line.
+        // Opening repairs that file: its complete lines are followed by at most a record and one byte, and no line.
         ensures repairable { LeavesOnly D.moment D.left_since self.old.device self.new.device IsRepairable }
 
-        // And opening takes it for a journal's file, if the record goes behind others or is the opening of a new one.
+        // Opening accepts it as a journal's file, if the record follows others or is the opening of a new one.
         ensures known { GoesOn (recovered (D.seen self.old.device)) entry.now → LeavesOnly D.moment D.left_since
             self.old.device self.new.device IsKnown }
 
-        // It doesn't give up by itself.
+        // It fails only for one of these causes.
         ensures failed { IsErrOf result DeviceError.Failed → D.faults self.old.device < D.faults self.new.device }
         ensures full { IsErrOf result DeviceError.Full → (2 ^ 60 ≤ self.old.gate) ⊎ (2 ^ 18 < length entry.now) }
         ensures faults { D.faults self.old.device ≤ D.faults self.new.device }
@@ -102,7 +102,7 @@ impl<D: Device> Journal<D> {
         ensures acknowledged { OnOk result (recovered (D.seen self.new.device) ≡ recovered (D.seen self.old.device) ++
             joined entries.now) }
 
-        // A crash at any moment leaves the text from before the call and some first ones of the records, whole.
+        // A crash at any moment leaves the earlier text and a prefix of the records, each of them complete.
         ensures any_moment { LeavesOnly D.moment D.left_since self.old.device self.new.device
             (HasFirst (recovered (D.seen self.old.device)) entries.now) }
         ensures repairable { LeavesOnly D.moment D.left_since self.old.device self.new.device IsRepairable }
@@ -144,11 +144,11 @@ pub fn open<D: Device>(device: &mut D, mut bytes: Vec<u8>) -> Result<Vec<u8>, De
     ensures settled { IfOk result (λ text. IsSettled (D.seen device.new) (D.may_leave device.new) (length text.items)) }
     ensures kept { OnOk result (recovered (D.seen device.new) ≡ recovered (D.seen device.old)) }
 
-    // A crash at any moment leaves the same text, or what it might have left before.
+    // A crash at any moment leaves the same text, or a file that it might have left before the call.
     ensures any_moment { LeavesOnly D.moment D.left_since device.old device.new
         (IsAsBefore (D.may_leave device.old) (recovered (D.seen device.old))) }
 
-    // Nor does it leave a file that opening refuses, if it was given none.
+    // It leaves no file that opening refuses, if it was given none.
     ensures repairable { IsRepairable (D.seen device.old) → LeavesOnly D.moment D.left_since device.old device.new
         (IsRepairableAsBefore (D.may_leave device.old)) }
     ensures known { IsKnown (D.seen device.old) → LeavesOnly D.moment D.left_since device.old device.new
@@ -163,7 +163,7 @@ pub fn open<D: Device>(device: &mut D, mut bytes: Vec<u8>) -> Result<Vec<u8>, De
         bytes.truncate(end);
         return Ok(bytes);
     }
-    // The cut is on the disk before a gate is written: after a torn gate what was there would count.
+    // The cut is on the disk before a gate is written; otherwise the old bytes would count after a torn gate.
     cut_synced(device, end)?;
     write_synced(device, end, &[LINE_FEED])?;
     bytes.truncate(end);

@@ -285,8 +285,8 @@ fn written(file: Usable<'_>, spare: &mut Spare, at: usize, bytes: &[u8]) -> Resu
     }
     let answer = write_with(file, spare, at, bytes);
     if answer.is_err() {
-        // What was written of them goes, so that opening has nothing to keep on a full disk. They may stay: nothing
-        // counts on it.
+        // Removes the bytes that were written, so that opening has nothing to save on a full disk. This may fail:
+        // nothing relies on it.
         let _ = set_len(file, at);
     }
     answer

@@ -30,7 +30,7 @@ impl Spare {
         ensures { IfOk result (λ spare. IsNone spare.held) }
     {
         let mut path = path.to_vec(alloc)?;
-        // So that no memory is asked for later.
+        // This avoids an allocation later.
         path.reserve(SUFFIX.len())?;
         Ok(Spare { path, held: None })
     }

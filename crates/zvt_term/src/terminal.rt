@@ -371,7 +371,7 @@ impl Terminal {
     pub fn step(&mut self, input: Input<'_>, verdict: Verdict) -> Result<Answers, AllocError>
         ensures stepped { IfOk result (λ answers. Steps self.old input.entry verdict answers self.new) }
         ensures err { OnErr result (self.new ≡ self.old) }
-        // Where no row is added it always goes well, as on a broken line.
+        // It always succeeds if no row is added, for example on a broken line.
         ensures frugal { row_added self.old input.entry verdict ≡ None → IsOk result }
     {
         match input {

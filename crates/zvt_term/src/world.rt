@@ -169,13 +169,14 @@ impl World {
 /// neither has an order that the till refuses. Fails only if memory runs out.
 pub fn run_world(alloc: Global, moves: &[Move]) -> Result<World, AllocError>
     ensures world { IfOk result (λ both. ends_of both ≡ world moves.now) }
-    // Whatever comes late, again or never, each entry of the book is an approval of the ledger of its own, in the
-    // till's currency.
+    // Even if messages arrive late, again or never, each entry of the book corresponds to an approval of its own in the
+    // ledger, in the till's currency.
     ensures matches { IfOk result (λ both. Matches both.till.state both.terminal.ledger) }
-    // Over lines that keep order, each approval of an amount is booked, unclear or still awaited.
+    // Over lines that keep the order of messages, each approval of an amount is booked, unclear or still awaited.
     ensures accounted { IfOk result (λ both. IsTrue (are_orderly moves.now) → IsAccounted both.till.state
         both.terminal.ledger) }
-    // Over such lines, each payment that the terminal took back is marked, unclear, known by B4, or its reversal runs.
+    // Over such lines, each payment that the terminal reversed is marked, unclear or known by B4, or its reversal is
+    // running.
     ensures reversals { IfOk result (λ both. IsTrue (are_orderly moves.now) → KeepsReversals both.till.state
         both.terminal.ledger) }
 {

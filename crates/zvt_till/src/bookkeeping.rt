@@ -58,7 +58,7 @@ impl Bookkeeping {
         ensures { OnOk result ((log : List Happening) → HasJudged log self.old → HasJudged (log ++ happening.now ∷ [])
             self.new) }
     {
-        // Names the types that a running payment is made of, which the proof asks for.
+        // Names the types in a running payment, which the proof asks for.
         let _statuses: Option<Statuses> = None;
         let _trace: Option<Trace> = None;
         self.found

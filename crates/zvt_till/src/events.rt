@@ -227,18 +227,18 @@ impl Run {
 
 /// Runs a new till over the events. A refused order does not appear in the log. Fails only if memory runs out.
 pub fn replay(alloc: Global, events: &[Event]) -> Result<Run, AllocError>
-    // The log is that of the events, however the line's bytes are cut into pieces.
+    // The log is the log of the events, however the line's bytes are cut into pieces.
     ensures log { IfOk result (λ run. IsLogOf events.now run.log.items) }
     ensures allowed { IfOk result (λ run. IsLog run_settings run.log.items) }
-    // The till is as the log says,
+    // The till has the state that the log prescribes,
     ensures state { IfOk result (λ run. run.till.state ≡ state_after run_settings run.log.items) }
     ensures facts { IfOk result (λ run. facts_of run.till.state ≡ facts_in run.log.items) }
-    // with the book, its marks and the unclear payments that whole orders of the log are worth.
+    // with the book, its marks and the unclear payments that the log's complete orders justify.
     ensures book { IfOk result (λ run. run.till.state.book ≡ entries run.log.items) }
     ensures unclear { IfOk result (λ run. run.till.state.unclear ≡ settled (books run.log.items).unclear) }
-    // The reversals that it has as unclear are those that the log leaves so.
+    // Its unclear reversals are exactly those that the log leaves unclear.
     ensures reversals { IfOk result (λ run. unclear_reversals run.till.state.book ≡ reversals_left run.log.items) }
-    // What it sent are the accepted orders and the answers, in the order in which they arose.
+    // It sent the accepted orders and the replies, in order, and nothing else.
     ensures sent { IfOk result (λ run. Spelled run.sent.items (sent_over run.log.items) []) }
 {
     let mut run = Run {

@@ -132,9 +132,9 @@ pub fn run_order<R: Source, W: Sink, K: Keeper>(
         till.old till.new
         (R.remaining reader.old) (R.remaining reader.new) (W.written writer.old) (W.written writer.new)
         turns (R.reads reader.old) (R.reads reader.new)) }
-    // However it goes, it takes the place of one payment at most.
+    // Whatever the result, it uses the capacity of at most one payment.
     ensures room { (K.till till.old).spare ≤ (K.till till.new).spare + 1 }
-    // After a broken line, or a book that failed, it is known what became of the order.
+    // After a broken line, or a book that failed, the outcome of the order is known.
     ensures over { IfErr result (λ fault. IsOver fault (K.till till.new).state) }
     ensures reads { R.reads reader.new ≤ R.reads reader.old + turns }
     ensures frugal { IsReserved stream.old → IsErrOf result (RunFault.Line LineFault.Memory) → ⊥ }

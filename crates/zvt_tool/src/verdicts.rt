@@ -33,8 +33,8 @@ pub fn add_verdict(
     text.push(b'\n')
 }
 
-/// Appends a situation to the test cases of a report. `difference` describes what arrived instead of the expected bytes,
-/// and is empty if the situation passed.
+/// Appends a situation to the test cases of a report. `difference` describes what arrived instead of the expected
+/// bytes, and is empty if the situation passed.
 pub fn add_case(text: &mut Text, name: &str, difference: &[u8]) -> Result<(), AllocError>
     ensures { OnOk result (text.new ≡ text.old ++ case name.now difference.now) }
 {

@@ -293,7 +293,7 @@ fn put_body(bytes: &mut Vec<u8>, layout: Layout, till: &Till) -> Result<(), Allo
         (step till.now.state Happening.Lost)) }
     ensures kept { OnOk result (IsKept (step till.now.state Happening.Lost)) }
 {
-    // by this law the rows are some that a till can have
+    // by this law, a till can have these rows
     till.can_be_restored();
     let settled = settle(till);
     let unclear = till.unclear().len() + rows_left(settled.left);

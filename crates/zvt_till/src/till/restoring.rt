@@ -95,7 +95,7 @@ impl Till {
     pub fn can_be_restored(&self)
         ensures { CanStand (step self.now.state Happening.Lost).book (step self.now.state Happening.Lost).unclear }
     {
-        // The proof learns what holds of all fields from a look at one.
+        // Reading one field tells the proof the invariant of all fields.
         let _ = &self.book;
     }
 }
