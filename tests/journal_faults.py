@@ -175,7 +175,7 @@ class Trial(Checks):
                 if at % 7 == 1 or name == "an empty line" and at % 7 == 2:
                     self.refuses(f"{name} before record {at}", BAD, said, path)
         path.write_bytes(b"".join(of.records)[:-1])
-        self.refuses("a last line that is cut short, and no gate", BAD, "is empty, and", path)
+        self.refuses("a last line that is cut short, and no gate", BAD, "is empty and", path)
 
     # ---- what is beside it
 
@@ -270,8 +270,8 @@ class Trial(Checks):
         (unread / "book").write_bytes(journal().file())
         os.chmod(unread / "book", 0o666)
         os.chmod(unread, 0o733)
-        self.refuses("a new file in a folder that may not be read", FAILED, "folder has to be readable", unread / "new", reads=False, user=NOBODY, group=NOBODY)
-        self.refuses("a file in a folder that may not be read", FAILED, "folder has to be readable", unread / "book", reads=False, user=NOBODY, group=NOBODY)
+        self.refuses("a new file in a folder that may not be read", FAILED, "directory has to be readable", unread / "new", reads=False, user=NOBODY, group=NOBODY)
+        self.refuses("a file in a folder that may not be read", FAILED, "directory has to be readable", unread / "book", reads=False, user=NOBODY, group=NOBODY)
         os.chmod(path, 0o000)
         self.refuses("a file that may not be read", FAILED, "", path, user=NOBODY, group=NOBODY)
 
