@@ -280,7 +280,7 @@ refuses "a reference with a space" 2 "zvt: 'pay:1:ref=a b': invalid step 1: " lo
 refuses "no reference" 2 "a reference, as in 'pay:1000:ref=A-1009', has 1 to 40 printable characters and no space" loop pay:1:ref=
 refuses "a reference of 41 characters" 2 "invalid step 1" loop pay:1:ref=12345678901234567890123456789012345678901
 refuses "a trace in a book" 3 "zvt: '$work/day.book': this is a till's book, which a trace would end" loop --trace "$work/day.book"
-refuses "a book of another currency" 3 "zvt: '$work/day.book': the first line is not that of a book in the till's currency" till --port "$port" --currency 0840 --book "$work/day.book"
+refuses "a book of another currency" 3 "zvt: '$work/day.book': the first line does not begin a book in the till's currency" till --port "$port" --currency 0840 --book "$work/day.book"
 refuses "a wrong step beside a book" 2 "'pay:0'" loop --book "$work/day.book" pay:0
 cmp -s "$work/day.book" "$work/copy.book" || { echo "NOT AS EXPECTED: a book that was to stay"; echo "a book" >> "$work/failed"; }
 refuses "a trace as a book" 3 "zvt: '$work/new.trace': not a till's book: name the file of its '--book', or run 'zvt audit' on a trace" book "$work/new.trace"

@@ -206,7 +206,7 @@ def wrong_words(folder):
     approval = KIT / "till" / "approval.trace"
     for name, words, wanted in [
         ("no situation", ["check-till", "--listen", 0], (2, "zvt: name the situations to play, e.g. conformance/till/*.trace\n")),
-        ("port 0", ["check-terminal", "--port", 0, approval], (2, "zvt: invalid port '0': give the port that the terminal listens at\n")),
+        ("port 0", ["check-terminal", "--port", 0, approval], (2, "zvt: invalid port '0': give the port that the terminal listens on\n")),
         ("no file", ["check-till", "--listen", 0, approval, folder / "none"], (4, f"zvt: '{folder}/none': cannot open the trace: ")),
         ("no message", ["check-till", "--listen", 0, approval, bad], (3, f"zvt: '{bad}': line 1 of the trace: invalid at byte")),
         ("nobody listens", ["check-terminal", "--port", 1, approval], (4, "zvt: no connection: connection refused")),

@@ -304,7 +304,7 @@ class Trial:
         ends("a step that is not sent", ended, 1, *unsent)
         check("what is said then", ended.errors, lines(
             "zvt: pay:1000 was not sent (NotRegistered): the till is not registered on this connection: register first",
-            "zvt: a step did not succeed: its line says what became of it",
+            "zvt: a step did not succeed: its line shows the outcome",
         ))
         ends("without --check", run("loop", "pay:1000"), 0, *unsent)
         served = terminal("--decline", "6C")

@@ -161,21 +161,21 @@ class Trial(Checks):
         self.cases += 2
 
     def empty_lines(self):
-        """An empty line within a book: no crash leaves it, and what lies behind it is not given up."""
+        """An empty line within a book: no crash leaves it, and the records after it are not given up."""
         of = journal_dialogues.Dialogue()
         of.registered()
         for number in range(1, 31):
             of.paid(number, number)
         for at in range(1, len(of.records)):
             front, rest = b"".join(of.records[:at]), b"".join(of.records[at:])
-            said = f"line {front.count(10) + 1} is empty, and {len(of.records) - at} records lie behind it"
+            said = f"line {front.count(10) + 1} is empty and {len(of.records) - at} records follow it"
             for name, content in (("an empty line", front + b"\n" + rest + b"\n"), ("and none at the end", front + b"\n" + rest)):
                 path = self.work / "emptied"
                 path.write_bytes(content)
                 if at % 7 == 1 or name == "an empty line" and at % 7 == 2:
                     self.refuses(f"{name} before record {at}", BAD, said, path)
         path.write_bytes(b"".join(of.records)[:-1])
-        self.refuses("a last line that is cut short, and no gate", BAD, "is empty, and", path)
+        self.refuses("a last line that is cut short, and no gate", BAD, "is empty and", path)
 
     # ---- what is beside it
 
@@ -270,8 +270,8 @@ class Trial(Checks):
         (unread / "book").write_bytes(journal().file())
         os.chmod(unread / "book", 0o666)
         os.chmod(unread, 0o733)
-        self.refuses("a new file in a folder that may not be read", FAILED, "folder has to be readable", unread / "new", reads=False, user=NOBODY, group=NOBODY)
-        self.refuses("a file in a folder that may not be read", FAILED, "folder has to be readable", unread / "book", reads=False, user=NOBODY, group=NOBODY)
+        self.refuses("a new file in a folder that may not be read", FAILED, "directory has to be readable", unread / "new", reads=False, user=NOBODY, group=NOBODY)
+        self.refuses("a file in a folder that may not be read", FAILED, "directory has to be readable", unread / "book", reads=False, user=NOBODY, group=NOBODY)
         os.chmod(path, 0o000)
         self.refuses("a file that may not be read", FAILED, "", path, user=NOBODY, group=NOBODY)
 

@@ -74,7 +74,7 @@ fn each_want_of_a_connection_is_said(rt: HostRuntime) -> Result<(), Fail> {
         ),
         (
             NetFault::Other,
-            "no connection: check that the other end listens at that host and port, or that the port to listen at is free",
+            "no connection: check that the other end listens on that host and port, or that the port to listen on is free",
         ),
     ];
     for (fault, wanted) in rows {

@@ -1,4 +1,4 @@
-//! The book of a till in a file.
+//! Books of tills in files.
 ghost use Rattle.zvt_journal.specs.Files.{file_may_leave, file_seen};
 ghost use Rattle.zvt_journal.specs.Text.{IsSettled};
 
@@ -20,31 +20,31 @@ use zvt_till::{Till, TillSettings};
 use zvt_tool::statuses::{DONE, MEMORY, WORDS, of_device, of_file_error, of_recovery};
 use zvt_trace::next_line;
 
-/// What is reported of a book in another currency than the till's, or of no book.
+/// The report on a book in another currency than the till's, or on a file that is not a book.
 const OTHER_BOOK: &str =
-    "the first line is not that of a book in the till's currency: give the book's currency, or name another file";
+    "the first line does not begin a book in the till's currency: give the book's currency, or name another file";
 
-/// What is reported of a file that is no book, where a book is to be read.
+/// The report on a file that is not a book, when a book is to be read.
 const NO_BOOK: &str =
     "not a till's book: name the file of its '--book', or run 'zvt audit' on a trace";
 
-/// What is reported of a book whose file is no longer the one that was opened.
+/// The report on a book whose file is no longer the one that was opened.
 const DISPLACED: &str =
     "the file of the book is no longer the one that was opened: it was moved, deleted, replaced or changed, so \
         nothing more was sent";
 
-/// What is reported of a book for whose next record the disk has no room.
+/// The report on a book whose next record does not fit on the disk.
 const FULL_DISK: &str =
     "the disk is full: no record of the book could be written, so nothing more was sent";
 
-/// What is reported of several books whose totals are not added.
+/// The report on several books whose totals are not added.
 const MIXED: &str = "the books are kept in different currencies, so there is no sum";
 
-/// What is reported where the records of several books are asked for.
+/// The report on a request for the records of several books.
 const ONE_RECORDS: &str =
     "'--records' takes one FILE: the records of two books make no trace of one till";
 
-/// What the first line of a book says before the number of its currency.
+/// The first line of a book, up to the number of its currency.
 const OPENING: [u8; 26] = *b"# zvt journal 1, currency ";
 
 /// The sum of the books written so far.
@@ -60,7 +60,7 @@ struct Listing {
 }
 
 impl Listing {
-    /// No book was written yet, of so many.
+    /// Starts the listing of this number of books.
     fn new(books: usize) -> Listing {
         Listing {
             sum: Sum::new(books),
@@ -70,7 +70,7 @@ impl Listing {
         }
     }
 
-    /// One more book was written, of this currency if it has a record, with this total.
+    /// Adds a book with this total, and with this currency if it has a record.
     fn add(&mut self, currency: Option<Currency>, total: u64) {
         self.sum.add(u128::from(total));
         let Some(currency) = currency else {
@@ -93,7 +93,7 @@ pub fn show(rt: &HostRuntime, paths: &[&str], form: Form) -> io::Result<u8> {
     }
 }
 
-/// Writes one book after another, and the sum of their totals.
+/// Prints one book after another, and the sum of their totals.
 fn show_all(rt: &HostRuntime, paths: &[&str], form: Form, listing: &mut Listing) -> io::Result<u8> {
     let mut status = DONE;
     for path in paths {
@@ -110,7 +110,7 @@ fn show_all(rt: &HostRuntime, paths: &[&str], form: Form, listing: &mut Listing)
     Ok(status.max(write_sum(rt, form, &listing.sum)?))
 }
 
-/// Writes what the book in this file has, and answers the exit status. The null device, as one of several, is a book
+/// Prints the book in this file and returns the exit status. The null device, as one of several files, is a book
 /// without a record.
 fn show_one(
     rt: &HostRuntime,
@@ -158,8 +158,8 @@ pub fn records(rt: &HostRuntime, paths: &[&str]) -> io::Result<u8> {
     }
 }
 
-/// Writes the whole records of the book in this file as a trace, and answers the exit status. What is there of another
-/// record is reported.
+/// Prints the complete records of the book in this file as a trace and returns the exit status. Reports bytes of an
+/// incomplete record.
 fn records_of(rt: &HostRuntime, path: &str) -> io::Result<u8> {
     let text = match read_book(rt, rt.alloc(), path).answer {
         Ok(text) => text,
@@ -174,7 +174,7 @@ fn records_of(rt: &HostRuntime, path: &str) -> io::Result<u8> {
     finish_run(rt, writer.inner.broken_pipe, answer)
 }
 
-/// Reports how many bytes the file has after that many bytes of records and the byte that ends them.
+/// Reports the number of bytes in the file after its records and the byte that ends them.
 fn report_left(rt: &HostRuntime, path: &str, records: usize) -> io::Result<()> {
     let size = fs::metadata(rt, path)?.len();
     let left = size.saturating_sub(records as u64).saturating_sub(1);
@@ -187,8 +187,8 @@ fn report_left(rt: &HostRuntime, path: &str, records: usize) -> io::Result<()> {
     Ok(())
 }
 
-/// The till of these records, with the notes of its payments. Its currency is that of the book. A book without a record
-/// is that of a new till.
+/// Restores a till from these records, with the notes of its payments. It has the book's currency. A book without a
+/// record restores a new till.
 fn recovered_from(rt: &HostRuntime, text: &[u8]) -> Result<Recovered, RecoveryError> {
     if text.is_empty() {
         return Ok(Recovered {
@@ -207,7 +207,7 @@ fn recovered_from(rt: &HostRuntime, text: &[u8]) -> Result<Recovered, RecoveryEr
     recover(rt.alloc(), &settings, text)
 }
 
-/// The currency that the first line of a book names. [`recover`] checks that line.
+/// Returns the currency in the first line of a book. [`recover`] checks that line.
 fn currency_of(text: &[u8]) -> Option<Currency> {
     if text.is_empty() {
         return None;
@@ -248,7 +248,7 @@ pub fn open(
     }
 }
 
-/// A new book on this device.
+/// Begins a new book on this device.
 fn begun(
     rt: &HostRuntime,
     path: &str,
@@ -272,7 +272,7 @@ fn begun(
     }
 }
 
-/// Reports that the file was made, or what was cut off.
+/// Reports that the file was created, or what was cut off.
 fn report_opening(rt: &HostRuntime, path: &str, opened: &Opened) -> io::Result<()> {
     if opened.created {
         report_on(rt, path, "a new book")?;
@@ -313,7 +313,7 @@ pub fn report_failure(rt: &HostRuntime, device: &FileDevice) -> io::Result<()> {
     }
 }
 
-/// Whether the disk, or the user's share of it, is full.
+/// Returns whether the disk, or the user's share of it, is full.
 fn is_full(error: &io::Error) -> bool {
     matches!(
         error.kind(),
@@ -321,7 +321,7 @@ fn is_full(error: &io::Error) -> bool {
     )
 }
 
-/// Reports that a book is not read, and answers the exit status. A trace has another command.
+/// Reports that a book cannot be read, and returns the exit status.
 fn unread(rt: &HostRuntime, path: &str, error: &JournalFileError) -> io::Result<u8> {
     match error {
         JournalFileError::NotAJournal => report_on(rt, path, NO_BOOK)?,
@@ -330,13 +330,13 @@ fn unread(rt: &HostRuntime, path: &str, error: &JournalFileError) -> io::Result<
     Ok(of_file_error(error))
 }
 
-/// Reports that the file of a book is not opened, and answers the exit status.
+/// Reports that the file of a book cannot be opened, and returns the exit status.
 fn unopened(rt: &HostRuntime, path: &str, error: &JournalFileError) -> io::Result<u8> {
     report_on(rt, path, error)?;
     Ok(of_file_error(error))
 }
 
-/// Reports that the records of a book give no till, and answers the exit status.
+/// Reports that no till can be restored from the records of a book, and returns the exit status.
 fn unrecovered(rt: &HostRuntime, path: &str, error: RecoveryError) -> io::Result<u8> {
     match error {
         RecoveryError::Opening => report_on(rt, path, OTHER_BOOK)?,

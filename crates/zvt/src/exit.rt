@@ -1,8 +1,8 @@
-//! How a command ends before it is done.
+//! The end of a command that could not be completed.
 use std::alloc::{AllocError, AllocFailed};
 use std::io;
 
-/// Why a command ends before it is done.
+/// Why a command could not be completed.
 #[derive(Drop)]
 pub enum Exit {
     /// A fault was reported, and this is the exit status.

@@ -1,4 +1,4 @@
-//! The reports of how a command or a run ended, and the exit statuses.
+//! Reports how a command or a run ended, and returns its exit status.
 ghost use Rattle.std.specs.Prelude.{◌≡◌, IfOk};
 ghost use Rattle.zvt_tool.specs.Statuses.{status_of_end_fault, status_of_found, status_of_run};
 
@@ -10,8 +10,8 @@ use zvt_runs::EndFault;
 use zvt_tool::statuses;
 use zvt_trace::TraceFault;
 
-/// The exit status of a command on a trace, which may check that no payment is unclear. A fault is reported, with the
-/// file if there is one. Text that was not written since its reader disconnected is no fault to report.
+/// Returns the exit status of a command on a trace, which may check that no payment is unclear. Reports a fault, with
+/// the file if there is one, unless the reader of the output disconnected.
 pub fn finish_trace(
     rt: &HostRuntime,
     file: Option<&str>,
@@ -31,7 +31,7 @@ pub fn finish_trace(
     Ok(status)
 }
 
-/// The exit status where the words of a run name no steps. The fault is reported, with the word that is no step.
+/// Returns the exit status if a word names no step, and reports that word.
 pub fn finish_plan(rt: &HostRuntime, words: &[&str], fault: EndFault) -> io::Result<u8>
     ensures { IfOk result (λ status. status ≡ status_of_end_fault fault) }
 {
@@ -41,8 +41,7 @@ pub fn finish_plan(rt: &HostRuntime, words: &[&str], fault: EndFault) -> io::Res
     Ok(status)
 }
 
-/// The exit status of a run. A fault is reported. Text that was not written since its reader disconnected is no fault
-/// to report.
+/// Returns the exit status of a run. Reports a fault, unless the reader of the output disconnected.
 pub fn finish_run(
     rt: &HostRuntime,
     broken_pipe: bool,
@@ -59,7 +58,7 @@ pub fn finish_run(
     Ok(status)
 }
 
-/// Reports the fault, after the file or the argument that it is about.
+/// Reports the fault, after the file or the argument that it concerns.
 fn report_fault<T: Display + Drop>(
     rt: &HostRuntime,
     word: Option<&str>,
@@ -71,7 +70,7 @@ fn report_fault<T: Display + Drop>(
     }
 }
 
-/// The argument that the fault is about, if it is about one.
+/// Returns the argument that the fault concerns, if any.
 fn word_of<'a>(fault: &EndFault, words: &[&'a str]) -> Option<&'a str> {
     match fault {
         EndFault::BadStep { at } => words.get(*at).copied(),

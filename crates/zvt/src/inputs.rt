@@ -1,4 +1,4 @@
-//! The files of a command: where its traces come from, and how each of several is named.
+//! The files of a command: reads their traces, and names each in the output if there are several.
 use crate::finish::finish_trace;
 use crate::notes::{faulty_line, report_counts, report_hint, report_notes};
 use crate::output::Output;
@@ -25,12 +25,12 @@ pub struct Input<'a> {
 }
 
 impl<'a> Input<'a> {
-    /// The trace in this file, alone or as one of several.
+    /// Creates the input of this file, alone or as one of several.
     pub fn new(file: &'a str, is_labelled: bool) -> Input<'a> {
         Input { file, is_labelled }
     }
 
-    /// The name of the file, if the trace is in one.
+    /// Returns the name of the file, if the trace is in one.
     fn path(&self) -> Option<&'a str> {
         if self.file == "-" {
             None
@@ -39,12 +39,12 @@ impl<'a> Input<'a> {
         }
     }
 
-    /// Whether this is the null device, which a list of files has so that each line names its file.
+    /// Returns whether this is the null device. A list of files may contain it so that each line names its file.
     pub fn is_null_device(&self) -> bool {
         self.is_labelled && self.file == "/dev/null"
     }
 
-    /// A writer of what a command finds in the file: of one of several, each line names it.
+    /// Returns a writer for the output about the trace. With several files, each line begins with the name of its file.
     pub fn output<W: Write + Drop>(
         &self,
         alloc: Global,
@@ -75,18 +75,18 @@ impl<'a> Input<'a> {
     }
 }
 
-/// How a command ended on one trace.
+/// The end of a command on one trace.
 #[derive(Clone, Copy)]
 struct Ended {
     status: u8,
-    /// What was found, where the command read the trace to its end.
+    /// The result, if the command read the trace to its end.
     found: Option<AuditSummary>,
     /// Whether nothing more can be written.
     is_output_lost: bool,
 }
 
 impl Ended {
-    /// The command ended before it read the trace.
+    /// Returns the end of a command that did not read the trace.
     fn early(status: u8) -> Ended {
         Ended {
             status,
@@ -113,7 +113,7 @@ pub fn work_on(rt: &HostRuntime, command: &TraceCommand<'_>) -> io::Result<u8> {
     }
 }
 
-/// Runs the command on the one trace that is named.
+/// Runs the command on the only trace.
 fn work_on_only(rt: &HostRuntime, command: &TraceCommand<'_>, file: &str) -> io::Result<u8> {
     Ok(work_on_one(rt, command, Input::new(file, false))?.status)
 }
@@ -172,8 +172,7 @@ fn work_on_one(
     }
 }
 
-/// Runs the command on the trace of standard input. Where that is a keyboard, standard error reports that a trace is
-/// read.
+/// Runs the command on the trace from standard input. If that is a keyboard, reports that a trace is expected.
 fn work_on_input(
     rt: &HostRuntime,
     command: &TraceCommand<'_>,
@@ -206,7 +205,7 @@ fn work_on_file(
     work_with(rt, command, input, &mut Over::new(file))
 }
 
-/// Runs the command on the trace that the reader brings, as it comes or once it is read.
+/// Runs the command on the reader's trace, as it arrives or once it is read.
 fn work_with<R: Source>(
     rt: &HostRuntime,
     command: &TraceCommand<'_>,
@@ -220,8 +219,8 @@ fn work_with<R: Source>(
     }
 }
 
-/// Runs the command on the trace as the reader brings it. Standard error counts what is bad in the trace, then reports
-/// the fault that ends the command.
+/// Runs the command on the reader's trace as it arrives. Reports the number of bad streams, and then the fault that
+/// ended the command, if any.
 fn follow<R: Source>(
     rt: &HostRuntime,
     command: &TraceCommand<'_>,
@@ -241,9 +240,8 @@ fn follow<R: Source>(
     })
 }
 
-/// Runs the command on the trace that the reader brings, and names the file in its messages, if there is one. Standard
-/// error reports what is bad in the trace, then the fault that ends the command. If there is no memory for such a
-/// report, the command ends as one that is out of memory.
+/// Runs the command on the reader's trace. Reports bad streams, with the name of the file if there is one, and then the
+/// fault that ended the command, if any. If there is no memory for such a report, the command runs out of memory.
 fn work_on_whole<R: Source>(
     rt: &HostRuntime,
     command: &TraceCommand<'_>,
@@ -276,7 +274,7 @@ fn work_on_whole<R: Source>(
     })
 }
 
-/// The file, which is no directory: the system opens one, and fails at the first read alone.
+/// Opens the file, unless it is a directory, which the system would open and fail to read.
 pub fn opened(rt: &HostRuntime, path: &str) -> io::Result<File> {
     let file = File::open(rt, path)?;
     if file.metadata()?.is_dir() {

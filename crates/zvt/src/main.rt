@@ -43,7 +43,7 @@ fn main(rt: HostRuntime) -> ExitCode {
     }
 }
 
-/// The exit status where help or a report was not written. That memory was refused for it is said, if it can be.
+/// Returns the exit status if help or a report could not be written. Reports a failed allocation, if possible.
 fn failed(rt: &HostRuntime, error: &io::Error) -> u8 {
     if error.kind() != ErrorKind::OutOfMemory {
         return DEVICE;
@@ -53,7 +53,7 @@ fn failed(rt: &HostRuntime, error: &io::Error) -> u8 {
     MEMORY
 }
 
-/// Does what the arguments say, and answers the exit status.
+/// Executes the command line and returns the exit status.
 fn run(rt: &HostRuntime) -> Result<u8, Exit> {
     let arguments = match env::args(rt) {
         Ok(arguments) => arguments,
@@ -81,7 +81,7 @@ fn run(rt: &HostRuntime) -> Result<u8, Exit> {
     }
 }
 
-/// The exit status where the arguments can't be read: where memory runs out, or since one is not valid UTF-8.
+/// Returns the exit status if the arguments cannot be read, because memory ran out or one of them is not valid UTF-8.
 fn without_arguments(rt: &HostRuntime, error: &io::Error) -> io::Result<u8> {
     if error.kind() == ErrorKind::OutOfMemory {
         return without_memory(rt);
@@ -90,13 +90,13 @@ fn without_arguments(rt: &HostRuntime, error: &io::Error) -> io::Result<u8> {
     Ok(WORDS)
 }
 
-/// The exit status where memory is refused for the arguments.
+/// Returns the exit status if an allocation for the arguments failed.
 fn without_memory(rt: &HostRuntime) -> io::Result<u8> {
     report(rt, &ChoiceFault::Memory)?;
     Ok(MEMORY)
 }
 
-/// Executes the command, and answers the exit status.
+/// Executes the command and returns the exit status.
 fn execute(rt: &HostRuntime, chosen: &Choice<'_>) -> Result<u8, Exit>
     requires { (reading : Option (Text × List Row)) × IsChoiceOf reading chosen.now }
 {

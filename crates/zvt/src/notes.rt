@@ -57,7 +57,7 @@ pub const UNFOLLOWED: &str =
     "the till sent a refund or an order of a pre-authorisation, which the audit does not \
     follow: find 'Other 0631' and 'Other 0622' to 'Other 0625' in 'zvt show'";
 
-/// Reports how much of a trace that was followed is bad. Its output has said where.
+/// Reports how much of a followed trace is bad, and whether an order was not followed. Its output shows where.
 pub fn report_counts(
     rt: &HostRuntime,
     answer: &Result<AuditSummary, TraceFault>,
@@ -76,7 +76,7 @@ pub fn report_counts(
     Ok(())
 }
 
-/// The line of the trace, counted from 1, that can't be read, if that is why the command ended.
+/// Returns the line of the trace, counted from 1, that cannot be read, if that is why the command ended.
 pub fn faulty_line(
     command: &TraceCommand<'_>,
     answer: &Result<AuditSummary, TraceFault>,
@@ -89,7 +89,7 @@ pub fn faulty_line(
     }
 }
 
-/// Reports why that line can't be read.
+/// Reports why that line cannot be read.
 pub fn report_hint(
     rt: &HostRuntime,
     input: Input<'_>,
@@ -105,7 +105,7 @@ pub fn report_hint(
     }
 }
 
-/// What the command does not read after a refusal, if it reads messages of a line.
+/// Returns how much the command skips after a refusal, if it reads messages of a line.
 fn scope_of(command: &TraceCommand<'_>) -> Option<Scope>
     ensures { result ≡ scope_of command.now }
 {
@@ -116,7 +116,7 @@ fn scope_of(command: &TraceCommand<'_>) -> Option<Scope>
     }
 }
 
-/// Reports the bad streams of the trace, or that memory was refused for that. It answers whether there was memory.
+/// Reports the bad streams of the trace, or that memory ran out. Returns whether memory sufficed.
 fn report_bad_streams(
     rt: &HostRuntime,
     input: Input<'_>,

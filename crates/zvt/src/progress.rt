@@ -1,8 +1,8 @@
-//! How far a long command over several files is, for a person who waits.
+//! Shows the progress of a long command over several files.
 use std::io::{self, IsTerminal};
 use std::time::Instant;
 
-/// How long a command runs before it reports how far it is.
+/// The number of seconds before a command shows its progress.
 const SECONDS: u64 = 1;
 
 /// Shows the number of finished files on a line of a terminal device, which the next text overwrites. Shows nothing
@@ -32,7 +32,7 @@ impl Progress {
         }
     }
 
-    /// One more file is done.
+    /// Counts one more finished file.
     pub fn step(&mut self, rt: &HostRuntime) -> io::Result<()> {
         self.done = self.done.saturating_add(1);
         let Some(started) = self.started else {

@@ -11,7 +11,8 @@ use zvt_term::Verdict;
 use zvt_till::TillSettings;
 use zvt_tool::TillOptions;
 
-/// The settings that the words name. A setting without a word is the default one. The first wrong word is reported.
+/// Returns the settings that the words name, with the default for each missing word. Reports the first wrong word, and
+/// returns `None` then.
 pub fn settings(rt: &HostRuntime, options: &TillOptions<'_>) -> io::Result<Option<TillSettings>>
     ensures { IfOk result (λ settings. AreSettings options.now settings) }
 {
@@ -32,7 +33,7 @@ pub fn settings(rt: &HostRuntime, options: &TillOptions<'_>) -> io::Result<Optio
     }))
 }
 
-/// The password that the word names, or the default one. A wrong word is reported.
+/// Returns the password that the word names, or the default one. Reports a wrong word.
 fn password(rt: &HostRuntime, default: [u8; 3], word: Option<&str>) -> io::Result<Option<[u8; 3]>>
     ensures { IfOk result (λ password. password ≡ named default password_of word.entry) }
 {
@@ -51,7 +52,7 @@ fn password(rt: &HostRuntime, default: [u8; 3], word: Option<&str>) -> io::Resul
     Ok(password)
 }
 
-/// The configuration byte that the word names, or the default one. A wrong word is reported.
+/// Returns the configuration byte that the word names, or the default one. Reports a wrong word.
 fn config(rt: &HostRuntime, default: u8, word: Option<&str>) -> io::Result<Option<u8>>
     ensures { IfOk result (λ config. config ≡ named default config_of word.entry) }
 {
@@ -70,7 +71,7 @@ fn config(rt: &HostRuntime, default: u8, word: Option<&str>) -> io::Result<Optio
     Ok(config)
 }
 
-/// The currency that the word names, or the default one. A wrong word is reported.
+/// Returns the currency that the word names, or the default one. Reports a wrong word.
 fn currency(rt: &HostRuntime, default: Currency, word: Option<&str>) -> io::Result<Option<Currency>>
     ensures { IfOk result (λ currency. currency ≡ named default currency_of word.entry) }
 {
@@ -89,8 +90,8 @@ fn currency(rt: &HostRuntime, default: Currency, word: Option<&str>) -> io::Resu
     Ok(currency)
 }
 
-/// The terminal's verdict on payments. It declines them with the code that the word names, and without a word it
-/// approves them. A wrong word is reported.
+/// Returns the terminal's decision on payments: it declines them with the code that the word names, or approves them if
+/// there is no word. Reports a wrong word.
 pub fn verdict(rt: &HostRuntime, decline: Option<&str>) -> io::Result<Option<Verdict>>
     ensures { IfOk result (λ verdict. verdict ≡ verdict_named decline.entry) }
 {

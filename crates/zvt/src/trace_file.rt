@@ -1,24 +1,24 @@
-//! The file that the trace of a run goes to.
+//! The file for the trace of a run.
 use crate::exit::Exit;
 use crate::reports::{report_failed, report_on};
 use std::fs::{File, OpenOptions};
 use std::io::{self, Read, Seek, SeekFrom, Write};
 use zvt_tool::statuses::{DEVICE, TRACE};
 
-/// What the first line of a journal begins with.
+/// The beginning of a journal's first line.
 const JOURNAL: [u8; 15] = *b"# zvt journal 1";
 
-/// The most bytes that a line of a recorded chunk has before its line feed: the side, a space, and 1,024 bytes as
-/// digits.
+/// Maximum number of bytes in the line of a recorded chunk, without its line feed: the side, a space, and 1,024 bytes
+/// as digits.
 const MOST_OF_A_LINE: usize = 2 + 2 * 1024;
 
-/// What is reported of a file that is a book.
+/// The report on a file that is a book.
 const A_BOOK: &str =
     "this is a till's book, which a trace would end: name another file for the trace";
 
-/// The file of a trace, if one is named. The trace is appended to the file, after a `!` for the lost connection. A
-/// line that a full disk or a crash left unfinished at the end of the file is cut off first. Both are reported. A file
-/// that can't be written, and one that is a journal, is reported.
+/// Opens the file for a trace, if one is named. The trace is appended to the file, after a `!` for the lost connection.
+/// If a full disk or a crash left an incomplete line at the end of the file, that line is removed first. Reports both,
+/// and also a file that cannot be written or that is a journal.
 pub fn opened(rt: &HostRuntime, path: Option<&str>) -> Result<Option<File>, Exit> {
     let Some(path) = path else {
         return Ok(None);
@@ -71,7 +71,7 @@ pub fn mend_after(
     Ok(status)
 }
 
-/// Cuts off an unfinished line at the end of this file, and answers how many bytes it had.
+/// Removes an incomplete line from the end of this file, and returns its size in bytes.
 fn mend(rt: &HostRuntime, path: &str, file: &File) -> io::Result<usize> {
     let found = file.metadata()?;
     if !found.is_file() || found.len() == 0 {
@@ -80,7 +80,7 @@ fn mend(rt: &HostRuntime, path: &str, file: &File) -> io::Result<usize> {
     cut_torn(file, &mut File::open(rt, path)?, found.len())
 }
 
-/// Reports how many bytes of an unfinished line were cut off, if any were.
+/// Reports the size of an incomplete line that was removed, if one was.
 fn report_cut(rt: &HostRuntime, path: &str, cut: usize) -> io::Result<()> {
     if cut == 0 {
         return Ok(());
@@ -92,13 +92,14 @@ fn report_cut(rt: &HostRuntime, path: &str, cut: usize) -> io::Result<()> {
 #[derive(Drop)]
 struct Trace {
     file: File,
-    /// How many bytes of an unfinished line were cut off.
+    /// The number of bytes removed from an incomplete line.
     cut: usize,
-    /// Whether the file has something before the run.
+    /// Whether the file had content before the run.
     is_appended: bool,
 }
 
-/// Opens the file of a trace, which is made if it is not there. None is a journal, which stays as it is.
+/// Opens the file for a trace, and creates it if it does not exist. Returns `None` for a journal, which does not
+/// change.
 fn open(rt: &HostRuntime, path: &str) -> io::Result<Option<Trace>> {
     let mut file = OpenOptions::new().append(true).create(true).open(rt, path)?;
     let found = file.metadata()?;
@@ -129,8 +130,8 @@ fn open(rt: &HostRuntime, path: &str) -> io::Result<Option<Trace>> {
     }))
 }
 
-/// Cuts off a line without an end at the end of the file, if it is the beginning of one that a chunk is recorded in. It
-/// answers how many bytes it had. A last line of any other kind is left.
+/// Removes a line without a line feed from the end of the file, if it is the beginning of a recorded chunk, and returns
+/// its size. Leaves any other last line.
 fn cut_torn(file: &File, before: &mut File, size: u64) -> io::Result<usize> {
     let mut buffer = [0; MOST_OF_A_LINE + 1];
     let taken = size.min(buffer.len() as u64);
@@ -144,7 +145,7 @@ fn cut_torn(file: &File, before: &mut File, size: u64) -> io::Result<usize> {
     Ok(cut)
 }
 
-/// What stands behind the last line feed, if it is the beginning of a line that a chunk is recorded in.
+/// Returns the bytes after the last line feed, if they are the beginning of a recorded chunk.
 fn torn(last: &[u8]) -> &[u8] {
     let tail = match last.iter().rposition(|byte| *byte == b'\n') {
         Some(at) => &last[at + 1..],
@@ -160,7 +161,7 @@ fn torn(last: &[u8]) -> &[u8] {
     if is_torn { tail } else { &[] }
 }
 
-/// Whether the file begins as a journal does.
+/// Returns whether the file begins like a journal.
 fn is_journal(file: &mut File) -> io::Result<bool> {
     let mut first = [0; JOURNAL.len()];
     match file.read_exact(&mut first) {
@@ -170,7 +171,7 @@ fn is_journal(file: &mut File) -> io::Result<bool> {
     }
 }
 
-/// Whether the last byte of the file, which has one, ends a line.
+/// Returns whether the last byte of the file, which is not empty, ends a line.
 fn ends_line(file: &mut File) -> io::Result<bool> {
     let mut last = [0];
     file.seek(SeekFrom::End(-1))?;

@@ -54,7 +54,7 @@ pub(crate) fn form_of(high: u8, low: u8) -> Option<Form>
     }
 }
 
-/// The layout of data of that size after these control bytes.
+/// Returns the layout of data of this size after these control bytes.
 #[inline(always)]
 pub(crate) fn layout_of(high: u8, low: u8, size: usize) -> Layout
     ensures { result ≡ layout_of high low size }
@@ -89,7 +89,7 @@ fn bytes_after(count: usize) -> Layout
     }
 }
 
-/// Whether data of that many bytes can have that layout.
+/// Returns whether data of this many bytes can have this layout.
 fn can_fill(layout: Layout, size: usize) -> bool
     requires { head_size layout ≤ 6 }
     ensures { result ≡ can_fill layout size }

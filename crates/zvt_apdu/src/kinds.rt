@@ -58,7 +58,7 @@ pub fn kind_at(high: u8, low: u8) -> Kind
     }
 }
 
-/// The message whose data are these first bytes and bytes of any value.
+/// Returns the message whose data are these first bytes, followed by bytes of any value.
 #[inline(always)]
 pub(crate) fn bytes_message(high: u8, low: u8, first: &[u8], payload: Vec<u8>) -> Message
     requires laid { layout_of high low (length first.now + length payload.items) ≡ bytes_after (length first.now) }
@@ -79,7 +79,7 @@ pub(crate) fn bytes_message(high: u8, low: u8, first: &[u8], payload: Vec<u8>) -
     }
 }
 
-/// The message of these control bytes whose data are a byte of its own, if any, and bytes of any value.
+/// Returns the message with these control bytes whose data are one fixed byte, if any, followed by bytes of any value.
 #[inline(always)]
 fn named_bytes(high: u8, low: u8, first: &[u8], payload: Vec<u8>) -> Message
     requires named { form_of high low ≡ Some (BytesFrom (length first.now)) }
@@ -87,19 +87,19 @@ fn named_bytes(high: u8, low: u8, first: &[u8], payload: Vec<u8>) -> Message
     ensures { (r : Reading) → IsMessage r high low (first.now ++ payload.items) (message_of result) }
 {
     let [byte, ..] = first else {
-        return if high == 0x84 {
+        return if high == control_bytes::NACK {
             Message::Nack { code: low, payload }
         } else {
             Message::Ack { payload }
         };
     };
-    if high == 0x04 {
+    if high == control_bytes::INTERMEDIATE[0] {
         return Message::Intermediate {
             status: *byte,
             payload,
         };
     }
-    if low == 0x1E {
+    if low == control_bytes::ABORT[1] {
         return Message::Abort {
             code: *byte,
             payload,
@@ -134,7 +134,7 @@ pub(crate) fn fields_message(high: u8, low: u8, first: &[u8], fields: Fields) ->
     }
 }
 
-/// The message of these control bytes whose data are a password, if any, and fields.
+/// Returns the message with these control bytes whose data are a password, if any, followed by fields.
 #[inline(always)]
 fn named_fields(high: u8, low: u8, first: &[u8], fields: Fields) -> Message
     requires named { form_of high low ≡ Some (FieldsFrom (length first.now)) }
@@ -144,19 +144,23 @@ fn named_fields(high: u8, low: u8, first: &[u8], fields: Fields) -> Message
 {
     if first.len() == 3 {
         let password = [first[0], first[1], first[2]];
-        return if low == 0x30 {
+        return if low == control_bytes::REVERSAL[1] {
             Message::Reversal { password, fields }
         } else {
             Message::EndOfDay { password, fields }
         };
     }
-    if high == 0x04 {
+    if high == control_bytes::STATUS[0] {
         return Message::Status(fields);
     }
-    match low {
-        0x01 => Message::Authorisation(fields),
-        0x0F => Message::Completion(fields),
-        0xB0 => Message::AbortOrder(fields),
-        _ => Message::TextBlock(fields),
+    if low == control_bytes::AUTHORISATION[1] {
+        return Message::Authorisation(fields);
     }
+    if low == control_bytes::COMPLETION[1] {
+        return Message::Completion(fields);
+    }
+    if low == control_bytes::ABORT_ORDER[1] {
+        return Message::AbortOrder(fields);
+    }
+    Message::TextBlock(fields)
 }

@@ -9,12 +9,12 @@ ghost use Rattle.zvt_apdu.specs.Laws.{MessagesEndThemselves, NeverNotShortest, N
 ghost use Rattle.zvt_apdu.specs.Laws.{PositionsAreOne, RefusalsAreOne, SpelledIsFaultless, SpellingsAreRead};
 ghost use Rattle.zvt_apdu.specs.Laws.{StrictIsPadded, StrictStays, TestsDecide};
 
-/// No spelling begins another, and two messages share none.
+/// No message's encoding begins another one, and no two messages share an encoding.
 pub fn messages_end_themselves()
     ensures { MessagesEndThemselves }
 {}
 
-/// A message has one spelling.
+/// In the shortest reading, each message has exactly one encoding.
 pub fn spellings_are_one()
     ensures { SpellingsAreOne (Spells shortest) }
 {}
@@ -27,17 +27,17 @@ pub fn cuts_are_one()
     ensures growth { (r : Reading) → Growth (Spells r) }
 {}
 
-/// Each prefix of what can be completed can be completed.
+/// If bytes can be completed to a message, so can each prefix of them.
 pub fn prefixes_are_alive()
     ensures { (r : Reading) → PrefixesAlive (Spells r) }
 {}
 
-/// Of a spelling with anything after it, the answer is its message and its size.
+/// If bytes start with the encoding of a message, the reader returns that message and its size.
 pub fn spellings_are_read()
     ensures { SpellingsAreRead }
 {}
 
-/// Each beginning that can be completed, and holds no message, is at a position.
+/// Bytes that can be completed to a message, and do not contain one yet, end at a position.
 pub fn each_beginning_stands()
     ensures { EachBeginningStands }
 {}
@@ -47,7 +47,7 @@ pub fn positions_are_one()
     ensures { PositionsAreOne }
 {}
 
-/// At a position, one more byte leaves the bytes alive exactly where its tests pass.
+/// At a position, one more byte keeps the bytes completable exactly if its tests pass.
 pub fn tests_decide()
     ensures { TestsDecide }
 {}
@@ -57,30 +57,31 @@ pub fn refusals_are_one()
     ensures { RefusalsAreOne }
 {}
 
-/// Bytes have one answer.
+/// Bytes have exactly one result.
 pub fn answers_are_one()
     ensures { AnswersAreOne }
 {}
 
-/// Later bytes change no answer except more.
+/// Further bytes change no result except `More`.
 pub fn answers_stay()
     ensures { AnswersStay }
 {}
 
-/// A message has one fault, or a spelling.
+/// A message has either an encoding or exactly one fault.
 pub fn faults_are_one()
     ensures faults { FaultsAreOne }
     ensures faultless { SpelledIsFaultless }
 {}
 
-/// The strict reading is a part of the padded one, with the same messages; that one refuses no length for its form.
+/// The padded reading accepts everything that the strict one accepts, as the same messages, and refuses no length for
+/// its form.
 pub fn strict_is_padded()
     ensures spelled { StrictIsPadded }
     ensures found { StrictStays }
     ensures forms { NeverNotShortest }
 {}
 
-/// A message of padded lengths has one strict spelling, and that is its own.
+/// A message with padded lengths has exactly one strict encoding, and that is its own strict encoding.
 pub fn normals_are_one()
     ensures one { NormalsAreOne }
     ensures stay { NormalsStay }

@@ -1,4 +1,4 @@
-//! Writes the parts of short messages, those of a till and those of a terminal, without memory.
+//! Writes the parts of short messages, from a till or a terminal, without allocating.
 ghost use Rattle.std.specs.Prelude.{◌≡◌, ◌+◌, ◌++◌, ◌∷◌, ◌<◌, ◌≤◌, ◌^◌, length};
 ghost use Rattle.zvt_grammar.specs.Reading.{AreBytes};
 ghost use Rattle.zvt_tlv.specs.Sizes.{Puts};

@@ -35,7 +35,7 @@ impl Currency {
         }
     }
 
-    /// The number.
+    /// Returns the number.
     pub fn get(self) -> u16
         ensures value { result ≡ self }
         ensures most { result ≤ 9999 }

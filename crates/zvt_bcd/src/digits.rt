@@ -2,7 +2,7 @@
 ghost use Rattle.std.specs.Prelude.{◌≡◌, ◌↔◌, ◌^◌, ◌<◌, ◌≤◌, length, IsTrue};
 ghost use Rattle.zvt_bcd.specs.Digits.{AreDigits, IsDigitPair, number_of, pair_number};
 
-/// Whether both halves of each byte are decimal digits.
+/// Returns whether both halves of each byte are decimal digits.
 pub fn is_digits(bytes: &[u8]) -> bool
     ensures { IsTrue result ↔ AreDigits bytes.now }
 {

@@ -32,7 +32,7 @@ impl Trace {
         }
     }
 
-    /// The number.
+    /// Returns the number.
     pub fn get(self) -> u32
         ensures value { result ≡ self }
         ensures most { result ≤ 999999 }

@@ -1,4 +1,4 @@
--- How what a handle owns is told apart.
+-- An encoding that distinguishes the contents of a handle.
 use Rattle.std.proofs.Common.{refl}
 use Rattle.std.specs.Coded.{Coded, code_by, coded×, codes}
 use Rattle.zvt_till.specs.View.{TillValue}

@@ -1,4 +1,4 @@
--- What bytes of a terminal make of a till and its stream.
+-- The effect of a terminal's bytes on a till and its stream.
 use Rattle.std.specs.Prelude.{◌≡◌, ℕ, true, cond, List, [], length, Option, Some, None}
 use Rattle.zvt_apdu.specs.Message.{Message}
 use Rattle.zvt_apdu.specs.Briefs.{message_of_brief, PutsMessage}
@@ -19,22 +19,23 @@ use Rattle.zvt_c.specs.declared.numbers.ZvtStep.{ZvtStep}
 use Rattle.zvt_c.specs.Answers.{code_of_why}
 use Rattle.zvt_c.specs.Numbers.{nothing, outcome_of, silent}
 use Rattle.zvt_c.specs.Saving.{Written}
+use Rattle.zvt_c.specs.Statuses as statuses
 
--- What the till is to send: nothing, or the spelling of one message at the start of the room.
+-- The bytes to send: none, or the encoding of one message at the start of the buffer.
 abbrev pub Sends : Option Outgoing → (buffer_before buffer_after : List ℕ) → (send : ℕ) → Type 0
 Sends None before after send = (send ≡ 0) × (after ≡ before)
 Sends (Some outgoing) before after send = PutsMessage (message_of_brief outgoing.brief) before after send
 
--- What a till answers to a message, while its line is up.
+-- The till's reply to a message, while its line is up.
 abbrev pub replied : TillState → Message → Option Outgoing
 replied state message = cond state.line_up (reply_to (heard_as message)) None
 
--- The text of a print line is at the start of its room where it fits, and its size is reported.
+-- The text of a print line is at the start of its buffer if it fits, and its size is reported.
 abbrev pub Prints : Option (List ℕ) → (line_before line_after : List ℕ) → (size printed : ℕ) → Type 0
 Prints None before after size printed = (after ≡ before) × (size ≡ 0) × (printed ≡ 0)
 Prints (Some text) before after size printed = Written text size before after × (printed ≡ 1)
 
--- A message leads the till from one state to another, is answered so, and is reported in these numbers.
+-- A message leads the till from one state to another, gets this reply, and is reported in these numbers.
 pub record TellsMessage (apdu : Message) (taken : ℕ) (before after : TillState) (buffer_before buffer_after line_before line_after : List ℕ) (answer : ZvtStep) : Type 0 where
   pub state : after ≡ step before (Heard (heard_as apdu))
   pub sends : Sends (replied before apdu) buffer_before buffer_after answer.send
@@ -45,27 +46,28 @@ pub record TellsMessage (apdu : Message) (taken : ℕ) (before after : TillState
   pub place : answer.place ≡ 0
   pub reason : answer.reason ≡ 0
 
--- What was fed leads the till from one state to another, is answered so, and is reported in these numbers.
+-- The fed bytes lead the till from one state to another, get this reply, and are reported in these numbers.
 abbrev pub Told : Fed → (piece : List ℕ) → (before after : TillState) → (buffer_before buffer_after line_before line_after : List ℕ) → ZvtStep → (status : ℕ) → Type 0
 Told (Whole apdu taken) piece before after buffer_before buffer_after line_before line_after answer status =
-    TellsMessage apdu taken before after buffer_before buffer_after line_before line_after answer × (status ≡ 0)
+    TellsMessage apdu taken before after buffer_before buffer_after line_before line_after answer × (status ≡ statuses.ok)
 Told More piece before after buffer_before buffer_after line_before line_after answer status =
-    (after ≡ before) × (buffer_after ≡ buffer_before) × (line_after ≡ line_before) × (answer ≡ silent (length piece) 0 0 (outcome_of None)) × (status ≡ 0)
+    (after ≡ before) × (buffer_after ≡ buffer_before) × (line_after ≡ line_before) × (answer ≡ silent (length piece) 0 0 (outcome_of None)) × (status ≡ statuses.ok)
 Told (Refused place why) piece before after buffer_before buffer_after line_before line_after answer status =
     (after ≡ step before Malformed) × (buffer_after ≡ buffer_before) × (line_after ≡ line_before)
-    × (answer ≡ silent 0 place (code_of_why why) (outcome_of (outcome_at before Malformed))) × (status ≡ 2)
+    × (answer ≡ silent 0 place (code_of_why why) (outcome_of (outcome_at before Malformed))) × (status ≡ statuses.refused)
 
 -- The status of a feed that failed.
 abbrev pub status_of_failure : FeedError → ℕ
-status_of_failure Stopped = 7
-status_of_failure Memory = 3
+status_of_failure Stopped = statuses.stopped
+status_of_failure Memory = statuses.no_memory
 
--- Bytes are taken for stopped only where bytes were refused before.
+-- A feed reports `Stopped` only if bytes were refused before.
 abbrev pub IsFailure : FeedError → Session → Type 0
 IsFailure Stopped end = end.stream.stopped ≡ true
 IsFailure Memory end = Unit {0}
 
--- What a feed of an open handle is: the stream's, and the till's; or nothing, where bytes were refused before or memory was.
+-- A feed of an open session feeds the stream and the till; or nothing happens, because bytes were refused before or
+-- memory ran out.
 pub data FeedsEnd (before : Session) (piece : List ℕ) (after : Session) (buffer_before buffer_after line_before line_after : List ℕ) (answer : ZvtStep) (status : ℕ) : Type 0 where
   fed : (fed : Fed) → Feeds before.stream piece fed after.stream → Told fed piece before.till.state after.till.state buffer_before buffer_after line_before line_after answer status
       → FeedsEnd before piece after buffer_before buffer_after line_before line_after answer status
@@ -74,6 +76,6 @@ pub data FeedsEnd (before : Session) (piece : List ℕ) (after : Session) (buffe
 
 -- A handle is fed, and no print line is handed out.
 abbrev pub FeedsHandle : Option Session → (piece : List ℕ) → Option Session → (buffer_before buffer_after : List ℕ) → ZvtStep → (status : ℕ) → Type 0
-FeedsHandle None piece after buffer_before buffer_after answer status = (after ≡ None) × (buffer_after ≡ buffer_before) × (answer ≡ nothing) × (status ≡ 6)
+FeedsHandle None piece after buffer_before buffer_after answer status = (after ≡ None) × (buffer_after ≡ buffer_before) × (answer ≡ nothing) × (status ≡ statuses.closed)
 FeedsHandle (Some before) piece after buffer_before buffer_after answer status =
     (end : Session) × (after ≡ Some end) × FeedsEnd before piece end buffer_before buffer_after [] [] answer status

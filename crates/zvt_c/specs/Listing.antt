@@ -11,6 +11,7 @@ use Rattle.zvt_c.specs.declared.session.Session.{Session}
 use Rattle.zvt_c.specs.Records.{Records}
 use Rattle.zvt_c.specs.Recovering.{refused_as}
 use Rattle.zvt_c.specs.Saving.{bare}
+use Rattle.zvt_c.specs.Statuses as statuses
 
 -- the line of a payment of this kind: the kind, and the payment's note
 abbrev pub note_line : (kind note : List ℕ) → List ℕ
@@ -23,7 +24,8 @@ note_lines kind notes = flat_map (note_line kind) notes
 abbrev pub notes_text : (booked unclear : List (List ℕ)) → List ℕ
 notes_text booked unclear = note_lines (codes "booked") booked ++ note_lines (codes "unclear") unclear
 
--- The lines are those of the till that is recovered from the text with these settings. Or there is no such till, for the reason in the answer.
+-- The lines belong to the till that is recovered from the text with these settings. Or there is no such till, for the
+-- reason in the answer.
 pub data ListsNotes (settings : Settings) (text buffer_before buffer_after : List ℕ) (answer : ZvtAnswer) : Type 0 where
   listed : (till : TillValue) (booked unclear : List (List ℕ)) → Recovers settings text (Ok till) → HasNotes settings text till.state booked unclear
       → Records (notes_text booked unclear) buffer_before buffer_after answer → ListsNotes settings text buffer_before buffer_after answer
@@ -32,5 +34,5 @@ pub data ListsNotes (settings : Settings) (text buffer_before buffer_after : Lis
 
 -- With a closed handle nothing is written.
 abbrev pub ListsHandle : Option Session → (text buffer_before buffer_after : List ℕ) → ZvtAnswer → Type 0
-ListsHandle None text before after answer = (after ≡ before) × (answer ≡ bare 6)
+ListsHandle None text before after answer = (after ≡ before) × (answer ≡ bare statuses.closed)
 ListsHandle (Some end) text before after answer = ListsNotes end.till.state.settings text before after answer

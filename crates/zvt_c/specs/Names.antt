@@ -1,4 +1,4 @@
--- The names of what numbers represent: each table has the numbers and the names that are elsewhere.
+-- The names of numbers. Each table takes its numbers and names from their definitions.
 use Rattle.std.specs.Prelude.{ℕ, ◌==◌, nat_lt, cond, List, [], ◌∷◌, None, option_map, unwrap_or, find, codes}
 use Rattle.zvt_grammar.specs.Names.{why_name}
 use Rattle.zvt_grammar.specs.declared.why.Why.TheVariants.{NotShortest, DoesNotFit, LengthForm, TooDeep, TagTooLong, UnknownField, NotDigit, LengthDigit}
@@ -12,7 +12,7 @@ use Rattle.zvt_c.specs.Numbers.{ended}
 use Rattle.zvt_c.specs.Ordering.{status_of}
 use Rattle.zvt_text.specs.Results.{meaning_of}
 
--- The name after a number, or nothing, where the table lacks it.
+-- The name for a number, or an empty text if the table does not contain it.
 abbrev pub name_in : List (ℕ × List ℕ) → (number : ℕ) → List ℕ
 name_in rows number = unwrap_or (option_map (λ row. row.1) (find (λ row. row.0 == number) rows)) []
 
@@ -42,7 +42,7 @@ causes =
     (cause_code WrongCurrency, cause_name WrongCurrency) ∷
     []
 
--- The kinds of outcomes, by the words with which the program's lines of them begin.
+-- The kinds of outcomes, by the words with which the program prints them.
 abbrev pub outcomes : List (ℕ × List ℕ)
 outcomes =
     ((ended Registered).kind, codes "registered") ∷
@@ -68,6 +68,6 @@ refusals =
     (status_of NoReceipt, refusal_name NoReceipt) ∷
     []
 
--- What a result code means, or nothing: a code is one byte.
+-- The meaning of a result code, or an empty text. A code is one byte.
 abbrev pub meaning_in : (code : ℕ) → List ℕ
 meaning_in code = cond (nat_lt code 256) (unwrap_or (meaning_of code) []) []

@@ -19,7 +19,7 @@ use Rattle.zvt_c.specs.declared.numbers.ZvtState.{ZvtState}
 use Rattle.zvt_c.specs.declared.numbers.ZvtStep.{ZvtStep}
 use Rattle.zvt_c.specs.declared.numbers.ZvtEntry.{ZvtEntry}
 
--- A receipt number, and whether there is one.
+-- A receipt number, and 1 if there is one.
 abbrev pub receipt_of : Option (List ℕ) → ℕ × ℕ
 receipt_of None = (0, 0)
 receipt_of (Some bytes) = (slice_index_or bytes 0 0 * 256 + slice_index_or bytes 1 0, 1)
@@ -45,12 +45,12 @@ abbrev pub outcome_of : Option Outcome → ZvtOutcome
 outcome_of None = coded 0 0
 outcome_of (Some outcome) = ended outcome
 
--- What a call came to that has nothing to send.
+-- A step in which nothing is sent.
 abbrev pub silent : (taken place reason : ℕ) → ZvtOutcome → ZvtStep
 silent taken place reason outcome =
     record { taken = taken; send = 0; place = place; line = 0; reason = reason; message = 0; printed = 0; outcome = outcome }
 
--- Nothing taken, sent or ended.
+-- A step in which nothing is taken, sent or ended.
 abbrev pub nothing : ZvtStep
 nothing = silent 0 0 0 (outcome_of None)
 
@@ -58,7 +58,7 @@ nothing = silent 0 0 0 (outcome_of None)
 abbrev pub only_sends : ℕ → ZvtStep
 only_sends send = record { taken = 0; send = send; place = 0; line = 0; reason = 0; message = 0; printed = 0; outcome = outcome_of None }
 
--- What the reversals of a payment leave open, and the cause where the last is unclear.
+-- The doubt about a payment's reversals, and the cause if the last one is unclear.
 abbrev pub doubt_of : Doubt → ℕ × ℕ
 doubt_of No = (0, 0)
 doubt_of (UnclearReversal cause) = (1, cause_code cause)
@@ -77,17 +77,17 @@ row_of entry =
       doubt = (doubt_of entry.doubt).0;
     }
 
--- A trace number that was heard, or 0.
+-- A trace number that the terminal named, or 0.
 abbrev pub trace_of : Option ℕ → ℕ
 trace_of None = 0
 trace_of (Some trace) = trace
 
--- The numbers that were heard of a payment, if any were.
+-- The numbers that the terminal named for a payment, if any.
 abbrev pub numbers_of : Option Numbers → Numbers
 numbers_of None = no_numbers
 numbers_of (Some numbers) = numbers
 
--- A row of the unclear payments, with what was heard of it.
+-- An unclear payment, with the numbers that the terminal named for it.
 abbrev pub unclear_row_of : ℕ × Cause → Numbers → ZvtEntry
 unclear_row_of row heard =
     record {
@@ -100,7 +100,7 @@ unclear_row_of row heard =
       doubt = 0;
     }
 
--- The kind of the running order: 0 where none runs.
+-- The kind of the running order, or 0 if none is running.
 abbrev pub kind_of_running : Option Order → ℕ
 kind_of_running None = 0
 kind_of_running (Some Register) = 1

@@ -1,4 +1,4 @@
--- What an order of a caller makes of a till.
+-- The effect of a caller's order on a till.
 use Rattle.std.specs.Prelude.{◌≡◌, ◌==◌, ◌&&◌, nat_le, ℕ, cond, List, Option, Some, None, is_some, MatchOption}
 use Rattle.zvt_apdu.specs.Briefs.{message_of_brief, PutsMessage}
 use Rattle.zvt_till.specs.declared.orders.Order.{Order}
@@ -13,8 +13,9 @@ use Rattle.zvt_till.specs.View.{IsRefusedAs}
 use Rattle.zvt_c.specs.declared.session.Session.{Session}
 use Rattle.zvt_c.specs.declared.numbers.ZvtStep.{ZvtStep}
 use Rattle.zvt_c.specs.Numbers.{nothing, only_sends}
+use Rattle.zvt_c.specs.Statuses as statuses
 
--- The payment of so much, where it is an amount that a message can hold.
+-- The payment of this amount, if a message can hold it.
 abbrev pub payment_of : ℕ → Option Order
 payment_of number = cond (nat_le 1 number && nat_le number 999999999999) (Some (Pay number)) None
 
@@ -25,29 +26,31 @@ order_named kind number =
 
 -- The status of a refused order.
 abbrev pub status_of : OrderRefusal → ℕ
-status_of Offline = 10
-status_of NotRegistered = 11
-status_of Busy = 12
-status_of NothingToCancel = 13
-status_of BookFull = 14
-status_of UnknownEntry = 15
-status_of AlreadyReversed = 16
-status_of NoReceipt = 17
-status_of Memory = 3
+status_of Offline = statuses.offline
+status_of NotRegistered = statuses.not_registered
+status_of Busy = statuses.busy
+status_of NothingToCancel = statuses.nothing_to_cancel
+status_of BookFull = statuses.book_full
+status_of UnknownEntry = statuses.unknown_entry
+status_of AlreadyReversed = statuses.already_reversed
+status_of NoReceipt = statuses.no_receipt
+status_of Memory = statuses.no_memory
 
--- An order is sent: its message is at the start of the room, it runs, and the answer says the message's size alone. Or it is refused:
--- nothing changes, and the answer is nothing.
+-- An order is sent: its message is at the start of the buffer, the order is running, and the answer contains only the
+-- message's size. Or the order is refused: nothing changes, and the answer is empty.
 pub data OrdersEnd (before : Session) (order : Order) (after : Session) (buffer_before buffer_after : List ℕ) (answer : ZvtStep) (status : ℕ) : Type 0 where
   sent : (message : Outgoing) → refusal (facts_of before.till.state) order ≡ None → message_of before.till.state.settings before.till.state.book order ≡ Some message
       → after.till.state ≡ accept before.till.state order → after.stream ≡ before.stream
-      → PutsMessage (message_of_brief message.brief) buffer_before buffer_after answer.send → answer ≡ only_sends answer.send → status ≡ 0 → OrdersEnd before order after buffer_before buffer_after answer status
+      → PutsMessage (message_of_brief message.brief) buffer_before buffer_after answer.send → answer ≡ only_sends answer.send → status ≡ statuses.ok → OrdersEnd before order after buffer_before buffer_after answer status
   refused : (why : OrderRefusal) → IsRefusedAs (facts_of before.till.state) before.till.spare order why → after ≡ before → buffer_after ≡ buffer_before → answer ≡ nothing → status ≡ status_of why
       → OrdersEnd before order after buffer_before buffer_after answer status
 
--- A handle is given an order by two numbers. Where they name none, or the handle is closed, nothing changes, and the answer is nothing.
+-- A handle is given an order by two numbers. If they name none, or if the handle is closed, nothing changes, and the
+-- answer is empty.
 abbrev pub OrdersHandle : Option Session → (kind number : ℕ) → Option Session → (buffer_before buffer_after : List ℕ) → ZvtStep → (status : ℕ) → Type 0
 OrdersHandle None kind number after buffer_before buffer_after answer status =
-    (after ≡ None) × (buffer_after ≡ buffer_before) × (answer ≡ nothing) × (status ≡ cond (is_some (order_named kind number)) 6 5)
+    (after ≡ None) × (buffer_after ≡ buffer_before) × (answer ≡ nothing)
+    × (status ≡ cond (is_some (order_named kind number)) statuses.closed statuses.argument)
 OrdersHandle (Some before) kind number after buffer_before buffer_after answer status =
-    MatchOption (order_named kind number) ((after ≡ Some before) × (buffer_after ≡ buffer_before) × (answer ≡ nothing) × (status ≡ 5))
+    MatchOption (order_named kind number) ((after ≡ Some before) × (buffer_after ≡ buffer_before) × (answer ≡ nothing) × (status ≡ statuses.argument))
     (λ order. (end : Session) × (after ≡ Some end) × OrdersEnd before order end buffer_before buffer_after answer status)

@@ -1,4 +1,4 @@
--- What a handle owns.
+-- The memory that a handle owns.
 use Rattle.std.specs.Prelude.{Option, Some, None}
 use base.Fml.{Fml, ftrue}
 use denote.RawPtr.{Ptr}

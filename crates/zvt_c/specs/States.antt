@@ -6,7 +6,7 @@ use Rattle.zvt_till.specs.Till.{TillState, new_till}
 use Rattle.zvt_c.specs.declared.session.Session.{Session}
 use Rattle.zvt_c.specs.declared.handle.ZvtTill.{ZvtTill}
 
--- What is known of the till of a handle; nothing, where the handle is closed.
+-- The state of a handle's till, or none if the handle is closed.
 abbrev pub state_of : ZvtTill → Option TillState
 state_of handle = option_map (λ end. end.till.state) handle.raw_handle.held
 

@@ -7,13 +7,14 @@ use Rattle.zvt_apdu.specs.Judging as apdu
 use Rattle.zvt_text.specs.MessageTexts.{said}
 use Rattle.zvt_c.specs.declared.answer.ZvtAnswer.{ZvtAnswer}
 use Rattle.zvt_c.specs.Answers.{answer_of, Says}
+use Rattle.zvt_c.specs.Statuses as statuses
 
--- The text is at the start of the room, or nothing was written where it does not fit.
+-- The text is at the start of the buffer; or nothing was written, because it does not fit.
 abbrev pub Writes : (text buffer_before buffer_after : List ℕ) → Type 0
 Writes text before after = MatchBool (nat_le (length text) (length before)) (after ≡ text ++ drop (length text) before) (after ≡ before)
 
--- The text of a whole message and its size; or no text, for the reason that the answer gives.
+-- The text of a complete message and its size; or no text, for the reason in the answer.
 pub data Texts (bytes buffer_before buffer_after : List ℕ) (answer : ZvtAnswer) (size : ℕ) : Type 0 where
   told : (message : Message) (taken : ℕ) → apdu.Answers shortest bytes (Whole (message, taken)) → answer ≡ answer_of (Whole (message, taken))
       → size ≡ length (said message) → Writes (said message) buffer_before buffer_after → Texts bytes buffer_before buffer_after answer size
-  untold : Says bytes answer → (answer.status ≡ 0 → ⊥) → size ≡ 0 → buffer_after ≡ buffer_before → Texts bytes buffer_before buffer_after answer size
+  untold : Says bytes answer → (answer.status ≡ statuses.ok → ⊥) → size ≡ 0 → buffer_after ≡ buffer_before → Texts bytes buffer_before buffer_after answer size

@@ -1,7 +1,9 @@
 //! Results of reading, as numbers.
 ghost use Rattle.std.specs.Prelude.{◌≡◌};
 ghost use Rattle.zvt_c.specs.Answers.{code_of_why, answer_of, out_of_memory};
+ghost use Rattle.zvt_c.specs.Statuses as statuses;
 
+use crate::statuses;
 use zvt_apdu::Apdu;
 use zvt_grammar::{Scan, Why};
 
@@ -19,7 +21,7 @@ pub struct ZvtAnswer {
     pub status: u32,
 }
 
-/// The number of a reason.
+/// Returns the number of a reason.
 pub fn reason_code(why: Why) -> u32
     ensures { result ≡ code_of_why why }
 {
@@ -35,19 +37,19 @@ pub fn reason_code(why: Why) -> u32
     }
 }
 
-/// That a whole message of that size comes first.
+/// Returns the answer that a complete message of this size comes first.
 pub fn found(size: usize) -> ZvtAnswer
-    ensures { result ≡ record { size = size; place = 0; reason = 0; status = 0 } }
+    ensures { result ≡ record { size = size; place = 0; reason = 0; status = statuses.ok } }
 {
     ZvtAnswer {
         size: size as u64,
         place: 0,
         reason: 0,
-        status: 0,
+        status: statuses::OK,
     }
 }
 
-/// An answer with nothing but its status.
+/// Returns an answer that has only a status.
 pub fn bare(status: u32) -> ZvtAnswer
     ensures { result ≡ record { size = 0; place = 0; reason = 0; status = status } }
 {

@@ -1,10 +1,11 @@
-//! The reader and the texts.
+//! Reads messages, and writes them as text.
 ghost use Rattle.std.specs.Prelude.{◌≡◌, IfSome, IfNone, length};
 ghost use Rattle.zvt_text.specs.MessageTexts.{said};
 ghost use Rattle.zvt_c.specs.Answers.{Says};
 ghost use Rattle.zvt_c.specs.Texts.{Texts, Writes};
 
 use crate::answer::{ZvtAnswer, bare, found, reason_code};
+use crate::statuses;
 use std::alloc::Global;
 use zvt_apdu::{ApduView, view};
 use zvt_grammar::Scan;
@@ -18,14 +19,14 @@ pub extern "C" fn zvt_scan(alloc: Global, bytes: &[u8], answer: &mut ZvtAnswer)
 {
     *answer = match zvt_apdu::scan(alloc, bytes) {
         Ok(Scan::Whole((_, size))) => found(size),
-        Ok(Scan::More) => bare(1),
+        Ok(Scan::More) => bare(statuses::MORE),
         Ok(Scan::Refused { place, why }) => ZvtAnswer {
             size: 0,
             place: place as u64,
             reason: reason_code(why),
-            status: 2,
+            status: statuses::REFUSED,
         },
-        Err(_) => bare(3),
+        Err(_) => bare(statuses::NO_MEMORY),
     };
 }
 
@@ -47,12 +48,12 @@ pub extern "C" fn zvt_text(
                 written
             }
             None => {
-                *answer = bare(3);
+                *answer = bare(statuses::NO_MEMORY);
                 0
             }
         },
         Ok(Scan::More) => {
-            *answer = bare(1);
+            *answer = bare(statuses::MORE);
             0
         }
         Ok(Scan::Refused { place, why }) => {
@@ -60,18 +61,18 @@ pub extern "C" fn zvt_text(
                 size: 0,
                 place: place as u64,
                 reason: reason_code(why),
-                status: 2,
+                status: statuses::REFUSED,
             };
             0
         }
         Err(_) => {
-            *answer = bare(3);
+            *answer = bare(statuses::NO_MEMORY);
             0
         }
     }
 }
 
-/// Writes the text of a message where it fits, and answers its size, or None where memory was refused.
+/// Writes the text of a message if it fits, and returns its size, or `None` if an allocation failed.
 fn report(alloc: Global, apdu: &ApduView<'_>, buffer: &mut [u8]) -> Option<usize>
     ensures some { IfSome result (λ size. (size ≡ length (said apdu.now)) × Writes (said apdu.now) buffer.old
         buffer.new) }

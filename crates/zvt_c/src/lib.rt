@@ -1,4 +1,4 @@
-//! The C library: the reader, the texts and the till, for programs in C and in languages that call C.
+//! The C library: reading messages, their text, and the till, for programs in C and in languages that call C.
 #![tactic(auto)]
 
 mod answer;
@@ -13,6 +13,7 @@ mod records;
 mod recovery;
 mod session;
 mod snapshot;
+mod statuses;
 mod stream;
 mod till;
 mod version;

@@ -4,11 +4,12 @@ ghost use Rattle.std.specs.Prelude.{◌≡◌};
 ghost use Rattle.zvt_c.specs.Names.{causes, meaning_in, name_in, outcomes, reasons, refusals};
 ghost use Rattle.zvt_c.specs.Saving.{Written};
 
+use crate::statuses;
 use zvt_grammar::Why;
 use zvt_text::meaning;
 use zvt_till::{Cause, OrderRefusal};
 
-/// Writes a name where it fits, and answers its size.
+/// Writes a name if it fits, and returns its size.
 pub(crate) fn put_name(name: &str, buffer: &mut [u8]) -> usize
     ensures { Written name.now result buffer.old buffer.new }
 {
@@ -20,7 +21,7 @@ pub(crate) fn put_name(name: &str, buffer: &mut [u8]) -> usize
     size
 }
 
-/// The name of a reason.
+/// Returns the name of a reason.
 fn reason_word(number: u32) -> &'static str
     ensures { result.now ≡ name_in reasons number }
 {
@@ -37,7 +38,7 @@ fn reason_word(number: u32) -> &'static str
     }
 }
 
-/// The name of a cause.
+/// Returns the name of a cause.
 fn cause_word(number: u32) -> &'static str
     ensures { result.now ≡ name_in causes number }
 {
@@ -56,7 +57,7 @@ fn cause_word(number: u32) -> &'static str
     }
 }
 
-/// The name of a kind of outcome.
+/// Returns the name of a kind of outcome.
 fn outcome_word(number: u32) -> &'static str
     ensures { result.now ≡ name_in outcomes number }
 {
@@ -73,25 +74,25 @@ fn outcome_word(number: u32) -> &'static str
     }
 }
 
-/// The name of the refusal of an order.
+/// Returns the name of the status of a refused order.
 fn refusal_word(number: u32) -> &'static str
     ensures { result.now ≡ name_in refusals number }
 {
     match number {
-        3 => OrderRefusal::Memory.name(),
-        10 => OrderRefusal::Offline.name(),
-        11 => OrderRefusal::NotRegistered.name(),
-        12 => OrderRefusal::Busy.name(),
-        13 => OrderRefusal::NothingToCancel.name(),
-        14 => OrderRefusal::BookFull.name(),
-        15 => OrderRefusal::UnknownEntry.name(),
-        16 => OrderRefusal::AlreadyReversed.name(),
-        17 => OrderRefusal::NoReceipt.name(),
+        statuses::NO_MEMORY => OrderRefusal::Memory.name(),
+        statuses::OFFLINE => OrderRefusal::Offline.name(),
+        statuses::NOT_REGISTERED => OrderRefusal::NotRegistered.name(),
+        statuses::BUSY => OrderRefusal::Busy.name(),
+        statuses::NOTHING_TO_CANCEL => OrderRefusal::NothingToCancel.name(),
+        statuses::BOOK_FULL => OrderRefusal::BookFull.name(),
+        statuses::UNKNOWN_ENTRY => OrderRefusal::UnknownEntry.name(),
+        statuses::ALREADY_REVERSED => OrderRefusal::AlreadyReversed.name(),
+        statuses::NO_RECEIPT => OrderRefusal::NoReceipt.name(),
         _ => "",
     }
 }
 
-/// What a result code of the terminal means, or nothing.
+/// Returns the meaning of a terminal's result code, or an empty text.
 fn result_word(code: u32) -> &'static str
     ensures { result.now ≡ meaning_in code }
 {
@@ -101,7 +102,7 @@ fn result_word(code: u32) -> &'static str
     }
 }
 
-/// The name of the reason why a byte is refused, 1 to 8.
+/// Writes the name of the reason why bytes are refused, 1 to 8.
 #[unsafe(no_mangle)]
 pub extern "C" fn zvt_reason_name(number: u32, buffer: &mut [u8]) -> usize
     ensures { Written (name_in reasons number) result buffer.old buffer.new }
@@ -109,7 +110,7 @@ pub extern "C" fn zvt_reason_name(number: u32, buffer: &mut [u8]) -> usize
     put_name(reason_word(number), buffer)
 }
 
-/// The name of the cause of an unclear payment, 1 to 10.
+/// Writes the name of the cause of an unclear payment, 1 to 10.
 #[unsafe(no_mangle)]
 pub extern "C" fn zvt_cause_name(number: u32, buffer: &mut [u8]) -> usize
     ensures { Written (name_in causes number) result buffer.old buffer.new }
@@ -117,7 +118,7 @@ pub extern "C" fn zvt_cause_name(number: u32, buffer: &mut [u8]) -> usize
     put_name(cause_word(number), buffer)
 }
 
-/// The name of a kind of outcome, 1 to 8.
+/// Writes the name of a kind of outcome, 1 to 8.
 #[unsafe(no_mangle)]
 pub extern "C" fn zvt_outcome_name(number: u32, buffer: &mut [u8]) -> usize
     ensures { Written (name_in outcomes number) result buffer.old buffer.new }
@@ -125,7 +126,7 @@ pub extern "C" fn zvt_outcome_name(number: u32, buffer: &mut [u8]) -> usize
     put_name(outcome_word(number), buffer)
 }
 
-/// The name of the status with which an order is refused, 3 or 10 to 17.
+/// Writes the name of the status of a refused order, 3 or 10 to 17.
 #[unsafe(no_mangle)]
 pub extern "C" fn zvt_refusal_name(number: u32, buffer: &mut [u8]) -> usize
     ensures { Written (name_in refusals number) result buffer.old buffer.new }

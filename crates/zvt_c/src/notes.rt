@@ -6,6 +6,7 @@ use crate::answer::{ZvtAnswer, bare};
 use crate::handle::ZvtTill;
 use crate::records::hand_out;
 use crate::recovery::{settings, unrecovered};
+use crate::statuses;
 use std::alloc::{AllocError, Global};
 use zvt_kept::{Note, Recovered, recover};
 use zvt_text::Text;
@@ -13,9 +14,9 @@ use zvt_till::Till;
 
 /// Writes the notes of a journal's payments: one line per booked payment of the till that `zvt_till_recover` makes of
 /// the same text, such as `booked at 2026-11-28T09:14:03Z ref A-1009`, then one per unclear payment, such as `unclear`.
-/// The words after the first are those that the record of the order has behind the order. The answer has the size of
-/// the lines; if the buffer is too small, nothing is written. The handle supplies the settings, and does not change.
-/// The status is 0, or 2, 3 or 6 for the reasons of `zvt_till_recover`.
+/// The words after the first are the note in the record of the payment's order. The answer contains the size of the
+/// lines; if the buffer is too small, nothing is written. The handle supplies the settings, and does not change. The
+/// status is 0, or 2, 3 or 6 for the reasons of `zvt_till_recover`.
 #[unsafe(no_mangle)]
 pub extern "C" fn zvt_record_notes(
     alloc: Global,
@@ -28,14 +29,14 @@ pub extern "C" fn zvt_record_notes(
     ensures notes { ListsHandle till.old.raw_handle.held text.now buffer.old buffer.new answer.new }
 {
     let Some(end) = till.take(alloc) else {
-        *answer = bare(6);
+        *answer = bare(statuses::CLOSED);
         return;
     };
     *answer = list_notes(alloc, &end.till, text, buffer);
     *till = ZvtTill::of(end);
 }
 
-/// Writes the notes of the till of these records, which has the settings of this one.
+/// Writes the notes of the till that these records describe, with the settings of the given till.
 fn list_notes(alloc: Global, till: &Till, text: &[u8], buffer: &mut [u8]) -> ZvtAnswer
     ensures { ListsNotes till.now.state.settings text.now buffer.old buffer.new result }
 {
@@ -49,7 +50,7 @@ fn list_notes(alloc: Global, till: &Till, text: &[u8], buffer: &mut [u8]) -> Zvt
     }
 }
 
-/// The lines of the notes of a book, and then those of the unclear payments.
+/// Adds the lines of a book's notes, and then the lines of the unclear payments' notes.
 fn say_notes(lines: &mut Text, recovered: &Recovered) -> Result<(), AllocError>
     ensures { OnOk result (lines.new ≡ lines.old ++ notes_text recovered.now.booked.items
         recovered.now.unclear.items) }
@@ -58,7 +59,7 @@ fn say_notes(lines: &mut Text, recovered: &Recovered) -> Result<(), AllocError>
     say_lines(lines, b"unclear", recovered.unclear.as_slice())
 }
 
-/// The lines of payments of this kind.
+/// Adds the lines of payments of this kind.
 fn say_lines(lines: &mut Text, kind: &[u8], notes: &[Note]) -> Result<(), AllocError>
     ensures { OnOk result (lines.new ≡ lines.old ++ note_lines kind.now notes.now) }
 {
@@ -68,7 +69,7 @@ fn say_lines(lines: &mut Text, kind: &[u8], notes: &[Note]) -> Result<(), AllocE
     Ok(())
 }
 
-/// The line of a payment of this kind.
+/// Adds the line of a payment of this kind.
 fn say_line(lines: &mut Text, kind: &[u8], note: &Note) -> Result<(), AllocError>
     ensures { OnOk result (lines.new ≡ lines.old ++ note_line kind.now note.now) }
 {

@@ -1,9 +1,10 @@
-//! Orders, outcomes and rows of the book in numbers.
+//! Orders, outcomes and entries of the book, as numbers.
 ghost use Rattle.std.specs.Prelude.{◌≡◌, None};
 ghost use Rattle.zvt_c.specs.Numbers.{coded, doubt_of, ended, kind_of_running, nothing, outcome_of, paid, receipt_of};
 ghost use Rattle.zvt_c.specs.Numbers.{row_of, trace_of, unclear_row_of};
 ghost use Rattle.zvt_c.specs.Ordering.{order_named, payment_of, status_of};
 
+use crate::statuses;
 use zvt_bcd::{Amount, Trace};
 use zvt_till::snapshot::cause_code;
 use zvt_till::{Cause, Doubt, Entry, Numbers, Order, OrderRefusal, Outcome};
@@ -14,7 +15,7 @@ use zvt_till::{Cause, Doubt, Entry, Numbers, Order, OrderRefusal, Outcome};
 pub struct ZvtOutcome {
     /// 0 none, 1 registered, 2 paid, 3 declined, 4 refused, 5 aborted, 6 unclear, 7 reversed, 8 day closed.
     pub kind: u32,
-    /// The terminal's code where declined, refused or aborted; the cause where unclear.
+    /// If the order was declined, refused or aborted, the terminal's code; if it is unclear, the cause.
     pub code: u32,
     /// The trace number of a payment.
     pub trace: u32,
@@ -27,19 +28,19 @@ pub struct ZvtOutcome {
 #[repr(C)]
 #[derive(Clone, Copy, Drop)]
 pub struct ZvtStep {
-    /// How many bytes of the piece were taken.
+    /// The number of bytes taken from the input.
     pub taken: u64,
-    /// How many bytes are to be sent: they are at the start of `out`.
+    /// The number of bytes to send, which are at the start of `out`.
     pub send: u64,
     /// If the bytes are refused, the index of the first byte after which no message can follow.
     pub place: u64,
-    /// The size of the text of the print line that was heard, which is at the start of `line` where it fits.
+    /// The size of the text of the print line. The text is at the start of `line` if it fits.
     pub line: u64,
-    /// Why the terminal's bytes are no message.
+    /// If the bytes are refused, the reason: 1 to 8.
     pub reason: u32,
     /// 1 if the consumed bytes end a message.
     pub message: u32,
-    /// 1 where the last of them is a print line.
+    /// 1 if the last message was a print line.
     pub printed: u32,
     /// How the running order ended, if it did.
     pub outcome: ZvtOutcome,
@@ -49,22 +50,22 @@ pub struct ZvtStep {
 #[repr(C)]
 #[derive(Clone, Copy, Drop)]
 pub struct ZvtState {
-    /// The sum of the payments that were not taken back.
+    /// The sum of the payments that were not reversed, in the currency's smallest unit.
     pub total: u64,
     pub booked: u64,
     pub unclear: u64,
-    /// The entries of the book whose last reversal is unclear.
+    /// The number of entries of the book whose last reversal is unclear.
     pub unclear_reversals: u64,
-    /// The bytes of an unfinished message that are held.
+    /// The number of bytes held of an incomplete message.
     pub held: u64,
     pub registered: u32,
-    /// The order that runs: 0 none, 1 register, 2 pay, 3 reverse, 4 close the day.
+    /// The running order: 0 none, 1 register, 2 pay, 3 reverse, 4 close the day.
     pub running: u32,
-    /// Returns how the last order ended.
+    /// How the last order ended.
     pub last: ZvtOutcome,
 }
 
-/// A row of the book, or of the unclear payments.
+/// An entry of the book, or an unclear payment.
 #[repr(C)]
 #[derive(Clone, Copy, Drop)]
 pub struct ZvtEntry {
@@ -72,16 +73,16 @@ pub struct ZvtEntry {
     pub trace: u32,
     pub receipt: u32,
     pub has_receipt: u32,
-    /// 1 where a completed reversal took it back.
+    /// 1 if a completed reversal took the payment back.
     pub reversed: u32,
-    /// The cause of an unclear payment, or of an unclear reversal; else 0.
+    /// The cause of an unclear payment or of an unclear reversal, or 0.
     pub cause: u32,
     /// Doubt about its reversal: 0 none, 1 the last reversal is unclear, 2 the terminal answered B4, because it had
     /// reversed the payment before. Always 0 for an unclear payment.
     pub doubt: u32,
 }
 
-/// No outcome.
+/// Returns no outcome.
 pub fn no_outcome() -> ZvtOutcome
     ensures { result ≡ outcome_of None }
 {
@@ -94,7 +95,7 @@ pub fn no_outcome() -> ZvtOutcome
     }
 }
 
-/// Nothing taken, sent or ended.
+/// Returns a step in which nothing was taken, sent or ended.
 pub fn no_step() -> ZvtStep
     ensures { result ≡ nothing }
 {
@@ -110,7 +111,7 @@ pub fn no_step() -> ZvtStep
     }
 }
 
-/// An outcome of that kind with a code.
+/// Returns an outcome of this kind with a code.
 fn coded(kind: u32, code: u32) -> ZvtOutcome
     ensures { result ≡ coded kind code }
 {
@@ -123,24 +124,24 @@ fn coded(kind: u32, code: u32) -> ZvtOutcome
     }
 }
 
-/// The status of a refused order.
+/// Returns the status of a refused order.
 pub fn refusal_status(why: OrderRefusal) -> u32
     ensures { result ≡ status_of why }
 {
     match why {
-        OrderRefusal::Offline => 10,
-        OrderRefusal::NotRegistered => 11,
-        OrderRefusal::Busy => 12,
-        OrderRefusal::NothingToCancel => 13,
-        OrderRefusal::BookFull => 14,
-        OrderRefusal::UnknownEntry => 15,
-        OrderRefusal::AlreadyReversed => 16,
-        OrderRefusal::NoReceipt => 17,
-        OrderRefusal::Memory => 3,
+        OrderRefusal::Offline => statuses::OFFLINE,
+        OrderRefusal::NotRegistered => statuses::NOT_REGISTERED,
+        OrderRefusal::Busy => statuses::BUSY,
+        OrderRefusal::NothingToCancel => statuses::NOTHING_TO_CANCEL,
+        OrderRefusal::BookFull => statuses::BOOK_FULL,
+        OrderRefusal::UnknownEntry => statuses::UNKNOWN_ENTRY,
+        OrderRefusal::AlreadyReversed => statuses::ALREADY_REVERSED,
+        OrderRefusal::NoReceipt => statuses::NO_RECEIPT,
+        OrderRefusal::Memory => statuses::NO_MEMORY,
     }
 }
 
-/// A receipt number, and whether there is one.
+/// Returns a receipt number, and 1 if there is one.
 fn receipt_numbers(receipt: Option<[u8; 2]>) -> (u32, u32)
     ensures { result ≡ receipt_of receipt }
 {
@@ -150,7 +151,7 @@ fn receipt_numbers(receipt: Option<[u8; 2]>) -> (u32, u32)
     }
 }
 
-/// A payment that was booked, in numbers.
+/// Returns the outcome of a booked payment.
 fn paid_numbers(trace: Trace, receipt: Option<[u8; 2]>) -> ZvtOutcome
     ensures { result ≡ paid trace receipt }
 {
@@ -164,7 +165,7 @@ fn paid_numbers(trace: Trace, receipt: Option<[u8; 2]>) -> ZvtOutcome
     }
 }
 
-/// How an order ended, in numbers.
+/// Returns the outcome of an order that ended.
 fn ended_numbers(outcome: &Outcome) -> ZvtOutcome
     ensures { result ≡ ended outcome.now }
 {
@@ -180,7 +181,7 @@ fn ended_numbers(outcome: &Outcome) -> ZvtOutcome
     }
 }
 
-/// How an order ended, if it did, in numbers.
+/// Returns the outcome of an order, or no outcome.
 pub fn outcome_numbers(outcome: Option<Outcome>) -> ZvtOutcome
     ensures { result ≡ outcome_of outcome }
 {
@@ -190,7 +191,7 @@ pub fn outcome_numbers(outcome: Option<Outcome>) -> ZvtOutcome
     }
 }
 
-/// What the reversals of a payment leave open, and the cause where the last is unclear.
+/// Returns the doubt about the reversals of a payment, and the cause if the last is unclear.
 fn doubt_numbers(doubt: Doubt) -> (u32, u32)
     ensures { result ≡ doubt_of doubt }
 {
@@ -201,7 +202,7 @@ fn doubt_numbers(doubt: Doubt) -> (u32, u32)
     }
 }
 
-/// A row of the book in numbers.
+/// Returns an entry of the book as numbers.
 pub fn entry_numbers(entry: &Entry) -> ZvtEntry
     ensures { result ≡ row_of entry.now }
 {
@@ -218,7 +219,7 @@ pub fn entry_numbers(entry: &Entry) -> ZvtEntry
     }
 }
 
-/// A trace number that was heard, or 0.
+/// Returns a trace number that the terminal named, or 0.
 fn trace_number(trace: Option<Trace>) -> u32
     ensures { result ≡ trace_of trace }
 {
@@ -228,7 +229,7 @@ fn trace_number(trace: Option<Trace>) -> u32
     }
 }
 
-/// An unclear payment in numbers, with what was heard of it.
+/// Returns an unclear payment as numbers, with the numbers that the terminal named for it.
 pub fn unclear_numbers(row: &(Amount, Cause), heard: Numbers) -> ZvtEntry
     ensures { result ≡ unclear_row_of row.now heard }
 {
@@ -261,7 +262,7 @@ pub fn order_of(kind: u32, number: u64) -> Option<Order>
     }
 }
 
-/// The payment of so much, where it is an amount.
+/// Returns a payment of this amount, if a message can hold it.
 fn pay(number: u64) -> Option<Order>
     ensures { result ≡ payment_of number }
 {

@@ -9,7 +9,7 @@ use crate::session::Session;
 use std::alloc::Global;
 use std::marker::Model;
 
-/// A pointer to a session, or null where the handle is closed. The caller owns the session.
+/// A pointer to a session, or null if the handle is closed. The caller owns the session.
 #[repr(C)]
 #[derive(Drop)]
 pub struct RawHandle {
@@ -24,7 +24,7 @@ impl Model for RawHandle {
 }
 
 impl RawHandle {
-    /// The handle of a session.
+    /// Returns the handle of a session.
     pub(crate) fn of(boxed: RawBox<Session, Global>) -> RawHandle
         ensures { result.held ≡ Some boxed.value }
     {
@@ -32,7 +32,7 @@ impl RawHandle {
         RawHandle { at: at as *mut u8 }
     }
 
-    /// The session of an open handle.
+    /// Returns the session of an open handle.
     pub(crate) fn into_raw_box(self, alloc: Global) -> RawBox<Session, Global>
         requires { is_some self.held ≡ true }
         ensures { self.held ≡ Some result.value }
@@ -44,7 +44,7 @@ impl RawHandle {
         }
     }
 
-    /// A closed handle: a null pointer.
+    /// Returns a closed handle: a null pointer.
     pub(crate) fn closed() -> RawHandle
         ensures { result.held ≡ None }
     {

@@ -1,17 +1,19 @@
-//! The records of a journal. A caller makes each of them durable before it sends what follows from it.
+//! The records of a journal. A caller makes each record durable before it sends the bytes that follow from it.
 //!
-//! Each call writes the text of one record to the start of the buffer and reports its size. If the buffer is too
-//! small, nothing is written.
+//! Each call writes the text of one record to the start of the buffer and reports its size. If the buffer is too small,
+//! nothing is written.
 ghost use Rattle.std.specs.Prelude.{◌≡◌, IfSome, MatchBool, MatchResult, nat_le, option_map};
 ghost use Rattle.zvt_kept.specs.Records.{IsSpelledOrder, lost_record, opening};
 ghost use Rattle.zvt_kept.specs.Notes.{note_of};
 ghost use Rattle.zvt_c.specs.Records.{Masks, Records, RecordsHeard, RecordsOrder, given, has_password, masked_bytes};
 ghost use Rattle.zvt_c.specs.Records.{recorded_order};
 ghost use Rattle.zvt_c.specs.Saving.{Written, bare, sized};
+ghost use Rattle.zvt_c.specs.Statuses as statuses;
 
 use crate::answer::{ZvtAnswer, bare, found};
 use crate::codec::zvt_scan;
 use crate::numbers::order_of;
+use crate::statuses;
 use std::alloc::{AllocError, Global};
 use zvt_apdu::{MAX_BRIEF_LEN, view};
 use zvt_bcd::Currency;
@@ -29,10 +31,10 @@ pub extern "C" fn zvt_record_opening(
     answer: &mut ZvtAnswer,
 )
     ensures { MatchBool (nat_le currency 9999) (Records (opening currency) buffer.old buffer.new answer.new)
-        ((buffer.new ≡ buffer.old) × (answer.new ≡ bare 5)) }
+        ((buffer.new ≡ buffer.old) × (answer.new ≡ bare statuses.argument)) }
 {
     let Some(currency) = Currency::new(currency) else {
-        *answer = bare(5);
+        *answer = bare(statuses::ARGUMENT);
         return;
     };
     let mut text = Text::new(alloc);
@@ -40,10 +42,11 @@ pub extern "C" fn zvt_record_opening(
     *answer = hand_out(written, &text, buffer);
 }
 
-/// Writes the record of an order, and of the message that is sent for it. A password in the message is written as 00 00
-/// 00. `at` is the time of the order, as `2026-11-28T09:14:03Z`, and `reference` the caller's own, 1 to 40 printable
-/// ASCII characters without a space; where one is empty, the record has none. The status is 0, 3, or 5 for numbers that
-/// name no order, for another time or reference, and for more bytes than a till's message has.
+/// Writes the record of an order and of the message that is sent for it. A password in the message is written as 00 00
+/// 00. `at` is the time of the order, such as `2026-11-28T09:14:03Z`, and `reference` is the caller's own, 1 to 40
+/// printable ASCII characters without a space; either may be empty, and is then left out. The status is 0 or 3, or 5 if
+/// the numbers name no order, the time or the reference has another form, or `sent` is longer than any message of a
+/// till.
 #[unsafe(no_mangle)]
 pub extern "C" fn zvt_record_order(
     alloc: Global,
@@ -59,15 +62,15 @@ pub extern "C" fn zvt_record_order(
     ensures masked { Masks sent.now }
 {
     let Some(order) = recorded_order(kind, number) else {
-        *answer = bare(5);
+        *answer = bare(statuses::ARGUMENT);
         return;
     };
     let Some(note) = note_of(at, reference) else {
-        *answer = bare(5);
+        *answer = bare(statuses::ARGUMENT);
         return;
     };
     if sent.len() > MAX_BRIEF_LEN {
-        *answer = bare(5);
+        *answer = bare(statuses::ARGUMENT);
         return;
     }
     let mut message = [0; MAX_BRIEF_LEN];
@@ -91,7 +94,7 @@ pub extern "C" fn zvt_record_heard(
     ensures { RecordsHeard bytes.now buffer.old buffer.new answer.new result }
 {
     zvt_scan(alloc, bytes, answer);
-    if answer.status != 0 {
+    if answer.status != statuses::OK {
         return 0;
     }
     let message = &bytes[..answer.size as usize];
@@ -100,13 +103,13 @@ pub extern "C" fn zvt_record_heard(
     match put_heard(&mut text, message, answers.bytes()) {
         Ok(()) => put(text.bytes(), buffer),
         Err(_) => {
-            *answer = bare(3);
+            *answer = bare(statuses::NO_MEMORY);
             0
         }
     }
 }
 
-/// Writes the record of a lost line, which is made durable once the next line is up. The status is 0 or 3.
+/// Writes the record that the line was lost. It has to be durable before the next line is used. The status is 0 or 3.
 #[unsafe(no_mangle)]
 pub extern "C" fn zvt_record_lost(alloc: Global, buffer: &mut [u8], answer: &mut ZvtAnswer)
     ensures { Records lost_record buffer.old buffer.new answer.new }
@@ -116,7 +119,7 @@ pub extern "C" fn zvt_record_lost(alloc: Global, buffer: &mut [u8], answer: &mut
     *answer = hand_out(written, &text, buffer);
 }
 
-/// Writes bytes where they fit, and answers their size.
+/// Writes bytes if they fit, and returns their number.
 fn put(bytes: &[u8], buffer: &mut [u8]) -> usize
     ensures { Written bytes.now result buffer.old buffer.new }
 {
@@ -127,18 +130,18 @@ fn put(bytes: &[u8], buffer: &mut [u8]) -> usize
     size
 }
 
-/// Hands out a text that was written, where it fits, and says its size; or says that memory was refused.
+/// Writes the text if it fits, and returns an answer with its size, or with the status of a failed allocation.
 pub(crate) fn hand_out(written: Result<(), AllocError>, text: &Text, buffer: &mut [u8]) -> ZvtAnswer
     ensures { MatchResult written (λ _. (result ≡ sized result.size) × Written text.now result.size buffer.old
-        buffer.new) (λ _. (buffer.new ≡ buffer.old) × (result ≡ bare 3)) }
+        buffer.new) (λ _. (buffer.new ≡ buffer.old) × (result ≡ bare statuses.no_memory)) }
 {
     match written {
         Ok(()) => found(put(text.bytes(), buffer)),
-        Err(_) => bare(3),
+        Err(_) => bare(statuses::NO_MEMORY),
     }
 }
 
-/// The order that two numbers name, where a record has words for it: no book has more than 10,000 entries.
+/// Returns the order that two numbers name, if a record can hold it: no book has more than 10,000 entries.
 fn recorded_order(kind: u32, number: u64) -> Option<Order>
     ensures order { result ≡ recorded_order kind number }
     ensures spelled { IfSome result IsSpelledOrder }
@@ -149,21 +152,21 @@ fn recorded_order(kind: u32, number: u64) -> Option<Order>
     }
 }
 
-/// The note of this time and this reference, where neither is malformed. An empty one is left out.
+/// Returns the note with this time and this reference, if both have the right form. An empty one is left out.
 fn note_of(at: &[u8], reference: &[u8]) -> Option<Note>
     ensures { result ≡ note_of (given at.now) (given reference.now) }
 {
     Note::new(given(at), given(reference))
 }
 
-/// The bytes, if there are any.
+/// Returns the bytes, if there are any.
 fn given(bytes: &[u8]) -> Option<&[u8]>
     ensures { option_map (λ text. text.now) result ≡ given bytes.now }
 {
     if bytes.is_empty() { None } else { Some(bytes) }
 }
 
-/// Puts 00 00 00 in the place of the password of a registration, a reversal or an end of day.
+/// Replaces the password of a registration, a reversal or an end of day by 00 00 00.
 fn mask(message: &mut [u8])
     ensures { message.new ≡ masked_bytes message.old }
 {
@@ -172,7 +175,8 @@ fn mask(message: &mut [u8])
     }
 }
 
-/// Whether these bytes begin a message whose data begins with a password: a registration, a reversal or an end of day.
+/// Returns whether these bytes begin a message whose data begins with a password: a registration, a reversal or an end
+/// of day.
 fn has_password(message: &[u8]) -> bool
     ensures { result ≡ has_password message.now }
 {

@@ -3,7 +3,7 @@
 use zvt_stream::Stream;
 use zvt_till::Till;
 
-/// A till and what its line has brought of an unfinished message.
+/// A till, and the incomplete message that its line has received.
 #[derive(Drop)]
 pub struct Session {
     pub till: Till,

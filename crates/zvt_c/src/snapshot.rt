@@ -1,18 +1,20 @@
-//! A till that outlives its process.
+//! Saves and restores a till.
 ghost use Rattle.std.specs.Prelude.{◌≡◌, ◌≤◌, ◌⊎◌, IfSome, IfNone, None, length, MatchOption};
 ghost use Rattle.zvt_c.specs.Saving.{Loads, Restores, RestoresFirst, Saves, Written};
+ghost use Rattle.zvt_c.specs.Statuses as statuses;
 ghost use Rattle.zvt_till.specs.SnapshotEncoded.{saved, IsKept};
 ghost use Rattle.zvt_till.specs.Till.{step};
 
 use crate::answer::{ZvtAnswer, bare, found};
 use crate::handle::ZvtTill;
 use crate::session::Session;
+use crate::statuses;
 use std::alloc::Global;
 use zvt_stream::Stream;
 use zvt_till::snapshot::{LoadError, load, save};
 use zvt_till::{Happening, Till};
 
-/// Writes what a till is saved in where it fits, and answers its size, or None where memory was refused.
+/// Writes the saved till if it fits, and returns its size, or `None` if an allocation failed.
 fn write_saved(alloc: Global, till: &Till, buffer: &mut [u8]) -> Option<usize>
     ensures some { IfSome result (λ size. Written (saved (step till.now.state Happening.Lost)) size buffer.old
         buffer.new × IsKept (step till.now.state Happening.Lost)) }
@@ -41,30 +43,31 @@ pub extern "C" fn zvt_till_save(
     ensures said { Saves till.old.raw_handle.held buffer.old buffer.new answer.new }
 {
     let Some(end) = till.take(alloc) else {
-        *answer = bare(6);
+        *answer = bare(statuses::CLOSED);
         return;
     };
     *answer = match write_saved(alloc, &end.till, buffer) {
         Some(size) => found(size),
-        None => bare(3),
+        None => bare(statuses::NO_MEMORY),
     };
     *till = ZvtTill::of(end);
 }
 
-/// Makes the till that the bytes were saved of after the handle: its line is down, and no order runs. A till that was
-/// before is freed. The status is 0; 2 where the bytes are no till's, or 3 out of memory, and then nothing changes.
+/// Restores a till from the bytes of `zvt_till_save`. It is not connected, and no order is running. If the handle has a
+/// till, that till is freed. The status is 0; or 2 if the bytes are not a saved till, or 3 if an allocation failed, and
+/// then nothing changes.
 #[unsafe(no_mangle)]
 pub extern "C" fn zvt_till_load(alloc: Global, till: &mut ZvtTill, bytes: &[u8]) -> u32
-    ensures made { result ≡ 0 → Loads bytes.now till.new.raw_handle.held }
+    ensures made { result ≡ statuses.ok → Loads bytes.now till.new.raw_handle.held }
     ensures restores { Restores bytes.now till.new.raw_handle.held result }
     ensures first { RestoresFirst bytes.now till.new.raw_handle.held result }
-    ensures status { (result ≡ 0) ⊎ ((result ≡ 2) ⊎ (result ≡ 3)) }
-    ensures unchanged { (result ≡ 0 → ⊥) → till.new.raw_handle.held ≡ till.old.raw_handle.held }
+    ensures status { (result ≡ statuses.ok) ⊎ ((result ≡ statuses.refused) ⊎ (result ≡ statuses.no_memory)) }
+    ensures unchanged { (result ≡ statuses.ok → ⊥) → till.new.raw_handle.held ≡ till.old.raw_handle.held }
 {
     let loaded = match load(alloc, bytes) {
         Ok(loaded) => loaded,
-        Err(LoadError::Damaged) => return 2,
-        Err(LoadError::Memory) => return 3,
+        Err(LoadError::Damaged) => return statuses::REFUSED,
+        Err(LoadError::Memory) => return statuses::NO_MEMORY,
     };
     let end = Session {
         till: loaded,
@@ -74,8 +77,8 @@ pub extern "C" fn zvt_till_load(alloc: Global, till: &mut ZvtTill, bytes: &[u8])
         Ok(end) => {
             let _ = till.take(alloc);
             *till = ZvtTill::of(end);
-            0
+            statuses::OK
         }
-        Err(_) => 3,
+        Err(_) => statuses::NO_MEMORY,
     }
 }

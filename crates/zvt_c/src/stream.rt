@@ -6,19 +6,21 @@ ghost use Rattle.zvt_till.specs.Hearing.{heard_as};
 ghost use Rattle.zvt_c.specs.Feeding.{FeedsEnd, FeedsHandle, Prints, Sends, TellsMessage, replied, status_of_failure};
 ghost use Rattle.zvt_c.specs.FeedingAll.{FeedsAll, FeedsAllHandle, added, goes_on};
 ghost use Rattle.zvt_c.specs.Numbers.{nothing, outcome_of, silent};
+ghost use Rattle.zvt_c.specs.Statuses as statuses;
 
 use crate::answer::reason_code;
 use crate::handle::ZvtTill;
 use crate::numbers::{ZvtStep, no_step, outcome_numbers};
 use crate::session::Session;
+use crate::statuses;
 use crate::till::{lacks_capacity, write_message};
 use std::alloc::Global;
 use zvt_apdu::ApduView;
 use zvt_stream::{FedView, FeedError};
 use zvt_till::{Happening, Outcome, Till, heard_view};
 
-/// Feeds bytes of the terminal, up to the end of one message. While `message` is 1, feed the rest of the bytes again.
-/// Writes the bytes to send to `out`, which needs room for 32. Does not return the text of a print line.
+/// Processes bytes from the terminal, up to the end of one message. While `message` is 1, feed the remaining bytes
+/// again. Writes the bytes to send to `out`, which needs room for 32. Does not return the text of a print line.
 #[unsafe(no_mangle)]
 pub extern "C" fn zvt_till_feed(
     alloc: Global,
@@ -28,23 +30,23 @@ pub extern "C" fn zvt_till_feed(
     answer: &mut ZvtStep,
 ) -> u32
     ensures full { MatchBool (nat_lt (length out.old) 32) ((till.new.raw_handle.held ≡ till.old.raw_handle.held)
-        × (out.new ≡ out.old) × (answer.new ≡ nothing) × (result ≡ 4))
+        × (out.new ≡ out.old) × (answer.new ≡ nothing) × (result ≡ statuses.too_small))
         (FeedsHandle till.old.raw_handle.held piece.now till.new.raw_handle.held out.old out.new answer.new result) }
 {
     if lacks_capacity(out, answer) {
-        return 4;
+        return statuses::TOO_SMALL;
     }
     let Some(mut end) = till.take(alloc) else {
-        return 6;
+        return statuses::CLOSED;
     };
     let status = feed(&mut end, piece, out, &mut [], answer);
     *till = ZvtTill::of(end);
     status
 }
 
-/// Feeds bytes of the terminal message by message: to their end, to a print line, or until `out` has room for fewer
-/// than 32 further bytes. `out` then has all replies; send them whatever the status is. The text of the print line is
-/// written to `line` if it fits. Feed the remaining bytes again.
+/// Processes bytes from the terminal message by message: to their end, to a print line, or until `out` has room for
+/// fewer than 32 further bytes. `out` then contains all replies; send them whatever the status is. The text of the
+/// print line is written to `line` if it fits. Feed the remaining bytes again.
 #[unsafe(no_mangle)]
 pub extern "C" fn zvt_till_feed_all(
     alloc: Global,
@@ -55,15 +57,15 @@ pub extern "C" fn zvt_till_feed_all(
     answer: &mut ZvtStep,
 ) -> u32
     ensures { MatchBool (nat_lt (length out.old) 32) ((till.new.raw_handle.held ≡ till.old.raw_handle.held)
-        × (out.new ≡ out.old) × (line.new ≡ line.old) × (answer.new ≡ nothing) × (result ≡ 4))
+        × (out.new ≡ out.old) × (line.new ≡ line.old) × (answer.new ≡ nothing) × (result ≡ statuses.too_small))
         (FeedsAllHandle till.old.raw_handle.held piece.now till.new.raw_handle.held out.old out.new line.old line.new
         answer.new result) }
 {
     if lacks_capacity(out, answer) {
-        return 4;
+        return statuses::TOO_SMALL;
     }
     let Some(mut end) = till.take(alloc) else {
-        return 6;
+        return statuses::CLOSED;
     };
     let status = feed_all(&mut end, piece, out, line, answer);
     *till = ZvtTill::of(end);
@@ -91,14 +93,14 @@ fn feed_all(
             &mut one,
         );
         add(answer, &one);
-        if status != 0 {
+        if status != statuses::OK {
             return status;
         }
     }
-    0
+    statuses::OK
 }
 
-/// Whether another message is to be heard: bytes are left, room for its answer, and no print line waits.
+/// Returns whether to process another message: bytes are left, there is room for a reply, and no print line waits.
 fn goes_on(piece: usize, buffer: usize, answer: &ZvtStep) -> bool
     requires { answer.now.send ≤ buffer }
     ensures { result ≡ goes_on piece buffer answer.now }
@@ -106,7 +108,7 @@ fn goes_on(piece: usize, buffer: usize, answer: &ZvtStep) -> bool
     answer.taken < piece as u64 && 32 <= buffer as u64 - answer.send && answer.printed == 0
 }
 
-/// Adds what one message came to.
+/// Adds the step of one message to the steps before it.
 fn add(answer: &mut ZvtStep, one: &ZvtStep)
     requires taken { answer.old.taken + one.now.taken < 2 ^ 64 }
     requires send { answer.old.send + one.now.send < 2 ^ 64 }
@@ -128,8 +130,8 @@ fn add(answer: &mut ZvtStep, one: &ZvtStep)
     };
 }
 
-/// Lets the till hear a message, and writes what it answers. It says how much was written, and how the running order
-/// ended, if it did.
+/// Lets the till process a message, and writes its reply. Returns the size of the reply, and the outcome of the running
+/// order if this message ended it.
 fn hear(till: &mut Till, apdu: &ApduView<'_>, out: &mut [u8]) -> (usize, Option<Outcome>)
     requires { 32 ≤ length out.old }
     ensures state { till.new.state ≡ step till.old.state (Happening.Heard (heard_as apdu.now)) }
@@ -146,7 +148,7 @@ fn hear(till: &mut Till, apdu: &ApduView<'_>, out: &mut [u8]) -> (usize, Option<
     (size, reply.outcome)
 }
 
-/// Writes the text of a print line where it fits. It says the text's size, and 1 where the message is one.
+/// Writes the text of a print line if it fits. Returns the size of the text, and 1 if the message is a print line.
 fn put_line(apdu: &ApduView<'_>, line: &mut [u8]) -> (usize, u32)
     ensures { Prints (text_in apdu.now) line.old line.new result.0 result.1 }
 {
@@ -160,7 +162,7 @@ fn put_line(apdu: &ApduView<'_>, line: &mut [u8]) -> (usize, u32)
     (size, 1)
 }
 
-/// Lets the till hear a message that ends after that many bytes of the piece, and tells all of it.
+/// Lets the till process a message that ends after that many bytes of the input, and returns the step.
 fn report(
     till: &mut Till,
     apdu: &ApduView<'_>,
@@ -186,7 +188,7 @@ fn report(
     }
 }
 
-/// Nothing to send.
+/// Returns a step in which nothing is sent.
 fn silent(taken: usize, place: usize, reason: u32, outcome: Option<Outcome>) -> ZvtStep
     ensures { result ≡ silent taken place reason (outcome_of outcome) }
 {
@@ -199,7 +201,7 @@ fn silent(taken: usize, place: usize, reason: u32, outcome: Option<Outcome>) -> 
     }
 }
 
-/// Feeds up to the end of one message.
+/// Processes bytes up to the end of one message.
 fn feed(
     end: &mut Session,
     piece: &[u8],
@@ -211,7 +213,7 @@ fn feed(
     ensures fed { FeedsEnd end.old piece.now end.new out.old out.new line.old line.new answer.new result }
     ensures taken { answer.new.taken ≤ length piece.now }
     ensures buffer { answer.new.send ≤ length out.old }
-    ensures goes { result ≡ 0 → 0 < length piece.now → 0 < answer.new.taken }
+    ensures goes { result ≡ statuses.ok → 0 < length piece.now → 0 < answer.new.taken }
 {
     match end.stream.feed_view(piece) {
         Ok(FedView::Message { taken }) => {
@@ -219,15 +221,15 @@ fn feed(
                 unreachable!()
             };
             *answer = report(&mut end.till, &apdu, taken, out, line);
-            0
+            statuses::OK
         }
         Ok(FedView::More) => {
             *answer = silent(piece.len(), 0, 0, None);
-            0
+            statuses::OK
         }
         Ok(FedView::Refused { place, why }) => {
             *answer = silent(0, place, reason_code(why), end.till.malformed());
-            2
+            statuses::REFUSED
         }
         Err(why) => {
             *answer = no_step();
@@ -236,12 +238,12 @@ fn feed(
     }
 }
 
-/// The status of a feed that failed.
+/// Returns the status of a feed that failed.
 fn failed(why: FeedError) -> u32
     ensures { result ≡ status_of_failure why }
 {
     match why {
-        FeedError::Stopped => 7,
-        FeedError::Memory => 3,
+        FeedError::Stopped => statuses::STOPPED,
+        FeedError::Memory => statuses::NO_MEMORY,
     }
 }

@@ -9,6 +9,7 @@ ghost use Rattle.zvt_stream.specs.StreamState.{at_start};
 ghost use Rattle.zvt_c.specs.States.{state_of, IsNewTill};
 ghost use Rattle.zvt_c.specs.Numbers.{nothing, numbers_of, outcome_of, row_of, silent, unclear_row_of, IsStateOf};
 ghost use Rattle.zvt_c.specs.Ordering.{OrdersEnd, OrdersHandle};
+ghost use Rattle.zvt_c.specs.Statuses as statuses;
 
 use crate::handle::ZvtTill;
 use crate::numbers::{
@@ -16,6 +17,7 @@ use crate::numbers::{
     running_number, unclear_numbers,
 };
 use crate::session::Session;
+use crate::statuses;
 use std::alloc::Global;
 use zvt_apdu::MAX_BRIEF_LEN;
 use zvt_bcd::{Amount, Currency};
@@ -23,7 +25,7 @@ use zvt_stream::Stream;
 use zvt_till::{Cause, Happening, Numbers, Order, Outgoing, Till};
 
 /// Opens a till in the handle. It is not connected. If the handle has a till, that till is freed. A registration
-/// contains the password and the configuration byte unchanged. Unless the call returns 0, nothing changes.
+/// contains the password and the configuration byte unchanged. If the call does not return 0, nothing changes.
 #[unsafe(no_mangle)]
 pub extern "C" fn zvt_till_new(
     alloc: Global,
@@ -32,16 +34,16 @@ pub extern "C" fn zvt_till_new(
     config: u8,
     currency: u16,
 ) -> u32
-    ensures made { result ≡ 0 → IsNewTill password config currency till.new.raw_handle.held }
-    ensures argument { MatchBool (nat_le password 999999 && nat_le currency 9999) ((result ≡ 0) ⊎ (result ≡ 3))
-        (result ≡ 5) }
-    ensures unchanged { (result ≡ 0 → ⊥) → till.new.raw_handle.held ≡ till.old.raw_handle.held }
+    ensures made { result ≡ statuses.ok → IsNewTill password config currency till.new.raw_handle.held }
+    ensures argument { MatchBool (nat_le password 999999 && nat_le currency 9999)
+        ((result ≡ statuses.ok) ⊎ (result ≡ statuses.no_memory)) (result ≡ statuses.argument) }
+    ensures unchanged { (result ≡ statuses.ok → ⊥) → till.new.raw_handle.held ≡ till.old.raw_handle.held }
 {
     let Some(currency) = Currency::new(currency) else {
-        return 5;
+        return statuses::ARGUMENT;
     };
     if password > 999_999 {
-        return 5;
+        return statuses::ARGUMENT;
     }
     let mut digits = [0; 3];
     zvt_bcd::put(u64::from(password), &mut digits);
@@ -53,9 +55,9 @@ pub extern "C" fn zvt_till_new(
         Ok(end) => {
             let _ = till.take(alloc);
             *till = ZvtTill::of(end);
-            0
+            statuses::OK
         }
-        Err(_) => 3,
+        Err(_) => statuses::NO_MEMORY,
     }
 }
 
@@ -67,40 +69,41 @@ pub extern "C" fn zvt_till_free(alloc: Global, till: &mut ZvtTill)
     let _ = till.take(alloc);
 }
 
-/// A new line is up.
+/// Notifies the till that a new connection is up.
 #[unsafe(no_mangle)]
 pub extern "C" fn zvt_till_connected(alloc: Global, till: &mut ZvtTill) -> u32
     ensures state { state_of till.new ≡ option_map (λ state. step state Happening.Connected) (state_of till.old) }
     ensures stream { option_map (λ end. end.stream) till.new.raw_handle.held ≡ option_map (λ _. at_start)
         till.old.raw_handle.held }
-    ensures said { MatchOption till.old.raw_handle.held (result ≡ 6) (λ _. result ≡ 0) }
+    ensures said { MatchOption till.old.raw_handle.held (result ≡ statuses.closed) (λ _. result ≡ statuses.ok) }
 {
     let Some(mut end) = till.take(alloc) else {
-        return 6;
+        return statuses::CLOSED;
     };
     end.till.connected();
     end.stream = Stream::new(alloc);
     *till = ZvtTill::of(end);
-    0
+    statuses::OK
 }
 
 /// Notifies the till that the connection was lost. A running order ends with it.
 #[unsafe(no_mangle)]
 pub extern "C" fn zvt_till_lost(alloc: Global, till: &mut ZvtTill, answer: &mut ZvtStep) -> u32
     ensures state { state_of till.new ≡ option_map (λ state. step state Happening.Lost) (state_of till.old) }
-    ensures said { MatchOption till.old.raw_handle.held ((result ≡ 6) × (answer.new ≡ nothing))
-        (λ end. (result ≡ 0) × (answer.new ≡ silent 0 0 0 (outcome_of (outcome_at end.till.state Happening.Lost)))) }
+    ensures said { MatchOption till.old.raw_handle.held ((result ≡ statuses.closed) × (answer.new ≡ nothing))
+        (λ end. (result ≡ statuses.ok)
+        × (answer.new ≡ silent 0 0 0 (outcome_of (outcome_at end.till.state Happening.Lost)))) }
 {
     *answer = no_step();
     let Some(mut end) = till.take(alloc) else {
-        return 6;
+        return statuses::CLOSED;
     };
     answer.outcome = outcome_numbers(end.till.lost());
     *till = ZvtTill::of(end);
-    0
+    statuses::OK
 }
 
-/// Writes a message at the start of `out`, which has room for it, and says its size.
+/// Writes a message to the start of `out`, which has room for it, and returns its size.
 pub(crate) fn write_message(outgoing: &Outgoing, out: &mut [u8]) -> usize
     requires { 32 ≤ length out.old }
     ensures written { PutsMessage (message_of_brief outgoing.now.brief) out.old out.new result }
@@ -112,7 +115,7 @@ pub(crate) fn write_message(outgoing: &Outgoing, out: &mut [u8]) -> usize
     size
 }
 
-/// Clears the answer, and says whether there is less room than a message may need.
+/// Clears the answer, and returns whether there is less room than a message may need.
 pub(crate) fn lacks_capacity(out: &[u8], answer: &mut ZvtStep) -> bool
     ensures lacks { result ≡ nat_lt (length out.now) 32 }
     ensures cleared { answer.new ≡ nothing }
@@ -122,7 +125,7 @@ pub(crate) fn lacks_capacity(out: &[u8], answer: &mut ZvtStep) -> bool
     lacks
 }
 
-/// Gives the till an order. The bytes to send are written to `out`, which is to have room for 32.
+/// Gives the till an order. Writes the bytes to send to `out`, which needs room for 32.
 #[unsafe(no_mangle)]
 pub extern "C" fn zvt_till_order(
     alloc: Global,
@@ -133,24 +136,24 @@ pub extern "C" fn zvt_till_order(
     answer: &mut ZvtStep,
 ) -> u32
     ensures { MatchBool (nat_lt (length out.old) 32) ((till.new.raw_handle.held ≡ till.old.raw_handle.held)
-        × (out.new ≡ out.old) × (answer.new ≡ nothing) × (result ≡ 4))
+        × (out.new ≡ out.old) × (answer.new ≡ nothing) × (result ≡ statuses.too_small))
         (OrdersHandle till.old.raw_handle.held kind number till.new.raw_handle.held out.old out.new answer.new result) }
 {
     if lacks_capacity(out, answer) {
-        return 4;
+        return statuses::TOO_SMALL;
     }
     let Some(order) = order_of(kind, number) else {
-        return 5;
+        return statuses::ARGUMENT;
     };
     let Some(mut end) = till.take(alloc) else {
-        return 6;
+        return statuses::CLOSED;
     };
     let status = give(&mut end, order, out, answer);
     *till = ZvtTill::of(end);
     status
 }
 
-/// Gives the till of a handle an order.
+/// Gives the till of a session an order.
 fn give(end: &mut Session, order: Order, out: &mut [u8], answer: &mut ZvtStep) -> u32
     requires { 32 ≤ length out.old }
     ensures { OrdersEnd end.old order end.new out.old out.new answer.new result }
@@ -161,7 +164,7 @@ fn give(end: &mut Session, order: Order, out: &mut [u8], answer: &mut ZvtStep) -
                 send: write_message(&outgoing, out) as u64,
                 ..no_step()
             };
-            0
+            statuses::OK
         }
         Err(why) => {
             *answer = no_step();
@@ -170,14 +173,15 @@ fn give(end: &mut Session, order: Order, out: &mut [u8], answer: &mut ZvtStep) -
     }
 }
 
-/// The state of the till.
+/// Reports the state of the till.
 #[unsafe(no_mangle)]
 pub extern "C" fn zvt_till_state(alloc: Global, till: &mut ZvtTill, state: &mut ZvtState) -> u32
     ensures same { till.new.raw_handle.held ≡ till.old.raw_handle.held }
-    ensures said { MatchOption till.old.raw_handle.held (result ≡ 6) (λ end. (result ≡ 0) × IsStateOf end state.new) }
+    ensures said { MatchOption till.old.raw_handle.held (result ≡ statuses.closed)
+        (λ end. (result ≡ statuses.ok) × IsStateOf end state.new) }
 {
     let Some(end) = till.take(alloc) else {
-        return 6;
+        return statuses::CLOSED;
     };
     *state = ZvtState {
         total: end.till.total(),
@@ -190,10 +194,10 @@ pub extern "C" fn zvt_till_state(alloc: Global, till: &mut ZvtTill, state: &mut 
         last: outcome_numbers(end.till.last_outcome()),
     };
     *till = ZvtTill::of(end);
-    0
+    statuses::OK
 }
 
-/// The row of the book at this place, counted from 0.
+/// Reports the entry of the book at this index, counted from 0.
 #[unsafe(no_mangle)]
 pub extern "C" fn zvt_till_entry(
     alloc: Global,
@@ -202,25 +206,25 @@ pub extern "C" fn zvt_till_entry(
     entry: &mut ZvtEntry,
 ) -> u32
     ensures same { till.new.raw_handle.held ≡ till.old.raw_handle.held }
-    ensures row { MatchOption till.old.raw_handle.held (result ≡ 6)
-        (λ end. MatchOption (slice_get end.till.state.book place) (result ≡ 5)
-        (λ row. (result ≡ 0) × (entry.new ≡ row_of row))) }
+    ensures row { MatchOption till.old.raw_handle.held (result ≡ statuses.closed)
+        (λ end. MatchOption (slice_get end.till.state.book place) (result ≡ statuses.argument)
+        (λ row. (result ≡ statuses.ok) × (entry.new ≡ row_of row))) }
 {
     let Some(end) = till.take(alloc) else {
-        return 6;
+        return statuses::CLOSED;
     };
     let status = match end.till.book().get(place) {
         Some(row) => {
             *entry = entry_numbers(row);
-            0
+            statuses::OK
         }
-        None => 5,
+        None => statuses::ARGUMENT,
     };
     *till = ZvtTill::of(end);
     status
 }
 
-/// The row at this place in numbers, with the numbers that were heard of it.
+/// Returns the unclear payment at this index, with the numbers that the terminal named for it.
 fn row_at(unclear: &[(Amount, Cause)], heard: &[Numbers], place: usize) -> Option<ZvtEntry>
     ensures { result ≡ option_map (λ row. unclear_row_of row (numbers_of (slice_get heard.now place)))
         (slice_get unclear.now place) }
@@ -235,7 +239,7 @@ fn row_at(unclear: &[(Amount, Cause)], heard: &[Numbers], place: usize) -> Optio
     }
 }
 
-/// The unclear payment at this place in numbers.
+/// Returns the unclear payment at this index.
 fn unclear_at(till: &Till, place: usize) -> Option<ZvtEntry>
     ensures { result ≡ option_map (λ row. unclear_row_of row (numbers_of (slice_get till.now.heard place)))
         (slice_get till.now.state.unclear place) }
@@ -243,7 +247,8 @@ fn unclear_at(till: &Till, place: usize) -> Option<ZvtEntry>
     row_at(till.unclear(), till.heard(), place)
 }
 
-/// The unclear payment at this place, counted from 0, with the trace and receipt numbers that the terminal named in it.
+/// Reports the unclear payment at this index, counted from 0, with the trace and receipt numbers that the terminal
+/// named for it.
 #[unsafe(no_mangle)]
 pub extern "C" fn zvt_till_unclear(
     alloc: Global,
@@ -252,19 +257,20 @@ pub extern "C" fn zvt_till_unclear(
     entry: &mut ZvtEntry,
 ) -> u32
     ensures same { till.new.raw_handle.held ≡ till.old.raw_handle.held }
-    ensures row { MatchOption till.old.raw_handle.held (result ≡ 6)
-        (λ end. MatchOption (slice_get end.till.state.unclear place) (result ≡ 5)
-        (λ row. (result ≡ 0) × (entry.new ≡ unclear_row_of row (numbers_of (slice_get end.till.heard place))))) }
+    ensures row { MatchOption till.old.raw_handle.held (result ≡ statuses.closed)
+        (λ end. MatchOption (slice_get end.till.state.unclear place) (result ≡ statuses.argument)
+        (λ row. (result ≡ statuses.ok)
+        × (entry.new ≡ unclear_row_of row (numbers_of (slice_get end.till.heard place))))) }
 {
     let Some(end) = till.take(alloc) else {
-        return 6;
+        return statuses::CLOSED;
     };
     let status = match unclear_at(&end.till, place) {
         Some(row) => {
             *entry = row;
-            0
+            statuses::OK
         }
-        None => 5,
+        None => statuses::ARGUMENT,
     };
     *till = ZvtTill::of(end);
     status

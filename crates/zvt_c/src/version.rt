@@ -1,11 +1,12 @@
-//! Which library this is: its version, and the number of the layouts that a caller shares with it.
+//! The version of the library, and the number of the struct layouts that a caller shares with it.
 ghost use Rattle.std.specs.Prelude.{◌≡◌};
 ghost use Rattle.zvt_c.specs.Version.{abi, version};
 ghost use Rattle.zvt_c.specs.Saving.{Written};
 
 use crate::names::put_name;
 
-/// The number of the structs' layouts and of the calls' arguments. A caller that was made for another number stops.
+/// Returns the number of the structs' layouts and of the calls' arguments. A caller that was compiled for another
+/// number must not use the library.
 #[unsafe(no_mangle)]
 pub extern "C" fn zvt_abi() -> u32
     ensures { result ≡ abi }

@@ -34,7 +34,7 @@ pub fn answers_are_one()
     ensures { AnswersAreOne }
 {}
 
-/// Later bytes change no answer except more.
+/// Further bytes change no result except `More`.
 pub fn answers_stay()
     ensures { AnswersStay }
 {}

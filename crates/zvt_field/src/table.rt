@@ -1,6 +1,6 @@
 //! The table of BMPs (PA00P015, list of bitmaps). This project chooses which ones it lists.
 
-ghost use Rattle.std.specs.Prelude.{◌≡◌, IfSome, is_some, option_map};
+ghost use Rattle.std.specs.Prelude.{◌≡◌, ◌≤◌, IfSome, is_some, option_map};
 ghost use Rattle.zvt_field.specs.Judging.{count_digits};
 ghost use Rattle.zvt_field.specs.declared.shapes.Format.TheVariants.{Amount};
 ghost use Rattle.zvt_field.specs.Shapes.{format_in, format_of, name_of, shape_of};
@@ -60,6 +60,22 @@ fn find(bmp: u8) -> Option<BmpInfo>
         0x2D => info(Shape::Ll, "track1", Format::Hidden),
         0x2E => info(Shape::Lll, "chip-data", Format::Bytes),
         bmp::ORIGINAL => info(Shape::Fixed(3), "original-trace", Format::Bytes),
+        0x3A.. => return find_high(bmp),
+        _ => return None,
+    })
+}
+
+/// The row of a BMP from 0x3A on, if the table lists it.
+#[tactic(auto, unfolding(crate::specs::Shapes::shape_of))]
+#[inline(always)]
+fn find_high(bmp: u8) -> Option<BmpInfo>
+    requires { 0x3A ≤ bmp }
+    ensures shape { option_map (λ row. row.shape) result ≡ shape_of bmp }
+    ensures name { option_map (λ row. row.name.now) result ≡ name_of bmp }
+    ensures format { format_in (option_map (λ row. row.format) result) ≡ format_of bmp }
+    ensures amount { IfSome result (λ row. row.format ≡ Amount → bmp ≡ 0x04) }
+{
+    Some(match bmp {
         0x3A => info(Shape::Fixed(2), "verification", Format::Hidden),
         0x3B => info(Shape::Fixed(8), "attribute", Format::Bytes),
         0x3C => info(Shape::Lll, "text", Format::Bytes),
@@ -98,7 +114,8 @@ pub fn name(bmp: u8) -> Option<&'static str>
     Some(find(bmp)?.name)
 }
 
-/// Returns how an output shows the content of the field with this BMP. What the table does not list is shown as bytes.
+/// Returns how an output shows the content of the field with this BMP. A field that the table does not list is shown as
+/// bytes.
 #[inline(always)]
 pub fn format(bmp: u8) -> Format
     ensures value { result ≡ format_of bmp }

@@ -1,4 +1,4 @@
-//! The answers of readers, and the definitions that all grammars share.
+//! The results of readers, and the definitions that all grammars share.
 #![tactic(auto)]
 
 mod answer;

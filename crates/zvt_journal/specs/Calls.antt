@@ -1,4 +1,4 @@
--- What a file holds, and what a crash may leave, after these calls on it, the newest first.
+-- The content of a file after these calls, newest first, and the contents that a crash may leave.
 use Rattle.std.specs.Prelude.{◌≡◌, ◌⊎◌, ℕ, ◌+◌, ◌≤◌, ◌<◌, Bool, true, false, List, [], ◌∷◌, ◌++◌, length, take, drop}
 use mathlib.Core.Logic.{inl, inr}
 use Rattle.std.proofs.Math.Nat.{le_trans, le-suc, not-suc-le_self}
@@ -6,11 +6,11 @@ use Rattle.zvt_journal.specs.declared.call.Call.{Call}
 use Rattle.zvt_journal.specs.declared.call.Call.TheVariants.{Wrote, SetByte, CutTo, Synced, Aside}
 use Rattle.zvt_journal.specs.Device.{Torn, Swapped, Cut}
 
--- a call, the bytes that it was given, and whether it answered Ok
+-- a call, its bytes, and whether it returned Ok
 abbrev pub Event : Type 0
 Event = Call × List ℕ × Bool
 
--- what a read returns after a call that answered Ok
+-- the bytes that a read returns after a call that returned Ok
 abbrev pub after_call : Call → List ℕ → List ℕ → List ℕ
 after_call (Wrote at) bytes old = take at old ++ bytes ++ drop (at + length bytes) old
 after_call (SetByte at byte) bytes old = take at old ++ (byte ∷ []) ++ drop (at + length (byte ∷ [])) old
@@ -18,13 +18,13 @@ after_call (CutTo len) bytes old = take len old
 after_call Synced bytes old = old
 after_call (Aside step) bytes old = old
 
--- what a read returns: a call that failed counts for nothing
+-- the bytes that a read returns: a failed call has no effect
 abbrev pub seen_after : List ℕ → List Event → List ℕ
 seen_after start [] = start
 seen_after start ((call, bytes, true) ∷ made) = after_call call bytes (seen_after start made)
 seen_after start ((call, bytes, false) ∷ made) = seen_after start made
 
--- what a crash makes of a file in this call, or after it and before the next sync
+-- the files that a crash may leave during this call, or after it and before the next sync
 abbrev pub IsCutShort : Call → List ℕ → List ℕ → List ℕ → Type 0
 IsCutShort (Wrote at) bytes old new = Torn at bytes old new
 IsCutShort (SetByte at byte) bytes old new = Swapped at byte old new
@@ -32,7 +32,8 @@ IsCutShort (CutTo len) bytes old new = Cut len old new
 IsCutShort Synced bytes old new = old ≡ new
 IsCutShort (Aside step) bytes old new = old ≡ new
 
--- The files that a crash may leave now. A sync that answered Ok leaves what a read returns, out of those that were possible.
+-- The files that a crash may leave now. After a sync that returned Ok, only the bytes that a read returns are left of
+-- the files that were possible.
 abbrev pub may_leave_after : List ℕ → List Event → List ℕ → Type 0
 may_leave_after start [] file = file ≡ start
 may_leave_after start ((Synced, bytes, true) ∷ made) file = (file ≡ seen_after start made) × may_leave_after start made file
@@ -43,7 +44,7 @@ abbrev pub left_since_after : List ℕ → List Event → ℕ → List ℕ → T
 left_since_after start [] t file = (t ≤ 0) × (file ≡ start)
 left_since_after start (event ∷ made) t file = ((t ≤ length (event ∷ made)) × may_leave_after start (event ∷ made) file) ⊎ left_since_after start made t file
 
--- how many of the calls failed
+-- the number of failed calls
 abbrev pub failed_among : List Event → ℕ
 failed_among [] = 0
 failed_among ((call, bytes, true) ∷ made) = failed_among made
@@ -76,6 +77,6 @@ abbrev pub AreWithin : List ℕ → List Event → Type 0
 AreWithin start [] = Unit {0}
 AreWithin start ((call, bytes, done) ∷ made) = IsCallWithin call (seen_after start made) × AreWithin start made
 
--- what a read returns is one of the files that a crash may leave
+-- the bytes that a read returns are one of the files that a crash may leave
 abbrev pub SeenMayBeLeft : Type 0
 SeenMayBeLeft = (start : List ℕ) (made : List Event) → AreWithin start made → may_leave_after start made (seen_after start made)

@@ -1,4 +1,4 @@
--- What the calls of a device do to its file, and which files a crash may leave.
+-- The effect of a device's calls on its file, and the files that a crash may leave.
 use Rattle.std.specs.Prelude.{◌<◌, ◌≡◌, ◌⊎◌, ℕ, ◌+◌, ◌≤◌, min, max, List, [], ◌∷◌, ◌++◌, get_or, length, take, drop, Result, IsErrOf}
 use Rattle.zvt_journal.specs.declared.device.DeviceError.{DeviceError}
 use Rattle.zvt_journal.specs.declared.device.DeviceError.TheVariants.{Failed, Full}
@@ -7,8 +7,8 @@ use Rattle.zvt_journal.specs.declared.device.DeviceError.TheVariants.{Failed, Fu
 abbrev pub Over : ℕ → List ℕ → List ℕ → List ℕ → Type 0
 Over at bytes old new = new ≡ take at old ++ bytes ++ drop (at + length bytes) old
 
--- A write of these bytes from `at` on that a crash cuts short. Each byte of it is the new one or the one from before, and that
--- is 0 where the file grew. What was there elsewhere stays.
+-- A crash during a write of these bytes from `at` on. Each of its bytes is the new byte or the old one, which is 0 if
+-- the file grew. All other bytes keep their values.
 pub record Torn (at : ℕ) (bytes old new : List ℕ) : Type 0 where
   pub before : take at new ≡ take at old
   pub after : drop (at + length bytes) new ≡ drop (at + length bytes) old
@@ -20,12 +20,12 @@ pub record Torn (at : ℕ) (bytes old new : List ℕ) : Type 0 where
 abbrev pub Swapped : ℕ → ℕ → List ℕ → List ℕ → Type 0
 Swapped at byte old new = (new ≡ old) ⊎ Over at (byte ∷ []) old new
 
--- A cut to n bytes that a crash cuts short: a prefix of the file, and no less than n bytes of it where it had so many.
+-- A crash during a cut to n bytes: a prefix of the file, with at least n bytes if the file had so many.
 pub record Cut (n : ℕ) (old new : List ℕ) : Type 0 where
   pub no_shorter : min n (length old) ≤ length new
   pub prefix : take (length new) old ≡ new
 
--- what may be left after a step is what may have been left before it, and then the step
+-- a file that may be left after a step is a file that may have been left before it, after this step
 abbrev pub Follows : (List ℕ → List ℕ → Type 0) → (List ℕ → Type 0) → (List ℕ → Type 0) → Type 0
 Follows step before after = (file : List ℕ) → after file → (was : List ℕ) × before was × step was file
 
@@ -33,7 +33,8 @@ Follows step before after = (file : List ℕ) → after file → (was : List ℕ
 abbrev pub Only : List ℕ → (List ℕ → Type 0) → Type 0
 Only this may_leave = (file : List ℕ) → may_leave file → file ≡ this
 
--- Time goes on: what a crash since t might have left is what it might have left before, or may leave now.
+-- Time passes: a crash since t might have left the files that it might have left before, or those that it may leave
+-- now.
 pub record Elapses (then now : ℕ) (left_then left_now : ℕ → List ℕ → Type 0) (may_leave : List ℕ → Type 0) : Type 0 where
   pub later : then ≤ now
   pub nothing_else : (t : ℕ) (file : List ℕ) → t ≤ then → left_now t file → left_then t file ⊎ may_leave file
@@ -47,7 +48,7 @@ pub record LeavesOnly {D : Type 0} (moment : D → ℕ) (left_since : D → ℕ 
   -- and at the first moment too
   pub here : (file : List ℕ) → left_since new (moment old) file → P file
 
--- the device tells a failure only where the disk has failed, and it doesn't tell that it is full
+-- the device reports a failure only if the disk has failed, and never reports that it is full
 pub record HasCause {T : Type 0} (before after : ℕ) (result : Result T DeviceError) : Type 0 where
   pub later : before ≤ after
   pub failed : IsErrOf result Failed → before < after

@@ -1,15 +1,15 @@
--- What a journal's file may hold.
+-- The possible contents of a journal's file.
 use Rattle.std.specs.Prelude.{◌≡◌, ◌⊎◌, ◌≤◌, ◌+◌, ◌-◌, ◌^◌, ℕ, List, [], ◌∷◌, length, take, drop, codes, ◌==◌, ◌&&◌, ◌||◌, ◌++◌, nat_le, replicate, Bool, true, false, if◌then◌else◌, Vec}
 use Rattle.std.specs.declared.alloc.Global.{Global}
 use Rattle.zvt_journal.specs.declared.file.FileDevice.{FileDevice}
 use Rattle.zvt_journal.specs.Calls.{seen_after, may_leave_after}
 use Rattle.zvt_journal.specs.Text.{begins_marked, recovered, whole}
 
--- what a read of the device's file returns
+-- the bytes that a read of the device's file returns
 abbrev pub file_seen : FileDevice → List ℕ
 file_seen device = seen_after device.calls.start device.calls.made
 
--- the files that a crash may leave of it
+-- the files that a crash may leave
 abbrev pub file_may_leave : FileDevice → List ℕ → Type 0
 file_may_leave device = may_leave_after device.calls.start device.calls.made
 
@@ -17,15 +17,16 @@ file_may_leave device = may_leave_after device.calls.start device.calls.made
 abbrev pub IsNamed : List ℕ → Type 0
 IsNamed file = take 15 file ≡ codes "# zvt journal 1"
 
--- what the first append writes behind the gate, for a currency of so many digits; `0` stands for each of them here
+-- the bytes that the first append writes after the gate, for a currency with this many digits, each of which is `0`
+-- here
 abbrev pub opening_behind : ℕ → List ℕ
 opening_behind digits = codes " zvt journal 1, currency " ++ replicate digits 48 ++ 10 ∷ 10 ∷ []
 
--- a byte where this one is wanted: it is there, or still 0
+-- a byte in the place of the wanted one: it is there, or still 0
 abbrev pub may_stand : ℕ → ℕ → Bool
 may_stand byte wanted = byte == 0 || byte == wanted || wanted == 48 && nat_le 48 byte && nat_le byte 57
 
--- a beginning of these bytes, each of which is there or still 0
+-- a prefix of these bytes in which each byte is there or still 0
 abbrev pub is_part : List ℕ → List ℕ → Bool
 is_part [] wanted = true
 is_part (byte ∷ part) [] = false
@@ -43,7 +44,7 @@ is_begun (byte ∷ rest) = if byte == 10 then is_opening_part rest else byte == 
 abbrev pub IsBegun : List ℕ → Type 0
 IsBegun file = is_begun file ≡ true
 
--- Opening takes the file for a journal's: its first whole line names the format, or it has no record yet.
+-- Opening accepts the file as a journal: its first complete line names the format, or it has no record yet.
 abbrev pub IsKnown : List ℕ → Type 0
 IsKnown file = IsNamed (recovered file) ⊎ IsBegun file
 
@@ -69,20 +70,21 @@ BeginWithOpening (entry ∷ entries) = IsOpening entry.items
 abbrev pub GoOn : (text : List ℕ) → List (Vec ℕ Global) → Type 0
 GoOn text entries = IsNamed text ⊎ ((text ≡ []) × BeginWithOpening entries)
 
--- the bytes after a closed gate, or all of them where they begin with none
+-- the bytes after a closed gate, or all bytes if they begin with none
 abbrev pub after_gate : List ℕ → List ℕ
 after_gate [] = []
 after_gate (byte ∷ rest) = if byte == 10 then rest else byte ∷ rest
 
--- what comes behind the whole lines of a file and its closed gate
+-- the bytes after the complete lines of a file and its closed gate
 abbrev pub behind_gate : List ℕ → List ℕ
 behind_gate file = after_gate (drop (whole 0 file) file)
 
--- no crash leaves more bytes after the whole lines
+-- no crash leaves more bytes after the complete lines
 abbrev pub HasFewAfter : List ℕ → Type 0
 HasFewAfter file = length file - whole 0 file ≤ 2 ^ 18 + 1
 
--- No crash leaves what begins as a line of a record there: an append leaves a record without its first byte.
+-- No crash leaves bytes there that begin like a line of a record, because an append leaves a record without its first
+-- byte.
 abbrev pub HasNoLineBehind : List ℕ → Type 0
 HasNoLineBehind file = begins_marked (behind_gate file) ≡ false
 
@@ -95,7 +97,7 @@ pub record IsRepairable (file : List ℕ) : Type 0 where
 abbrev pub IsRepairableAsBefore : (List ℕ → Type 0) → List ℕ → Type 0
 IsRepairableAsBefore might_leave file = might_leave file ⊎ IsRepairable file
 
--- how many lines end in a text
+-- the number of lines that end in a text
 abbrev pub lines_ended : List ℕ → ℕ
 lines_ended [] = 0
 lines_ended (byte ∷ rest) = if byte == 10 then lines_ended rest + 1 else lines_ended rest
@@ -109,7 +111,7 @@ abbrev pub begins_record : List ℕ → Bool
 begins_record [] = false
 begins_record (byte ∷ rest) = byte == 33 || byte == 60 || byte == 35 && begins_spaced rest
 
--- how many lines begin as the first one of a record does; whether the text begins a line is told
+-- the number of lines that begin like the first line of a record; the argument says whether the text begins a line
 abbrev pub records_from : Bool → List ℕ → ℕ
 records_from begins [] = 0
 records_from begins (byte ∷ rest) =
@@ -119,6 +121,6 @@ records_from begins (byte ∷ rest) =
 abbrev pub gate_line : List ℕ → ℕ
 gate_line file = lines_ended (recovered file) + 1
 
--- how many records lie behind the gate
+-- the number of records after the gate
 abbrev pub records_behind : List ℕ → ℕ
 records_behind file = records_from true (behind_gate file)

@@ -1,4 +1,4 @@
--- What opening a journal's file calls, the newest first, and why it is refused.
+-- The calls that open a journal's file, newest first, and why it is refused.
 use Rattle.std.specs.Prelude.{◌≡◌, ◌<◌, ◌-◌, ℕ, Bool, true, false, List, [], ◌∷◌, ◌++◌, length}
 use Rattle.zvt_journal.specs.declared.call.Call.TheVariants.{Aside}
 use Rattle.zvt_journal.specs.declared.call.Step.{Step}
@@ -14,13 +14,13 @@ abbrev pub found_by : (created : Bool) → Step
 found_by true = Made
 found_by false = Found
 
--- what is to be cut is kept first, if it is something
+-- bytes to be removed are saved first, if there are any
 abbrev pub kept_beside : (path cut : List ℕ) → List Event
 kept_beside path [] = []
 kept_beside path (byte ∷ cut) = (Aside KeptBeside, byte ∷ cut, true) ∷ (Aside Beside, path, true) ∷ []
 
--- A file that has these bytes was opened: it was locked, made durable and read, looked at again, what is to be cut was kept, and
--- then its name was made durable.
+-- A file with these bytes was opened: it was locked, made durable and read, and checked again. Bytes to be removed were
+-- saved, and then the file's name was made durable.
 abbrev pub calls_to_open : (path : List ℕ) → (created : Bool) → (bytes : List ℕ) → List Event
 calls_to_open path created bytes =
     (Aside FolderSynced, path, true) ∷ (kept_beside path (behind_gate bytes) ++ (Aside InPlace, path, true) ∷ (Aside Read, bytes, true) ∷ (Aside Locked, [], true) ∷ (Aside (found_by created), path, true) ∷ [])
@@ -52,16 +52,16 @@ WasRead bytes ((Aside Read, these, true) ∷ made) = these ≡ bytes
 WasRead bytes ((Aside Peeked, these, true) ∷ made) = these ≡ bytes
 WasRead bytes (event ∷ made) = WasRead bytes made
 
--- the newest call took the lock
+-- the newest call acquired the lock
 abbrev pub IsLocked : List Event → Type 0
 IsLocked ((Aside Locked, bytes, true) ∷ made) = Unit {0}
 IsLocked other = ⊥
 
--- bytes were read of which this holds
+-- bytes with this property were read
 abbrev pub WasReadAs : (List ℕ → Type 0) → List Event → Type 0
 WasReadAs P made = (bytes : List ℕ) × WasRead bytes made × P bytes
 
--- the newest call answered no
+-- the newest call failed
 abbrev pub WasRefused : Step → List Event → Type 0
 WasRefused step made = (bytes : List ℕ) × (before : List Event) × (made ≡ (Aside step, bytes, false) ∷ before)
 
@@ -78,18 +78,18 @@ IsOfFolder (FolderNotSynced error) = Unit {0}
 IsOfFolder (Io error) = Unit {0}
 IsOfFolder other = ⊥
 
--- these bytes are refused for that: they are of no journal, or a crash leaves no such file
+-- these bytes are refused for this reason: they are not a journal, or no crash leaves such a file
 abbrev pub IsRefusedFor : JournalFileError → List ℕ → Type 0
 IsRefusedFor NotAJournal bytes = IsKnown bytes → ⊥
 IsRefusedFor (RecordsBehind line records) bytes = (line ≡ gate_line bytes) × (records ≡ records_behind bytes) × (HasNoLineBehind bytes → ⊥)
 IsRefusedFor (TooMuchAfter count) bytes = (count ≡ length bytes - whole 0 bytes) × (HasFewAfter bytes → ⊥)
 IsRefusedFor other bytes = ⊥
 
--- A file that is known and repairable is refused for nothing that it holds.
+-- A file that is known and repairable is never refused for its content.
 abbrev pub NoneIsRefused : Type 0
 NoneIsRefused = (file : List ℕ) (error : JournalFileError) → IsKnown file → IsRepairable file → IsRefusedFor error file → ⊥
 
--- The cause of an error. Nothing is said of memory, which may always be refused.
+-- The cause of an error. An allocation may always fail.
 abbrev pub WhyRefused : JournalFileError → List Event → Type 0
 WhyRefused InUse made = WasRefused Locked made
 WhyRefused NotAJournal made = WasReadAs (IsRefusedFor NotAJournal) made

@@ -3,12 +3,12 @@ use Rattle.std.specs.Prelude.{◌≡◌, ◌≢◌, All, ◌⊎◌, ℕ, ◌+◌
 use Rattle.std.specs.declared.alloc.Global.{Global}
 use Rattle.zvt_journal.specs.Device.{Only}
 
--- How many bytes of whole lines come before the first empty line, where `line` bytes of the first line came already.
+-- The number of bytes in the complete lines before the first empty line, if `line` bytes of the first line came before.
 abbrev pub whole : ℕ → List ℕ → ℕ
 whole line [] = 0
 whole line (byte ∷ rest) = if byte == 10 then (if line == 0 then 0 else line + 1 + whole 0 rest) else whole (line + 1) rest
 
--- the file's whole lines up to the first empty one
+-- the file's complete lines up to the first empty one
 abbrev pub recovered : List ℕ → List ℕ
 recovered file = take (whole 0 file) file
 
@@ -22,7 +22,7 @@ abbrev pub text_of : List (List ℕ) → List ℕ
 text_of [] = []
 text_of (line ∷ lines) = line ++ 10 ∷ text_of lines
 
--- Lines before a closed gate are what is recovered, whatever comes after it.
+-- Recovery returns the lines before a closed gate, whatever comes after it.
 abbrev pub LinesAreRecovered : Type 0
 LinesAreRecovered = (lines : List (List ℕ)) (rest : List ℕ) → All IsLine lines → recovered (text_of lines ++ 10 ∷ rest) ≡ text_of lines
 
@@ -38,18 +38,18 @@ abbrev pub begins_marked : List ℕ → Bool
 begins_marked [] = false
 begins_marked (byte ∷ rest) = is_mark byte
 
--- Whole lines, none of them empty, and at least one. Without its first byte the text begins with no mark: so it can't be
--- taken for a record then.
+-- Complete lines, none of them empty, and at least one. Without its first byte the text does not begin like a record,
+-- so it cannot be taken for one.
 pub record IsRecord (text : List ℕ) : Type 0 where
   pub lines : recovered text ≡ text
   pub some : 0 < length text
   pub unmarked : begins_marked (drop 1 text) ≡ false
 
--- whole lines, and then the closed gate, which reads as an empty line
+-- complete lines, and then the closed gate, which reads as an empty line
 abbrev pub at_rest : List ℕ → List ℕ
 at_rest text = text ++ 10 ∷ []
 
--- the file is at rest, all of it on the disk, and its gate is there
+-- the file is at rest, completely on the disk, and its gate is there
 pub record IsSettled (file : List ℕ) (may_leave : List ℕ → Type 0) (gate : ℕ) : Type 0 where
   pub rest : file ≡ at_rest (recovered file)
   pub at_gate : gate ≡ length (recovered file)
@@ -64,7 +64,7 @@ abbrev pub joined : List (Vec ℕ Global) → List ℕ
 joined [] = []
 joined (entry ∷ entries) = entry.items ++ joined entries
 
--- the file represents the text and some first ones of the records
+-- the file represents the text and a prefix of the records
 abbrev pub HasFirst : List ℕ → List (Vec ℕ Global) → List ℕ → Type 0
 HasFirst text entries file = (n : ℕ) × (recovered file ≡ text ++ joined (take n entries))
 

@@ -3,36 +3,36 @@
 /// A call on a file.
 #[derive(Clone, Copy)]
 pub enum Call {
-    /// Bytes are written from this place on.
+    /// Bytes were written from this index on.
     Wrote(usize),
-    /// The byte at this place becomes this one.
+    /// The byte at this index was set to this value.
     SetByte(usize, u8),
-    /// The file keeps this many first bytes.
+    /// The file was cut to this many bytes.
     CutTo(usize),
-    /// All that was written becomes durable.
+    /// Everything written became durable.
     Synced,
-    /// A call that leaves the bytes of the file as they are.
+    /// A call that leaves the bytes of the file unchanged.
     Aside(Step),
 }
 
-/// A call that leaves the bytes of a file as they are.
+/// A call that leaves the bytes of a file unchanged.
 #[derive(Clone, Copy)]
 pub enum Step {
-    /// The file was made, since there was none of this name.
+    /// The file did not exist and was created.
     Made,
-    /// The file was there, and was opened.
+    /// The file existed and was opened.
     Found,
-    /// The lock of the file was taken.
+    /// The lock of the file was acquired.
     Locked,
-    /// The file was made durable, and these are its bytes.
+    /// The file was made durable and read, and these are its bytes.
     Read,
-    /// The file has these bytes at the moment. They need not be durable.
+    /// The file was read without a sync: these bytes need not be durable.
     Peeked,
-    /// The file of this name was looked at: it is still the one that is open, and ends where it did.
+    /// The file of this name was checked: it is still the open one, and ends where it did.
     InPlace,
-    /// The file of this name and `.cut` was opened, or made.
+    /// The file of this name plus `.cut` was opened or created.
     Beside,
-    /// These bytes were written at the end of the file of this name and `.cut`, and made durable there.
+    /// These bytes were appended to the file of this name plus `.cut`, and are durable there.
     KeptBeside,
     /// The name of the file was made durable.
     FolderSynced,

@@ -1,4 +1,4 @@
-//! The record of the calls on a file. Contracts alone see it: it takes no memory.
+//! The record of the calls on a file. Only contracts see it: it takes no memory.
 ghost use Rattle.std.specs.Prelude.{◌≡◌, List, ℕ, [], ◌∷◌};
 ghost use Rattle.std.specs.Borrow.{ftrue};
 ghost use Rattle.zvt_journal.specs.Calls.{Event};
@@ -18,14 +18,14 @@ impl Model for GhostCalls {
 }
 
 impl GhostCalls {
-    /// No call was made on a file that holds these bytes.
+    /// Returns the record of no calls on a file with these bytes.
     pub fn none(_bytes: &[u8]) -> GhostCalls
         ensures { (result.start ≡ _bytes.now) × (result.made ≡ []) }
     {
         GhostCalls {}
     }
 
-    /// A call more, with the bytes that it was given, and whether it answered `Ok`.
+    /// Returns the record with one more call, its bytes, and whether it returned `Ok`.
     pub fn with(&self, _call: &Call, _bytes: &[u8], _done: bool) -> GhostCalls
         ensures { (result.start ≡ self.now.start) × (result.made ≡ (_call.now, _bytes.now, _done) ∷ self.now.made) }
     {

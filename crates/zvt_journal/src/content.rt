@@ -1,4 +1,4 @@
-//! The possible contents of a journal's file, and the records that it stands for.
+//! The possible contents of a journal's file, and the records that a content represents.
 ghost use Rattle.std.specs.Prelude.{◌≡◌, ◌≤◌, ◌↔◌, length, drop, IfOk, IfErr, IsTrue, true};
 ghost use Rattle.zvt_journal.specs.Text.{whole};
 ghost use Rattle.zvt_journal.specs.Files.{IsNamed, IsBegun, begins_record, is_begun, is_opening_part, is_part};
@@ -11,14 +11,14 @@ use crate::journal::{LINE_FEED, MAX_RECORD_LEN, begins_marked, whole_lines};
 /// The beginning of a journal's first line.
 const FORMAT: [u8; 15] = *b"# zvt journal 1";
 
-/// Whether the text begins with a line that names the format.
+/// Returns whether the text begins with a line that names the format.
 fn is_named(bytes: &[u8]) -> bool
     ensures { IsTrue result ↔ IsNamed bytes.now }
 {
     bytes.starts_with(&FORMAT)
 }
 
-/// Whether a crash may leave these bytes before the first record is there.
+/// Returns whether a crash may leave these bytes before the first record is there.
 fn is_begun(bytes: &[u8]) -> bool
     ensures { result ≡ is_begun bytes.now }
 {
@@ -29,7 +29,7 @@ fn is_begun(bytes: &[u8]) -> bool
     }
 }
 
-/// Whether the first append may leave these bytes behind the gate.
+/// Returns whether the first append may leave these bytes after the gate.
 fn is_opening_part(part: &[u8]) -> bool
     ensures { result ≡ is_opening_part part.now }
 {
@@ -39,7 +39,8 @@ fn is_opening_part(part: &[u8]) -> bool
         || is_part(part, b" zvt journal 1, currency 0000\n\n")
 }
 
-/// Whether these are first ones of the wanted bytes, each of them there or still 0. A wanted `0` stands for each digit.
+/// Returns whether these are a prefix of the wanted bytes in which each byte is there or still 0. A wanted `0` stands
+/// for any digit.
 fn is_part(part: &[u8], wanted: &[u8]) -> bool
     ensures { result ≡ is_part part.now wanted.now }
 {
@@ -54,14 +55,15 @@ fn is_part(part: &[u8], wanted: &[u8]) -> bool
     true
 }
 
-/// Whether a torn write may leave this byte where that one is wanted.
+/// Returns whether a torn write may leave this byte in the place of the wanted one.
 fn may_stand(byte: u8, wanted: u8) -> bool
     ensures { result ≡ may_stand byte wanted }
 {
     byte == 0 || byte == wanted || wanted == b'0' && b'0' <= byte && byte <= b'9'
 }
 
-/// How many bytes of whole lines come before the first empty line, if a journal's file may hold these bytes.
+/// Returns the number of bytes in the complete lines before the first empty line, if a journal's file may contain these
+/// bytes.
 pub(crate) fn accepted_lines(bytes: &[u8]) -> Result<usize, JournalFileError>
     ensures whole { IfOk result (λ end. end ≡ whole 0 bytes.now) }
     ensures within { IfOk result (λ end. end ≤ length bytes.now) }
@@ -98,7 +100,7 @@ pub(crate) fn to_cut(bytes: &[u8], end: usize) -> &[u8]
     }
 }
 
-/// How many lines end in the text.
+/// Returns the number of lines that end in the text.
 fn lines_ended(text: &[u8]) -> usize
     ensures count { result ≡ lines_ended text.now }
     ensures within { result ≤ length text.now }
@@ -112,7 +114,7 @@ fn lines_ended(text: &[u8]) -> usize
     count
 }
 
-/// How many records begin in the text.
+/// Returns the number of records that begin in the text.
 fn records_in(text: &[u8]) -> usize
     ensures { result ≡ records_from true text.now }
 {
@@ -127,7 +129,7 @@ fn records_in(text: &[u8]) -> usize
     count
 }
 
-/// Whether the text begins as the first line of a record does.
+/// Returns whether the text begins like the first line of a record.
 fn begins_record(text: &[u8]) -> bool
     ensures { result ≡ begins_record text.now }
 {

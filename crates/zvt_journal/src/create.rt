@@ -1,5 +1,5 @@
-//! A journal's file: made or opened, locked and recovered. No call that opens it takes the runtime: a library that
-//! programs in C link has none.
+//! Opens a journal's file: creates it if necessary, locks it, and recovers its records. No call that opens it takes the
+//! runtime, because a library that programs in C link has none.
 ghost use Rattle.std.specs.Prelude.{◌≡◌, ◌<◌, ◌≤◌, ◌++◌, [], length, IfErr, IfOk, MatchResult};
 ghost use Rattle.zvt_journal.specs.Text.{recovered, whole, IsSettled};
 ghost use Rattle.zvt_journal.specs.Files.{file_seen, file_may_leave};
@@ -16,22 +16,22 @@ use crate::spare::Spare;
 use crate::{DeviceError, FileDevice, JournalFileError, open};
 use std::alloc::Global;
 
-/// An answer, and the calls on a file that led to it. Contracts alone see these: they take no memory.
+/// A result, and the calls on a file that led to it. Only contracts see the calls: they take no memory.
 #[derive(Drop)]
 pub struct Noted<T> {
     pub answer: T,
     pub calls: GhostCalls,
 }
 
-/// A journal's file that is open. Nobody else opens it as a journal as long as the device lives.
+/// An open journal file. Nobody else can open it as a journal while the device lives.
 #[derive(Drop)]
 pub struct Opened {
     pub device: FileDevice,
     /// The records that were recovered.
     pub text: Vec<u8>,
-    /// How many bytes were cut after the closed gate. The file of this name and `.cut` has them at its end.
+    /// The number of bytes that were cut after the closed gate. The file of this name plus `.cut` ends with them.
     pub cut: usize,
-    /// Whether there was no file before.
+    /// Whether the file did not exist before.
     pub created: bool,
 }
 
@@ -44,8 +44,8 @@ pub fn open_file(alloc: Global, path: &[u8]) -> Noted<Result<Opened, JournalFile
     ensures whole { IfOk result.answer (λ opened. recovered opened.text.items ≡ opened.text.items) }
     ensures settled { IfOk result.answer (λ opened. IsSettled (file_seen opened.device) (file_may_leave opened.device)
         (length opened.text.items)) }
-    // The file was locked, then made durable and read, and then looked at again; what was cut was kept before that, and
-    // the name was made durable. An error comes only with its cause.
+    // The file was locked, made durable, read and checked again; bytes to be removed were saved before they were cut,
+    // and the name was made durable. An error occurs only with its cause.
     ensures calls { MatchResult result.answer
         (λ opened. WasOpened path.now result.calls.made opened.text.items opened.cut opened.created)
         (λ error. WhyRefused error result.calls.made) }
@@ -92,10 +92,10 @@ fn opened_by(calls: &mut GhostCalls, alloc: Global, path: &[u8]) -> Result<Opene
     }
 }
 
-/// The records that a journal's file has at this moment, for a program that only looks. It takes no lock and writes
-/// nothing.
+/// Reads the records that a journal's file contains at this moment, for a program that only looks. Takes no lock and
+/// writes nothing.
 ///
-/// Its text is whole lines, none of them empty. They need not be durable.
+/// The text consists of complete lines, none of them empty. They need not be durable.
 pub fn read_book(
     rt: &HostRuntime,
     alloc: Global,
@@ -130,7 +130,8 @@ fn peeked_by(
     Ok(bytes)
 }
 
-/// How many bytes of whole lines come before the first empty line of what was read, if a journal's file may hold it.
+/// Returns the number of bytes in the complete lines before the first empty line, if a journal's file may contain the
+/// bytes read.
 fn accepted(calls: &GhostCalls, bytes: &[u8]) -> Result<usize, JournalFileError>
     requires { WasRead bytes.now calls.now.made }
     ensures whole { IfOk result (λ end. end ≡ whole 0 bytes.now) }
@@ -141,7 +142,7 @@ fn accepted(calls: &GhostCalls, bytes: &[u8]) -> Result<usize, JournalFileError>
     accepted_lines(bytes)
 }
 
-/// Appends the bytes that will be removed to the file of this name and `.cut`, and returns their number.
+/// Appends the bytes that will be removed to the file of this name plus `.cut`, and returns their number.
 fn keep_cut(
     calls: &mut GhostCalls,
     alloc: Global,
@@ -158,7 +159,7 @@ fn keep_cut(
     Ok(cut.len())
 }
 
-/// Why the device refused a call.
+/// Returns why the device refused a call.
 fn refusal(why: DeviceError, device: &FileDevice) -> JournalFileError
     requires { why ≡ DeviceError.Failed → 0 < failed_among device.now.calls.made }
     ensures { WhyRefused result device.now.calls.made }

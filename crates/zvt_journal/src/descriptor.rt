@@ -1,6 +1,6 @@
 //! An open file by its descriptor, without the runtime, which a library linked into C programs does not have.
 //!
-//! Paths are bytes, as they are to Linux.
+//! Paths are bytes, as in Linux.
 ghost use Rattle.std.specs.Prelude.{◌≤◌, length};
 
 use os::FromRawFd;
@@ -8,10 +8,10 @@ use std::alloc::Global;
 use std::io;
 use std::os::fd::{AsRawFd, OwnedFd};
 
-/// How often a call is made again that a signal interrupted, or that took a part of its bytes.
+/// Maximum number of attempts of a call that a signal interrupted, or that took only some of its bytes.
 const MAX_TURNS: u32 = 1 << 30;
 
-/// Why the last call failed.
+/// Returns why the last call failed.
 fn last_error() -> io::Error {
     io::Error::from_raw_os_error(os::errno())
 }
@@ -25,8 +25,8 @@ fn checked(status: i32) -> io::Result<()> {
     }
 }
 
-/// Opens a file by C's flags. Its number is none of a standard stream: what is printed to a stream that was closed must
-/// not land in it.
+/// Opens a file with C's flags. Its descriptor is never that of a standard stream, so that text printed to a closed
+/// stream cannot end up in the file.
 pub(crate) fn opened(path: &[u8], flags: i32, mode: u32) -> io::Result<OwnedFd> {
     let number = os::open_with(path, libc::O_CLOEXEC | flags, mode);
     if number < 0 {
@@ -66,7 +66,7 @@ pub(crate) fn try_lock(file: &OwnedFd) -> io::Result<bool> {
     }
 }
 
-/// Whether a file of this name is there that is locked and has this many bytes.
+/// Returns whether the file of this name is locked and has this many bytes.
 ///
 /// A lock belongs to an open file. If the lock of the file with this name is free, that file is not the one that the
 /// caller has locked. If another till has locked it, the bytes differ.
@@ -87,12 +87,12 @@ pub(crate) fn is_in_place(path: &[u8], size: usize) -> io::Result<bool> {
     Ok(libc::pread(named.as_raw_fd(), &mut last, place) == wanted)
 }
 
-/// Makes all of a file durable.
+/// Makes the whole file durable.
 pub(crate) fn sync_all(file: &OwnedFd) -> io::Result<()> {
     checked(libc::fsync(file.as_raw_fd()))
 }
 
-/// Makes what was written durable.
+/// Makes the written bytes durable.
 pub(crate) fn sync_data(file: &OwnedFd) -> io::Result<()> {
     checked(libc::fdatasync(file.as_raw_fd()))
 }
@@ -105,7 +105,7 @@ pub(crate) fn set_len(file: &OwnedFd, len: usize) -> io::Result<()> {
     }
 }
 
-/// Writes all of these bytes from this place on.
+/// Writes all of these bytes from this index on.
 pub(crate) fn write_all_at(file: &OwnedFd, at: usize, bytes: &[u8]) -> io::Result<()> {
     let Ok(start) = i64::try_from(at) else {
         return Err(io::Error::from_raw_os_error(libc::EINVAL));
@@ -131,7 +131,7 @@ pub(crate) fn write_all_at(file: &OwnedFd, at: usize, bytes: &[u8]) -> io::Resul
     Err(io::Error::from(io::ErrorKind::WriteZero))
 }
 
-/// The bytes of the file, all of them durable; the kernel is asked to read from the disk.
+/// Returns the bytes of the file after making them durable. Asks the kernel to read from the disk.
 pub(crate) fn durable_bytes(alloc: Global, file: &OwnedFd) -> io::Result<Vec<u8>> {
     sync_all(file)?;
     let advised = libc::posix_fadvise(file.as_raw_fd(), 0, 0, libc::POSIX_FADV_DONTNEED);
@@ -185,7 +185,7 @@ pub(crate) fn sync_folder_of(path: &[u8]) -> io::Result<()> {
 }
 
 /// Appends these bytes to a file and makes them durable. Creates the file if it does not exist. The file is opened for
-/// reading too, so that a FIFO of that name fails and does not wait for a reader.
+/// reading too, so that a FIFO of that name is an error instead of waiting for a reader.
 pub(crate) fn append_synced(path: &[u8], bytes: &[u8]) -> io::Result<()> {
     let file = opened(path, libc::O_RDWR | libc::O_APPEND | libc::O_CREAT, 0o600)?;
     write_all_at(&file, 0, bytes)?;

@@ -22,7 +22,7 @@ pub enum DeviceError {
     Full,
 }
 
-/// No disk space could be reserved for the records of a payment. The file is as it was, and can still be written.
+/// No disk space could be reserved for the records of a payment. The file is unchanged and can still be written.
 #[derive(Clone, Copy, Debug, Drop, PartialEq, Eq, Error)]
 #[error("the disk has no room for the records of a payment: free some space")]
 pub struct NoSpace;
@@ -64,13 +64,13 @@ pub trait Device {
     /// The files that a crash at this moment may leave.
     ghost may_leave: { Self → List ℕ → Type 0 };
 
-    /// The moment: a number that doesn't fall.
+    /// The moment: a number that never decreases.
     ghost moment: { Self → ℕ };
 
-    /// The files that a crash at some moment from that one on might have left, during a call or between two.
+    /// The files that a crash at some moment since that one might have left, during a call or between two.
     ghost left_since: { Self → ℕ → List ℕ → Type 0 };
 
-    /// How often the disk has failed.
+    /// The number of failures of the disk.
     ghost faults: { Self → ℕ };
 
     /// Whether disk space is reserved for the next writes.
@@ -86,7 +86,8 @@ pub trait Device {
         ensures later { faults self.old ≤ faults self.new }
         ensures cause { OnErr result (faults self.old < faults self.new) };
 
-    /// Writes over the file, and past its end. Until the next `sync` a crash may leave any of them.
+    /// Overwrites bytes of the file, and extends it if they reach beyond its end. Until the next `sync`, a crash may
+    /// leave any of them unwritten.
     fn write_at(&mut self, at: usize, bytes: &[u8]) -> Result<(), DeviceError>
         requires { at ≤ length (seen self.old) }
         ensures written { OnOk result (Over at bytes.now (seen self.old) (seen self.new)) }
@@ -95,7 +96,7 @@ pub trait Device {
             (may_leave self.new) }
         ensures cause { HasCause (faults self.old) (faults self.new) result };
 
-    /// Writes one byte over another. Until the next `sync` a crash may leave the one or the other.
+    /// Overwrites one byte. Until the next `sync`, a crash may leave the old byte or the new one.
     fn set_byte(&mut self, at: usize, byte: u8) -> Result<(), DeviceError>
         requires { at < length (seen self.old) }
         ensures written { OnOk result (Over at (byte ∷ []) (seen self.old) (seen self.new)) }
@@ -113,7 +114,7 @@ pub trait Device {
             (may_leave self.new) }
         ensures cause { HasCause (faults self.old) (faults self.new) result };
 
-    /// Makes all that was written durable: a crash then leaves what a read returns.
+    /// Makes everything written durable: from then on, a crash leaves exactly the bytes that a read returns.
     fn sync(&mut self) -> Result<(), DeviceError>
         ensures durable { OnOk result (Only (seen self.old) (may_leave self.new)) }
         ensures seen { seen self.new ≡ seen self.old }
@@ -122,11 +123,11 @@ pub trait Device {
             (may_leave self.new) }
         ensures cause { HasCause (faults self.old) (faults self.new) result };
 
-    /// This moment is one of those since an earlier one.
+    /// This moment is one of the moments since an earlier one.
     ghost counts_now: { (device : Self) (t : ℕ) (file : List ℕ) → t ≤ moment device → may_leave device file
         → left_since device t file };
 
-    /// Since this moment there is no other.
+    /// Since this moment there has been no other.
     ghost only_now: { (device : Self) (file : List ℕ) → left_since device (moment device) file
         → may_leave device file };
 }

@@ -1,4 +1,4 @@
-//! Changes of a file that are durable when they are done: one call on the device, and a sync.
+//! Changes of a file that are durable when they return: one call on the device, and a sync.
 ghost use Rattle.std.specs.Prelude.{◌≡◌, ◌≤◌, ◌<◌, [], ◌∷◌, length, take, OnOk, IsErrOf};
 ghost use Rattle.zvt_journal.specs.Device.{Only, Torn, Swapped, Cut, Over, LeavesOnly};
 
@@ -25,7 +25,7 @@ pub(crate) fn write_synced<D: Device>(
     device.sync()
 }
 
-/// Writes one byte over another, and makes it durable.
+/// Overwrites one byte, and makes it durable.
 pub(crate) fn set_synced<D: Device>(device: &mut D, at: usize, byte: u8) -> Result<(), DeviceError>
     requires durable { Only (D.seen device.old) (D.may_leave device.old) }
     requires within { at < length (D.seen device.old) }

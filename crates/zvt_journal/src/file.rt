@@ -1,8 +1,9 @@
 //! A file of the operating system as a device.
 //!
-//! No contract of std says what a file holds. So the device notes each call and its answer in a record that contracts
-//! alone see, and what a read returns and what a crash may leave are read off that record. It is trusted that each call
-//! is made that is noted, that a file is as the crash model of `Device` says, and that nobody else writes it.
+//! No contract of `std` says what a file contains. Therefore the device notes each call and its result in a record that
+//! only contracts see, and the bytes that a read returns or a crash may leave are derived from that record. It is
+//! trusted that each noted call was made, that files follow the crash model of `Device`, and that nobody else writes
+//! the file.
 ghost use Rattle.std.specs.Prelude.{◌≡◌, ◌↔◌, [], ◌∷◌, length, is_err, is_ok, is_some};
 ghost use Rattle.std.specs.Prelude.{IfErr, IfOk, IsOk, IsNone, IsSome, MatchResult, OnErr, OnOk, Some};
 ghost use Rattle.zvt_journal.specs.Calls.{seen_after, may_leave_after, left_since_after, failed_among, counts_now};
@@ -19,7 +20,7 @@ use std::os::fd::OwnedFd;
 /// Why a call on a journal's file failed.
 #[derive(Clone, Copy, Debug)]
 pub enum FileFailure {
-    /// The file of the name was another one than the one that was opened, or had other bytes at its end.
+    /// The name belongs to another file than the open one, or the file no longer ends where it did.
     Displaced,
     /// No disk space could be reserved.
     Unreserved(io::Error),
@@ -37,8 +38,8 @@ impl From<io::Error> for FileFailure {
     }
 }
 
-/// A file of the operating system. After a call has failed, it makes no further calls, and each of them returns
-/// `Failed`. Only a reservation may fail without that.
+/// A file of the operating system. After a call has failed, the device makes no further calls, and each returns
+/// `Failed`. A failed reservation is the only exception.
 ///
 /// A write fails if its name now belongs to another file, or if the file does not end where the bytes belong. A write
 /// that finds the disk full uses the reserved space.
@@ -67,14 +68,14 @@ impl FileDevice {
         }
     }
 
-    /// Why the first call that failed did so, reservations left aside. The device makes no calls from then on.
+    /// Returns why the first failed call failed, apart from reservations. The device has made no calls since.
     pub fn failure(&self) -> Option<FileFailure>
         ensures { result ≡ self.now.failure }
     {
         self.failure
     }
 
-    /// Why the last reservation of disk space failed, if it did.
+    /// Returns why the last reservation of disk space failed, if it did.
     pub fn shortage(&self) -> Option<FileFailure>
         ensures { result ≡ self.now.shortage }
     {
@@ -117,7 +118,7 @@ impl FileDevice {
     }
 }
 
-/// The file, if no call failed so far.
+/// Returns the file, if no call has failed so far.
 fn usable(file: &OwnedFd, failure: Option<FileFailure>) -> Usable<'_>
     ensures { IsOk result ↔ IsNone failure }
 {
@@ -171,7 +172,8 @@ impl Device for FileDevice {
     }
 }
 
-/// The content that a read returns is one of those that a crash may leave, whatever calls were made within the file.
+/// Law: the content that a read returns is one of the contents that a crash may leave, whatever calls were made within
+/// the file.
 pub fn a_read_may_be_left()
     ensures { SeenMayBeLeft }
 {}

@@ -1,4 +1,4 @@
-//! Records of text lines, and the gate that makes each of them count at once.
+//! Appends records of text lines, each of which takes effect at once through a gate.
 ghost use Rattle.std.specs.Prelude.{◌≡◌, true, All, ◌↔◌, ◌⊎◌, ◌+◌, ◌<◌, ◌≤◌, ◌^◌, ◌++◌, [], ◌∷◌, List, ℕ, get_or};
 ghost use Rattle.std.specs.Prelude.{length, drop, IfOk, OnErr, OnOk, IsErrOf, IsTrue};
 ghost use Rattle.zvt_journal.specs.Device.{Only, LeavesOnly};
@@ -13,26 +13,27 @@ use std::alloc::{AllocError, Global};
 
 pub(crate) const LINE_FEED: u8 = b'\n';
 
-/// The length from which on a journal takes no record.
+/// The file size from which on a journal accepts no record, in bytes.
 const MAX_JOURNAL_LEN: usize = 1 << 60;
 
-/// The length of the longest record. A crash leaves no more bytes than these, and one, after the whole lines of a file.
+/// Maximum size of a record in bytes. After the complete lines of a file, a crash leaves at most one byte more than
+/// this.
 pub const MAX_RECORD_LEN: usize = 1 << 18;
 
-/// A journal that is open, over its device. [`open`] says where its gate is.
+/// An open journal over its device. [`open`] returns the position of its gate.
 #[derive(Drop)]
 pub struct Journal<D: Device> {
     pub alloc: Global,
     pub device: D,
-    /// The place of the closed gate: how many bytes the records have.
+    /// The position of the closed gate, which is the size of the records in bytes.
     pub gate: usize,
 }
 
 impl<D: Device> Journal<D> {
-    /// Reserves disk space, so that the next record and those that follow from it do not find the disk full. The file
-    /// stays as it is.
+    /// Reserves disk space, so that the next record and the records that follow from it do not find the disk full. The
+    /// file does not change.
     ///
-    /// An error comes only if the disk failed to give the space. The journal can still be used after it.
+    /// Fails only if the disk does not have the space. The journal can still be used then.
     pub fn reserve(&mut self) -> Result<(), NoSpace>
         requires { IsSettled (D.seen self.old.device) (D.may_leave self.old.device) self.old.gate }
 
@@ -64,18 +65,18 @@ impl<D: Device> Journal<D> {
             entry.now) }
         ensures longest { OnOk result (length entry.now ≤ 2 ^ 18) }
 
-        // A crash at any moment of the call leaves the text from before it, with the record or without.
+        // A crash at any moment of the call leaves the earlier text, with or without the record.
         ensures any_moment { LeavesOnly D.moment D.left_since self.old.device self.new.device
             (IsWithOrWithout (recovered (D.seen self.old.device)) entry.now) }
 
-        // Opening repairs that file: no more comes after its whole lines than a record and one byte, and no line.
+        // Opening repairs that file: its complete lines are followed by at most a record and one byte, and no line.
         ensures repairable { LeavesOnly D.moment D.left_since self.old.device self.new.device IsRepairable }
 
-        // And opening takes it for a journal's file, if the record goes behind others or is the opening of a new one.
+        // Opening accepts it as a journal's file, if the record follows others or is the opening of a new one.
         ensures known { GoesOn (recovered (D.seen self.old.device)) entry.now → LeavesOnly D.moment D.left_since
             self.old.device self.new.device IsKnown }
 
-        // It doesn't give up by itself.
+        // It fails only for one of these causes.
         ensures failed { IsErrOf result DeviceError.Failed → D.faults self.old.device < D.faults self.new.device }
         ensures full { IsErrOf result DeviceError.Full → (2 ^ 60 ≤ self.old.gate) ⊎ (2 ^ 18 < length entry.now) }
         ensures faults { D.faults self.old.device ≤ D.faults self.new.device }
@@ -91,7 +92,8 @@ impl<D: Device> Journal<D> {
         Ok(())
     }
 
-    /// Adds records one after another, in the order given. After `Err` the file has some first ones of them.
+    /// Appends records one after another, in the order given. After `Err`, the file contains the first of them, and
+    /// none of the others.
     pub fn append_all(&mut self, entries: &[Vec<u8>]) -> Result<(), DeviceError>
         requires settled { IsSettled (D.seen self.old.device) (D.may_leave self.old.device) self.old.gate }
         requires entries { All (λ entry. IsRecord entry.items) entries.now }
@@ -100,7 +102,7 @@ impl<D: Device> Journal<D> {
         ensures acknowledged { OnOk result (recovered (D.seen self.new.device) ≡ recovered (D.seen self.old.device) ++
             joined entries.now) }
 
-        // A crash at any moment leaves the text from before the call and some first ones of the records, whole.
+        // A crash at any moment leaves the earlier text and a prefix of the records, each of them complete.
         ensures any_moment { LeavesOnly D.moment D.left_since self.old.device self.new.device
             (HasFirst (recovered (D.seen self.old.device)) entries.now) }
         ensures repairable { LeavesOnly D.moment D.left_since self.old.device self.new.device IsRepairable }
@@ -142,11 +144,11 @@ pub fn open<D: Device>(device: &mut D, mut bytes: Vec<u8>) -> Result<Vec<u8>, De
     ensures settled { IfOk result (λ text. IsSettled (D.seen device.new) (D.may_leave device.new) (length text.items)) }
     ensures kept { OnOk result (recovered (D.seen device.new) ≡ recovered (D.seen device.old)) }
 
-    // A crash at any moment leaves the same text, or what it might have left before.
+    // A crash at any moment leaves the same text, or a file that it might have left before the call.
     ensures any_moment { LeavesOnly D.moment D.left_since device.old device.new
         (IsAsBefore (D.may_leave device.old) (recovered (D.seen device.old))) }
 
-    // Nor does it leave a file that opening refuses, if it was given none.
+    // It leaves no file that opening refuses, if it was given none.
     ensures repairable { IsRepairable (D.seen device.old) → LeavesOnly D.moment D.left_since device.old device.new
         (IsRepairableAsBefore (D.may_leave device.old)) }
     ensures known { IsKnown (D.seen device.old) → LeavesOnly D.moment D.left_since device.old device.new
@@ -161,22 +163,22 @@ pub fn open<D: Device>(device: &mut D, mut bytes: Vec<u8>) -> Result<Vec<u8>, De
         bytes.truncate(end);
         return Ok(bytes);
     }
-    // The cut is on the disk before a gate is written: after a torn gate what was there would count.
+    // The cut is on the disk before a gate is written; otherwise the old bytes would count after a torn gate.
     cut_synced(device, end)?;
     write_synced(device, end, &[LINE_FEED])?;
     bytes.truncate(end);
     Ok(bytes)
 }
 
-/// Whether these bytes are a closed gate, and no more.
+/// Returns whether these bytes are a closed gate and nothing more.
 fn is_gate_alone(rest: &[u8]) -> bool
     ensures { IsTrue result ↔ (rest.now ≡ 10 ∷ []) }
 {
     matches!(rest, [LINE_FEED])
 }
 
-/// Whether these are whole lines, none of them empty, at least one, and no mark comes second: what a journal takes as a
-/// record.
+/// Returns whether a journal accepts this text as a record: it is at least one line, all lines are complete and none is
+/// empty, and the text without its first byte does not begin like a record.
 #[tactic(auto, using(crate::proofs::Meaning::record_if, crate::proofs::Meaning::record_whole))]
 pub fn is_record(text: &[u8]) -> bool
     ensures { IsTrue result ↔ IsRecord text.now }
@@ -184,28 +186,28 @@ pub fn is_record(text: &[u8]) -> bool
     !text.is_empty() && !begins_marked(&text[1..]) && whole_lines(text) == text.len()
 }
 
-/// Recovery returns exactly the lines before a closed gate, whatever follows it. Every file stands for such lines, and
-/// recovering them again changes nothing.
+/// Law: recovery returns exactly the lines before a closed gate, whatever follows it. Every file stands for such lines,
+/// and recovering them again changes nothing.
 pub fn lines_are_recovered()
     ensures lines { LinesAreRecovered }
     ensures converse { RecoveredIsLines }
     ensures again { (file : List ℕ) → recovered (recovered file) ≡ recovered file }
 {}
 
-/// No crash of an append, of several, or of [`open`] leaves a file that opening refuses. By the clauses `known` and
-/// `repairable` of these calls a file that a crash leaves is known and repairable.
+/// Law: no crash during an append, several appends, or [`open`] leaves a file that opening refuses. By the clauses
+/// `known` and `repairable` of these calls, a file that a crash leaves is known and repairable.
 pub fn no_crash_is_refused()
     ensures { NoneIsRefused }
 {}
 
-/// Whether the text begins as a line of a till's record does.
+/// Returns whether the text begins like a line of a till's record.
 pub(crate) fn begins_marked(text: &[u8]) -> bool
     ensures { result ≡ begins_marked text.now }
 {
     matches!(text.first(), Some(&(b'!' | b'#' | b'<' | b'>')))
 }
 
-/// How many bytes of whole lines come before the first empty line.
+/// Returns the number of bytes in the complete lines before the first empty line.
 pub(crate) fn whole_lines(bytes: &[u8]) -> usize
     ensures whole { result ≡ whole 0 bytes.now }
     ensures within { result ≤ length bytes.now }

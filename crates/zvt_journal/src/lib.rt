@@ -1,8 +1,8 @@
 //! A journal: text records in a file, each complete or absent, whenever the process ends.
 //!
-//! A record is one or more lines, none of them empty. At rest the file is its records and one line feed, the closed
-//! gate, which reads as an empty line. A file stands for its complete lines up to the first empty one. [`open`]
-//! recovers them, and [`Journal::append`] adds a record in two steps, each durable before the next: it writes the
+//! A record is one or more lines, none of them empty. At rest, the file consists of its records and one line feed, the
+//! closed gate, which reads as an empty line. The file stands for its complete lines up to the first empty one.
+//! [`open`] recovers them. [`Journal::append`] adds a record in two steps, each durable before the next: it writes the
 //! record without its first byte after the gate, and then the first byte over the gate.
 #![tactic(auto)]
 

@@ -7,7 +7,7 @@ ghost use Rattle.zvt_journal.specs.Past.{Was, only_last};
 use crate::{Device, DeviceError, NoSpace};
 use std::alloc::{AllocError, Global};
 
-/// A file in memory. It keeps each past content, so that a test can open what each crash would have left.
+/// A file in memory. It keeps every past content, so that a test can open what each crash would have left.
 #[derive(Drop)]
 pub struct Memory {
     alloc: Global,
@@ -36,13 +36,13 @@ impl Memory {
         &self.bytes
     }
 
-    /// The contents that it had, oldest first.
+    /// Returns the past contents, oldest first.
     pub fn past(&self) -> &[Vec<u8>] {
         &self.past
     }
 }
 
-/// Puts `next` in the place of `bytes`, which it keeps as the newest of the past.
+/// Replaces the content by `next`, and keeps the old content as the newest past one.
 fn replace(
     alloc: Global,
     bytes: &mut Vec<u8>,
@@ -59,7 +59,7 @@ fn replace(
     Ok(())
 }
 
-/// A copy of `old` with these bytes over it.
+/// Returns a copy of `old` with these bytes written over it.
 fn over(alloc: Global, old: &[u8], at: usize, bytes: &[u8]) -> Result<Vec<u8>, AllocError>
     requires { at ≤ length old.now }
     ensures { IfOk result (λ new. Over at bytes.now old.now new.items) }

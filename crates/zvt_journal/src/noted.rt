@@ -1,7 +1,7 @@
-//! The system calls on a journal's file. Each is noted in a record that only contracts see.
+//! The system calls on a journal's file, each noted in a record that only contracts see.
 //!
-//! It is trusted that each function here makes the call that it notes, and that what a read gives is what the file has.
-//! All else that is said of a journal's file is proved over these notes.
+//! It is trusted that each function makes the call that it notes, and that a read returns what the file contains.
+//! Everything else about a journal's file is proved from these notes.
 ghost use Rattle.std.specs.Prelude.{◌≡◌, [], ◌∷◌, is_ok, true, false, IfErr, IfOk, IsErr, IsSome, MatchResult};
 ghost use Rattle.zvt_journal.specs.Opening.{IsOfCall, IsLocked, IsOfFolder, WhyRefused, found_by};
 
@@ -18,13 +18,13 @@ use std::io::ErrorKind;
 use std::os::fd::OwnedFd;
 use std::{fs, io};
 
-/// Who may read and write a file that is made here: its owner.
+/// The permissions of a new file: only its owner may read and write it.
 const OWNER_ALONE: u32 = 0o600;
 
 /// An open file, or why an earlier call on it failed.
 pub(crate) type Usable<'a> = Result<&'a OwnedFd, FileFailure>;
 
-/// Notes a call with the bytes that it was given, and whether it answered yes.
+/// Notes a call with its bytes, and whether it succeeded.
 fn note(calls: &mut GhostCalls, call: Call, bytes: &[u8], done: bool)
     ensures start { calls.new.start ≡ calls.old.start }
     ensures made { calls.new.made ≡ (call, bytes.now, done) ∷ calls.old.made }
@@ -32,7 +32,7 @@ fn note(calls: &mut GhostCalls, call: Call, bytes: &[u8], done: bool)
     *calls = calls.with(&call, bytes, done);
 }
 
-/// The file, and whether this call made it. None is made where its name can't be made durable.
+/// Opens or creates the file, and returns whether it was created. Creates none if its name cannot be made durable.
 pub(crate) fn open_or_make(
     calls: &mut GhostCalls,
     path: &[u8],
@@ -54,7 +54,7 @@ pub(crate) fn open_or_make(
     }
 }
 
-/// Makes the file, once its folder was synced.
+/// Creates the file after syncing its directory.
 fn make(calls: &mut GhostCalls, path: &[u8]) -> Result<(OwnedFd, bool), JournalFileError>
     ensures { MatchResult result
         (λ found. calls.new.made ≡ (Call.Aside (found_by found.1), path.now, true) ∷ calls.old.made)
@@ -77,7 +77,7 @@ fn make(calls: &mut GhostCalls, path: &[u8]) -> Result<(OwnedFd, bool), JournalF
     }
 }
 
-/// Why the name of a file can't be made durable: its folder is not there, or can't be read or synced.
+/// Returns why the name of a file cannot be made durable: its directory does not exist, or cannot be read or synced.
 fn why_no_name(error: io::Error) -> JournalFileError
     ensures { IsOfFolder result }
 {
@@ -87,7 +87,8 @@ fn why_no_name(error: io::Error) -> JournalFileError
     }
 }
 
-/// Anything but a regular file can be opened, but its first sync fails: Linux returns EINVAL.
+/// Returns the error for something that is not a regular file. It can be opened, but its first sync fails: Linux
+/// returns EINVAL.
 pub(crate) fn why_no_file(error: io::Error) -> JournalFileError
     ensures { IsOfCall result }
 {
@@ -98,8 +99,7 @@ pub(crate) fn why_no_file(error: io::Error) -> JournalFileError
     }
 }
 
-/// Looks whether there is a regular file of this name: a FIFO without a writer is not opened for reading before one
-/// comes.
+/// Checks that a regular file of this name exists, because opening a FIFO for reading waits for a writer.
 pub(crate) fn find(
     calls: &mut GhostCalls,
     rt: &HostRuntime,
@@ -118,7 +118,7 @@ pub(crate) fn find(
     answer
 }
 
-/// Refuses what is no regular file.
+/// Refuses anything that is not a regular file.
 fn only_regular(rt: &HostRuntime, path: &str) -> Result<(), JournalFileError>
     ensures { IfErr result IsOfCall }
 {
@@ -151,7 +151,7 @@ pub(crate) fn try_lock(calls: &mut GhostCalls, file: &OwnedFd) -> io::Result<boo
     answer
 }
 
-/// The bytes of the file, which is locked. They are durable.
+/// Returns the bytes of the file, which is locked. They are durable.
 pub(crate) fn read(calls: &mut GhostCalls, alloc: Global, file: &OwnedFd) -> io::Result<Vec<u8>>
     requires { IsLocked calls.old.made }
     ensures { MatchResult result
@@ -166,7 +166,7 @@ pub(crate) fn read(calls: &mut GhostCalls, alloc: Global, file: &OwnedFd) -> io:
     answer
 }
 
-/// The bytes that the file of this name has at the moment.
+/// Returns the bytes that the file of this name contains at the moment.
 pub(crate) fn peek(calls: &mut GhostCalls, alloc: Global, path: &[u8]) -> io::Result<Vec<u8>>
     ensures { MatchResult result
         (λ bytes. calls.new.made ≡ (Call.Aside Step.Peeked, bytes.items, true) ∷ calls.old.made)
@@ -180,7 +180,7 @@ pub(crate) fn peek(calls: &mut GhostCalls, alloc: Global, path: &[u8]) -> io::Re
     answer
 }
 
-/// The bytes of the file of this name.
+/// Returns the bytes of the file of this name.
 fn bytes_of(alloc: Global, path: &[u8]) -> io::Result<Vec<u8>> {
     let file = opened(path, libc::O_RDONLY, 0)?;
     let mut bytes = Vec::new(alloc);
@@ -188,7 +188,7 @@ fn bytes_of(alloc: Global, path: &[u8]) -> io::Result<Vec<u8>> {
     Ok(bytes)
 }
 
-/// Whether the file of this name is the one that the caller has locked, and has this many bytes.
+/// Returns whether the file of this name is the one that the caller has locked, and has this many bytes.
 pub(crate) fn is_in_place(calls: &mut GhostCalls, path: &[u8], size: usize) -> io::Result<bool>
     ensures { MatchResult result
         (λ is. calls.new.made ≡ (Call.Aside Step.InPlace, path.now, is) ∷ calls.old.made)
@@ -204,7 +204,7 @@ pub(crate) fn is_in_place(calls: &mut GhostCalls, path: &[u8], size: usize) -> i
     answer
 }
 
-/// Writes these bytes at the end of the file of this name and `.cut`, and makes them durable there.
+/// Appends these bytes to the file of this name plus `.cut`, and makes them durable there.
 pub(crate) fn keep_beside(
     calls: &mut GhostCalls,
     alloc: Global,
@@ -220,7 +220,7 @@ pub(crate) fn keep_beside(
     answer
 }
 
-/// Appends the bytes to the file of this name and `.cut`.
+/// Appends the bytes to the file of this name plus `.cut`.
 fn append_beside(alloc: Global, path: &[u8], bytes: &[u8]) -> io::Result<()> {
     let mut name = path.to_vec(alloc)?;
     name.extend_from_slice(b".cut")?;
@@ -238,7 +238,7 @@ pub(crate) fn sync_folder(calls: &mut GhostCalls, path: &[u8]) -> Result<(), Jou
     answer.map_err(why_no_name)
 }
 
-/// Holds space back for what is written next.
+/// Reserves disk space for the next writes.
 pub(crate) fn reserve(
     calls: &mut GhostCalls,
     file: Usable<'_>,
@@ -275,7 +275,7 @@ pub(crate) fn write_at_end(
     answer
 }
 
-/// Looks whether the file is in its place, and writes at its end.
+/// Checks that the file is in its place, and writes at its end.
 fn written(file: Usable<'_>, spare: &mut Spare, at: usize, bytes: &[u8]) -> Result<(), FileFailure>
     ensures { IsErr file.entry → IsErr result }
 {
@@ -285,8 +285,8 @@ fn written(file: Usable<'_>, spare: &mut Spare, at: usize, bytes: &[u8]) -> Resu
     }
     let answer = write_with(file, spare, at, bytes);
     if answer.is_err() {
-        // What was written of them goes, so that opening has nothing to keep on a full disk. They may stay: nothing
-        // counts on it.
+        // Removes the bytes that were written, so that opening has nothing to save on a full disk. This may fail:
+        // nothing relies on it.
         let _ = set_len(file, at);
     }
     answer
@@ -307,7 +307,7 @@ fn write_with(
     }
 }
 
-/// Whether the disk, or the user's share of it, is full.
+/// Returns whether the disk, or the user's share of it, is full.
 fn is_full(error: &io::Error) -> bool {
     matches!(
         error.kind(),
@@ -349,7 +349,7 @@ pub(crate) fn cut(calls: &mut GhostCalls, file: Usable<'_>, len: usize) -> Resul
     answer
 }
 
-/// Makes what was written durable.
+/// Makes the written bytes durable.
 pub(crate) fn sync(calls: &mut GhostCalls, file: Usable<'_>) -> Result<(), FileFailure>
     ensures start { calls.new.start ≡ calls.old.start }
     ensures made { calls.new.made ≡ (Call.Synced, [], is_ok result) ∷ calls.old.made }

@@ -25,22 +25,22 @@ pub(crate) struct Spare {
 }
 
 impl Spare {
-    /// Reserves no space beside the file of this name.
+    /// Creates a reservation beside the file of this name that holds no space yet.
     pub(crate) fn none(alloc: Global, path: &[u8]) -> Result<Spare, AllocError>
         ensures { IfOk result (λ spare. IsNone spare.held) }
     {
         let mut path = path.to_vec(alloc)?;
-        // So that no memory is asked for later.
+        // This avoids an allocation later.
         path.reserve(SUFFIX.len())?;
         Ok(Spare { path, held: None })
     }
 
-    /// The path of the file.
+    /// Returns the path of the file.
     pub(crate) fn path(&self) -> &[u8] {
         &self.path
     }
 
-    /// Holds the space back, if it isn't yet.
+    /// Reserves the space, unless it is reserved already.
     pub(crate) fn hold(&mut self) -> io::Result<()>
         ensures { IfOk result (λ _. IsSome self.new.held) }
     {
@@ -67,8 +67,7 @@ impl Spare {
     }
 }
 
-/// Writes bytes that no file system stores in less space than they have, and makes them durable: so it can't find later
-/// that it has no room for them.
+/// Writes bytes that no file system can compress, and makes them durable, so that the space is really taken.
 fn fill(file: &OwnedFd) -> io::Result<()> {
     let mut piece = [0; PIECE];
     let mut noise: u32 = 1;

@@ -4,18 +4,18 @@ ghost use Rattle.zvt_journal.specs.Torn.{torn};
 
 use std::alloc::{AllocError, Global};
 
-/// How a crash tears a write.
+/// The way in which a crash tears a write.
 #[derive(Clone, Copy, Debug)]
 pub enum Tear {
-    /// The bytes before the place are the new ones.
+    /// The bytes before the index are new.
     First,
-    /// The bytes from the place on are the new ones.
+    /// The bytes from the index on are new.
     Last,
-    /// The bytes before the place are the new ones, and the file has its new length already. Its end is zeros.
+    /// The bytes before the index are new, and the file already has its new length. Its end is zeros.
     Padded,
 }
 
-/// A file that a crash may leave between two contents of a [`Memory`](crate::Memory), one call apart.
+/// Returns a file that a crash may leave between two contents of a [`Memory`](crate::Memory) that are one call apart.
 ///
 /// A test tries each index up to the greater length. If the call was a truncation, the file ends at the index, or at
 /// its new end.
@@ -43,7 +43,7 @@ pub fn torn(
     Ok(file)
 }
 
-/// The first bytes, as many as there are.
+/// Returns the bytes before this index, or all if there are fewer.
 fn up_to(bytes: &[u8], at: usize) -> &[u8]
     ensures { result.now ≡ take at bytes.now }
 {

@@ -10,7 +10,7 @@ use Rattle.zvt_trace.specs.declared.direction.Direction.{Direction}
 use Rattle.zvt_json.specs.Strings.{byte_value, count_value, line_text}
 use Rattle.zvt_json.specs.Messages.{message_value, side_name}
 
--- what a side does at a line
+-- the event of a side in a line
 abbrev pub side_value : Direction → (line : ℕ) → Members → Data
 side_value from line later = object (member (codes "from") (string (side_name from)) (member (codes "line") (count_value line) later))
 
@@ -24,7 +24,7 @@ refused_value from line byte place why = side_value from line (member (codes "re
 abbrev pub stopped_value : Direction → (line : ℕ) → Data
 stopped_value from line = side_value from line (member (codes "stopped") (boolean true) no_members)
 
--- the side is read on after a refused message of that size
+-- the side is read on after a refused message of this size
 abbrev pub resumed_value : Direction → (line size : ℕ) → Data
 resumed_value from line size = side_value from line (member (codes "resumed") (count_value size) no_members)
 
@@ -34,7 +34,7 @@ truncated_value from line have = side_value from line (member (codes "truncated"
 abbrev pub lost_value : (line : ℕ) → Data
 lost_value line = object (member (codes "line") (count_value line) (member (codes "lost") (boolean true) no_members))
 
--- the value of an event at a line; the size of a message is that of its spelling with the shortest lengths
+-- the value of an event in a line; the size of a message is the size of its encoding with the shortest lengths
 abbrev pub EventValue : (line : ℕ) → TraceEvent → Data → Type 0
 EventValue line (message from m) value = (bytes : List ℕ) × Spells shortest m bytes × (value ≡ message_value from line (length bytes) m)
 EventValue line (refused from head byte place why) value = value ≡ refused_value from line byte place why

@@ -26,7 +26,7 @@ object_values none = no_items
 object_values (primitive tag content rest) = item (primitive_value tag content) (object_values rest)
 object_values (constructed tag inner rest) = item (constructed_value tag (object_values inner)) (object_values rest)
 
--- what a code means, where it has a meaning of its own
+-- the meaning of a code, if it has one of its own
 abbrev pub words_of : Option (List ℕ) → Members
 words_of None = no_members
 words_of (Some meaning) = member (codes "words") (string meaning) no_members
@@ -34,7 +34,7 @@ words_of (Some meaning) = member (codes "words") (string meaning) no_members
 abbrev pub field_name : ℕ → List ℕ
 field_name bmp = unwrap_or (name_of bmp) []
 
--- the name of a field, and what comes after it
+-- the name of a field, and the text after it
 abbrev pub named : ℕ → Members → Members
 named bmp later = member (codes "name") (string (field_name bmp)) later
 
@@ -55,7 +55,7 @@ amount_value bmp digits = of_bmp bmp (named bmp (member (codes "value") (count_v
 abbrev pub quoted_value : ℕ → List ℕ → Data
 quoted_value bmp content = of_bmp bmp (named bmp (member (codes "text") (text_value content) no_members))
 
--- of what is hidden the size alone
+-- only the size of a hidden field
 abbrev pub hidden_value : ℕ → ℕ → Data
 hidden_value bmp size = of_bmp bmp (member (codes "hidden") (count_value size) (named bmp no_members))
 

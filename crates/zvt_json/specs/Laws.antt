@@ -1,4 +1,4 @@
--- What no JSON says.
+-- The values that no JSON contains.
 use Rattle.std.specs.Prelude.{◌≡◌, ◌<◌, ◌^◌, ℕ, Option, Some, List, ◌∷◌, ◌++◌, length}
 use Rattle.serde_json.specs.Data.{Data}
 use Rattle.serde_json.specs.Read.{read}
@@ -30,7 +30,7 @@ StaysHidden bmp =
 abbrev pub SecretsStayHidden : Type 0
 SecretsStayHidden = (bmp : ℕ) → format_of bmp ≡ Hidden → StaysHidden bmp
 
--- A place, a size and a count fit 64 bits, as the program's do.
+-- A place, a size and a count fit into 64 bits, as they do in the program.
 abbrev pub NumbersFit : TraceEvent → Type 0
 NumbersFit (message from m) = Unit {0}
 NumbersFit (refused from head byte place why) = place < 2 ^ 64

@@ -14,13 +14,13 @@ abbrev pub side_name : Direction → List ℕ
 side_name FromTill = codes "till"
 side_name FromTerminal = codes "terminal"
 
--- who sends, what it is called, at which line it ends, and its size
+-- the sender, the name of the message, the line in which it ends, and its size
 abbrev pub about : Direction → Message → (line size : ℕ) → Members → Members
 about from message line size later =
     member (codes "from") (string (side_name from))
     (member (codes "kind") (string (kind_text message)) (member (codes "line") (count_value line) (member (codes "size") (count_value size) later)))
 
--- the payload, if there is any, and what comes after it
+-- the payload, if there is any, and the text after it
 abbrev pub with_data : List ℕ → Members → Members
 with_data [] later = later
 with_data (byte ∷ bytes) later = member (codes "data") (hex_value (byte ∷ bytes)) later
@@ -28,12 +28,12 @@ with_data (byte ∷ bytes) later = member (codes "data") (hex_value (byte ∷ by
 abbrev pub with_fields : List Field → Members → Members
 with_fields fields later = member (codes "fields") (array (field_values fields)) later
 
--- the currency of a registration and its fields, where they stand
+-- the currency of a registration and its fields, if it has them
 abbrev pub with_currency : Option (ℕ × List Field) → Members → Members
 with_currency None later = later
 with_currency (Some rest) later = member (codes "currency") (string (four_digits rest.0)) (with_fields rest.1 later)
 
--- the members before those of `about`; a password is never one of them
+-- the members before the members of `about`; a password is never one of them
 abbrev pub first_members : Message → Members → Members
 first_members (ack payload) later = with_data payload later
 first_members (nack code payload) later = member (codes "code") (byte_value code) (with_data payload later)
@@ -67,6 +67,6 @@ last_members (completion fields) = no_members
 last_members (abort code payload) = words_of (meaning_of code)
 last_members (other high low payload) = no_members
 
--- a message that a side sent, at a line of the trace, of so many bytes
+-- a message that a side sent, in a line of the trace, with this many bytes
 abbrev pub message_value : Direction → (line size : ℕ) → Message → Data
 message_value from line size message = object (first_members message (about from message line size (last_members message)))

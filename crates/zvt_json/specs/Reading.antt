@@ -1,4 +1,4 @@
--- What a value needs so that the reader of the kit's crate `serde_json` gives it back from its text.
+-- The values that the kit's crate `serde_json` reads back from their text.
 use Rattle.std.specs.Prelude.{ℕ, ◌^◌, ◌&&◌, Bool, true, false, nat_lt, List}
 use Rattle.std.specs.Ordering.{nat_cmp, match_ordering}
 use Rattle.std.specs.Cmp.Lexicographic.{slice_cmp}
@@ -32,7 +32,7 @@ abbrev pub and_then : Members → Members → Members
 and_then no_members later = later
 and_then (member k d ms) later = member k d (and_then ms later)
 
--- whether the name comes after those of the members
+-- whether the name comes after the names of the members
 abbrev pub comes_after : List ℕ → Members → Bool
 comes_after k no_members = true
 comes_after k (member l d ms) = match_ordering (slice_cmp nat_cmp k l) false false (comes_after k ms)
@@ -51,7 +51,7 @@ abbrev mutual
   items_ordered no_items = true
   items_ordered (item d ds) = ordered d && items_ordered ds
 
-  -- after those before
+  -- the same after the members before
   pub members_ordered : Members → Members → Bool
   members_ordered no_members before = true
   members_ordered (member k d ms) before = comes_after k before && (ordered d && members_ordered ms (and_then before (member k d no_members)))

@@ -90,7 +90,7 @@ status_text step = codes ",\"status\":\"" ++ (shut (hex_of step) ++ codes "}")
 abbrev pub printed_text : List ℕ → List ℕ
 printed_text line = codes ",\"text\":\"" ++ (shut (escaped_text line) ++ codes "}")
 
--- what a code means, where it has a meaning of its own
+-- the meaning of a code, if it has one of its own
 abbrev pub words_text : Option (List ℕ) → List ℕ
 words_text None = codes "}"
 words_text (Some meaning) = codes ",\"words\":\"" ++ (meaning ++ 34 ∷ []) ++ codes "}"

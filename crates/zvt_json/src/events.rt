@@ -10,7 +10,7 @@ use zvt_grammar::Why;
 use zvt_text::cursor::{Full, decimal, fixed, push, word};
 use zvt_trace::{Direction, Refusal};
 
-/// Bytes that are refused.
+/// Writes the event of refused bytes.
 pub(crate) fn refused(
     buffer: &mut [u8],
     at: usize,
@@ -33,7 +33,7 @@ pub(crate) fn refused(
     push(buffer, at, b'}')
 }
 
-/// A piece that is not read, after a refusal.
+/// Writes the event of a piece that is skipped after a refusal.
 pub(crate) fn stopped(
     buffer: &mut [u8],
     at: usize,
@@ -47,7 +47,7 @@ pub(crate) fn stopped(
     fixed(buffer, at, *b",\"stopped\":true}")
 }
 
-/// A side that is read on after a refused message of that size.
+/// Writes the event of a side that is read on after a refused message of this size.
 pub(crate) fn resumed(
     buffer: &mut [u8],
     at: usize,
@@ -64,7 +64,7 @@ pub(crate) fn resumed(
     push(buffer, at, b'}')
 }
 
-/// A message that is cut off after that many bytes.
+/// Writes the event of a message that is cut off after this many bytes.
 pub(crate) fn truncated(
     buffer: &mut [u8],
     at: usize,
@@ -81,7 +81,7 @@ pub(crate) fn truncated(
     fixed(buffer, at, *b"}}")
 }
 
-/// A loss of the connection.
+/// Writes the event of a lost connection.
 pub(crate) fn lost(buffer: &mut [u8], at: usize, line: u64) -> Result<usize, Full>
     requires { at ≤ length buffer.old }
     ensures { Puts result at buffer.old buffer.new (lost_text line) }
@@ -91,7 +91,7 @@ pub(crate) fn lost(buffer: &mut [u8], at: usize, line: u64) -> Result<usize, Ful
     fixed(buffer, at, *b",\"lost\":true}")
 }
 
-/// The side of an event, and its line.
+/// Writes the side of an event, and its line.
 fn side(buffer: &mut [u8], at: usize, from: Direction, line: u64) -> Result<usize, Full>
     requires { at ≤ length buffer.old }
     ensures { Puts result at buffer.old buffer.new (side_text from line) }
@@ -102,7 +102,7 @@ fn side(buffer: &mut [u8], at: usize, from: Direction, line: u64) -> Result<usiz
     decimal(buffer, at, line)
 }
 
-/// The byte that was refused, where, and why.
+/// Writes the refused byte, its position and the reason.
 fn reason(buffer: &mut [u8], at: usize, first: u8, place: usize, why: Why) -> Result<usize, Full>
     requires { at ≤ length buffer.old }
     ensures { Puts result at buffer.old buffer.new (reason_text first place why) }

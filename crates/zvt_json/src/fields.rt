@@ -18,7 +18,7 @@ use zvt_field::{FieldView, FieldsView, Format, format};
 use zvt_text::cursor::{Full, decimal, fixed, push};
 use zvt_tlv::ForestView;
 
-/// An object for each field, and the end of the array.
+/// Writes an object for each field, and the end of the array.
 pub(crate) fn fields(buffer: &mut [u8], at: usize, fields: FieldsView<'_>) -> Result<usize, Full>
     requires { at ≤ length buffer.old }
     ensures { Puts result at buffer.old buffer.new (items_text false (field_values fields.entry)) }
@@ -44,7 +44,7 @@ fn field(buffer: &mut [u8], at: usize, field: &FieldView<'_>) -> Result<usize, F
     }
 }
 
-/// A field whose content is objects.
+/// Writes a field whose content is TLV objects.
 fn tree(buffer: &mut [u8], at: usize, bmp: u8, inner: ForestView<'_>) -> Result<usize, Full>
     requires shallow { is_shallow 1 inner ≡ true }
     requires inside { at ≤ length buffer.old }
@@ -57,7 +57,7 @@ fn tree(buffer: &mut [u8], at: usize, bmp: u8, inner: ForestView<'_>) -> Result<
     push(buffer, at, b'}')
 }
 
-/// A field whose content is bytes.
+/// Writes a field whose content is bytes.
 fn plain(buffer: &mut [u8], at: usize, bmp: u8, content: &[u8]) -> Result<usize, Full>
     requires plain { PlainBytes bmp content.now }
     requires inside { at ≤ length buffer.old }
@@ -72,7 +72,7 @@ fn plain(buffer: &mut [u8], at: usize, bmp: u8, content: &[u8]) -> Result<usize,
     }
 }
 
-/// An amount in its smallest unit.
+/// Writes an amount in the currency's smallest unit.
 fn amount(buffer: &mut [u8], at: usize, bmp: u8, units: u64) -> Result<usize, Full>
     requires { at ≤ length buffer.old }
     ensures { Puts result at buffer.old buffer.new (amount_text bmp units) }
@@ -84,7 +84,7 @@ fn amount(buffer: &mut [u8], at: usize, bmp: u8, units: u64) -> Result<usize, Fu
     push(buffer, at, b'}')
 }
 
-/// The units of an amount.
+/// Returns the number in an amount's digits.
 fn units(content: &[u8]) -> u64
     requires { PlainBytes 0x04 content.now }
     ensures { result ≡ number_of content.now }
@@ -102,7 +102,7 @@ fn outcome(buffer: &mut [u8], at: usize, bmp: u8, content: &[u8]) -> Result<usiz
     }
 }
 
-/// A result code, and what it means.
+/// Writes a result code and its meaning.
 fn result_code(buffer: &mut [u8], at: usize, bmp: u8, code: u8) -> Result<usize, Full>
     requires { at ≤ length buffer.old }
     ensures { Puts result at buffer.old buffer.new (code_text bmp code) }
@@ -114,7 +114,7 @@ fn result_code(buffer: &mut [u8], at: usize, bmp: u8, code: u8) -> Result<usize,
     words(buffer, at, code)
 }
 
-/// A text with escapes.
+/// Writes a text with escapes.
 fn quoted(buffer: &mut [u8], at: usize, bmp: u8, content: &[u8]) -> Result<usize, Full>
     requires { at ≤ length buffer.old }
     ensures { Puts result at buffer.old buffer.new (quoted_text bmp content.now) }
@@ -126,7 +126,7 @@ fn quoted(buffer: &mut [u8], at: usize, bmp: u8, content: &[u8]) -> Result<usize
     push(buffer, at, b'}')
 }
 
-/// The size of what is hidden.
+/// Writes the size of a hidden field.
 fn hidden(buffer: &mut [u8], at: usize, bmp: u8, size: usize) -> Result<usize, Full>
     requires { at ≤ length buffer.old }
     ensures { Puts result at buffer.old buffer.new (hidden_text bmp size) }
@@ -138,7 +138,7 @@ fn hidden(buffer: &mut [u8], at: usize, bmp: u8, size: usize) -> Result<usize, F
     push(buffer, at, b'}')
 }
 
-/// Bytes in hexadecimal.
+/// Writes bytes in hexadecimal.
 fn in_hexadecimal(buffer: &mut [u8], at: usize, bmp: u8, content: &[u8]) -> Result<usize, Full>
     requires { at ≤ length buffer.old }
     ensures { Puts result at buffer.old buffer.new (content_text bmp content.now) }

@@ -1,6 +1,6 @@
-//! The events of a trace as JSON: a line for each, which holds one value.
+//! The events of a trace as JSON, one line with one value per event.
 //!
-//! [`event`] adds the line of an event to a text. The file docs/JSON.md has the format.
+//! [`event`] appends the line of an event to a text. The file docs/JSON.md describes the format.
 #![tactic(auto)]
 
 mod events;

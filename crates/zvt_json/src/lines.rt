@@ -61,7 +61,7 @@ pub fn event(
     }
 }
 
-/// The size of a message with the shortest lengths.
+/// Returns the size of a message with the shortest lengths.
 #[inline(always)]
 fn shortest_size(
     alloc: Global,
@@ -78,7 +78,7 @@ fn shortest_size(
     }
 }
 
-/// The size of a message that may have longer lengths.
+/// Returns the size that a message with padded lengths would have with the shortest ones.
 #[inline(never)]
 fn normal_size(alloc: Global, apdu: &ApduView<'_>) -> Result<usize, AllocError>
     ensures { IfOk result (λ size. (spelling : List ℕ) × Spells shortest apdu.now spelling × (size ≡ length spelling)) }
@@ -142,14 +142,14 @@ impl Says for RefusedLine {
     }
 }
 
-/// Adds the line of a piece that is not read.
+/// Adds the line of a piece that is skipped.
 fn stopped(text: &mut Text, from: Direction, line: u64) -> Result<(), AllocError>
     ensures { Adds result text.old text.new (line_text (stopped_value from line)) }
 {
     text.add(&StoppedLine { from, line })
 }
 
-/// The line of a piece that is not read, after a refusal.
+/// The line of a piece that is skipped after a refusal.
 #[derive(Drop)]
 struct StoppedLine {
     from: Direction,
@@ -213,14 +213,14 @@ impl Says for TruncatedLine {
     }
 }
 
-/// Adds the line of a loss.
+/// Adds the line of a lost connection.
 fn lost(text: &mut Text, line: u64) -> Result<(), AllocError>
     ensures { Adds result text.old text.new (line_text (lost_value line)) }
 {
     text.add(&LostLine(line))
 }
 
-/// The line of a loss.
+/// The line of a lost connection.
 #[derive(Drop)]
 struct LostLine(u64);
 

@@ -18,7 +18,7 @@ use zvt_text::cursor::{Full, decimal, fixed, four_digits, push, word};
 use zvt_text::kind_name;
 use zvt_trace::Direction;
 
-/// Who sent a message, at which line of the trace it ends, and its size with the shortest lengths.
+/// The sender of a message, the line of the trace in which it ends, and its size with the shortest lengths.
 #[derive(Clone, Copy, Drop)]
 pub(crate) struct Origin {
     pub from: Direction,
@@ -26,7 +26,7 @@ pub(crate) struct Origin {
     pub size: usize,
 }
 
-/// A message.
+/// Writes a message.
 pub(crate) fn message(
     buffer: &mut [u8],
     at: usize,
@@ -43,7 +43,7 @@ pub(crate) fn message(
     last(buffer, at, message)
 }
 
-/// The members that each message has.
+/// Writes the members that every message has.
 #[inline(always)]
 fn about(buffer: &mut [u8], at: usize, origin: Origin, kind: Kind) -> Result<usize, Full>
     requires { at ≤ length buffer.old }
@@ -57,7 +57,7 @@ fn about(buffer: &mut [u8], at: usize, origin: Origin, kind: Kind) -> Result<usi
     decimal(buffer, at, origin.size as u64)
 }
 
-/// Who sends.
+/// Writes the sender.
 #[inline(always)]
 pub(crate) fn sender(buffer: &mut [u8], at: usize, from: Direction) -> Result<usize, Full>
     requires { at ≤ length buffer.old }
@@ -69,7 +69,7 @@ pub(crate) fn sender(buffer: &mut [u8], at: usize, from: Direction) -> Result<us
     }
 }
 
-/// The name of a message.
+/// Writes the name of a message.
 #[inline(always)]
 fn called(buffer: &mut [u8], at: usize, kind: Kind) -> Result<usize, Full>
     requires { at ≤ length buffer.old }
@@ -80,7 +80,7 @@ fn called(buffer: &mut [u8], at: usize, kind: Kind) -> Result<usize, Full>
     push(buffer, at, b'"')
 }
 
-/// The members that come first, each with a comma after it.
+/// Writes the members that come first, each with a comma after it.
 fn first(buffer: &mut [u8], at: usize, message: &ApduView<'_>) -> Result<usize, Full>
     requires { at ≤ length buffer.old }
     ensures { Puts result at buffer.old buffer.new (first_text message.now) }
@@ -101,7 +101,7 @@ fn first(buffer: &mut [u8], at: usize, message: &ApduView<'_>) -> Result<usize, 
     }
 }
 
-/// The first members of a registration.
+/// Writes the first members of a registration.
 fn registration(buffer: &mut [u8], at: usize, message: &ApduView<'_>) -> Result<usize, Full>
     requires kind { kind_of message.now ≡ Kind.Registration }
     requires inside { at ≤ length buffer.old }
@@ -112,7 +112,7 @@ fn registration(buffer: &mut [u8], at: usize, message: &ApduView<'_>) -> Result<
     listed(buffer, at, message.fields())
 }
 
-/// The payload, if there is any.
+/// Writes the payload, if there is any.
 #[inline(always)]
 fn data(buffer: &mut [u8], at: usize, payload: Option<&[u8]>) -> Result<usize, Full>
     requires { at ≤ length buffer.old }
@@ -136,7 +136,7 @@ fn payload_data(buffer: &mut [u8], at: usize, payload: &[u8]) -> Result<usize, F
     push(buffer, at, b',')
 }
 
-/// A code.
+/// Writes a code.
 fn code(buffer: &mut [u8], at: usize, code: Option<u8>) -> Result<usize, Full>
     requires { at ≤ length buffer.old }
     ensures { Puts result at buffer.old buffer.new (part_text code_led code) }
@@ -149,7 +149,7 @@ fn code(buffer: &mut [u8], at: usize, code: Option<u8>) -> Result<usize, Full>
     push(buffer, at, b',')
 }
 
-/// Returns the configuration byte of a registration.
+/// Writes the configuration byte of a registration.
 fn config(buffer: &mut [u8], at: usize, config: Option<u8>) -> Result<usize, Full>
     requires { at ≤ length buffer.old }
     ensures { Puts result at buffer.old buffer.new (part_text config_led config) }
@@ -162,7 +162,7 @@ fn config(buffer: &mut [u8], at: usize, config: Option<u8>) -> Result<usize, Ful
     push(buffer, at, b',')
 }
 
-/// Returns the attribute of a print line.
+/// Writes the attribute of a print line.
 fn attribute(buffer: &mut [u8], at: usize, attribute: Option<u8>) -> Result<usize, Full>
     requires { at ≤ length buffer.old }
     ensures { Puts result at buffer.old buffer.new (part_text attribute_led attribute) }
@@ -175,7 +175,7 @@ fn attribute(buffer: &mut [u8], at: usize, attribute: Option<u8>) -> Result<usiz
     push(buffer, at, b',')
 }
 
-/// The control bytes.
+/// Writes the control bytes.
 fn control(buffer: &mut [u8], at: usize, control: [u8; 2]) -> Result<usize, Full>
     requires { at ≤ length buffer.old }
     ensures { Puts result at buffer.old buffer.new (control_led control) }
@@ -185,7 +185,7 @@ fn control(buffer: &mut [u8], at: usize, control: [u8; 2]) -> Result<usize, Full
     push(buffer, at, b',')
 }
 
-/// The currency of a registration.
+/// Writes the currency of a registration.
 fn currency(buffer: &mut [u8], at: usize, currency: Option<Currency>) -> Result<usize, Full>
     requires { at ≤ length buffer.old }
     ensures { Puts result at buffer.old buffer.new (part_text currency_led currency) }
@@ -198,7 +198,7 @@ fn currency(buffer: &mut [u8], at: usize, currency: Option<Currency>) -> Result<
     fixed(buffer, at, *b"\",")
 }
 
-/// The fields of a message that has fields.
+/// Writes the fields of a message that has fields.
 #[inline(always)]
 fn listed(buffer: &mut [u8], at: usize, list: Option<FieldsView<'_>>) -> Result<usize, Full>
     requires { at ≤ length buffer.old }
@@ -212,7 +212,7 @@ fn listed(buffer: &mut [u8], at: usize, list: Option<FieldsView<'_>>) -> Result<
     push(buffer, at, b',')
 }
 
-/// The last member, if there is one, and the end of the object.
+/// Writes the last member, if there is one, and the end of the object.
 fn last(buffer: &mut [u8], at: usize, message: &ApduView<'_>) -> Result<usize, Full>
     requires { at ≤ length buffer.old }
     ensures { Puts result at buffer.old buffer.new (last_text message.now) }
@@ -225,7 +225,7 @@ fn last(buffer: &mut [u8], at: usize, message: &ApduView<'_>) -> Result<usize, F
     }
 }
 
-/// What the terminal is at.
+/// Writes the state of the terminal in an intermediate status.
 fn status(buffer: &mut [u8], at: usize, status: Option<u8>) -> Result<usize, Full>
     requires { at ≤ length buffer.old }
     ensures { Puts result at buffer.old buffer.new (ended status_text status) }
@@ -238,7 +238,7 @@ fn status(buffer: &mut [u8], at: usize, status: Option<u8>) -> Result<usize, Ful
     push(buffer, at, b'}')
 }
 
-/// A line to print.
+/// Writes a print line.
 fn printed(buffer: &mut [u8], at: usize, line: Option<&[u8]>) -> Result<usize, Full>
     requires { at ≤ length buffer.old }
     ensures { Puts result at buffer.old buffer.new (ended printed_text (option_copied line.entry)) }
@@ -251,7 +251,7 @@ fn printed(buffer: &mut [u8], at: usize, line: Option<&[u8]>) -> Result<usize, F
     push(buffer, at, b'}')
 }
 
-/// What a code means.
+/// Writes the meaning of a code.
 fn meaning(buffer: &mut [u8], at: usize, code: Option<u8>) -> Result<usize, Full>
     requires { at ≤ length buffer.old }
     ensures { Puts result at buffer.old buffer.new (ended coded_text code) }

@@ -11,7 +11,7 @@ use crate::strings::bytes;
 use zvt_text::cursor::{Full, fixed, push};
 use zvt_tlv::ForestView;
 
-/// An object for each object that is at a depth, and the end of the array.
+/// Writes an object for each object at this depth, and the end of the array.
 pub(crate) fn objects(
     buffer: &mut [u8],
     at: usize,
@@ -40,7 +40,7 @@ pub(crate) fn objects(
     push(buffer, end, b']')
 }
 
-/// An object whose content is bytes.
+/// Writes an object whose content is bytes.
 fn primitive(buffer: &mut [u8], at: usize, name: &[u8], content: &[u8]) -> Result<usize, Full>
     requires { at ≤ length buffer.old }
     ensures { Puts result at buffer.old buffer.new (primitive_text name.now content.now) }
@@ -50,7 +50,7 @@ fn primitive(buffer: &mut [u8], at: usize, name: &[u8], content: &[u8]) -> Resul
     tag(buffer, at, name)
 }
 
-/// The tag of an object, which is its last member.
+/// Writes the tag of an object, which is its last member.
 fn tag(buffer: &mut [u8], at: usize, tag: &[u8]) -> Result<usize, Full>
     requires { at ≤ length buffer.old }
     ensures { Puts result at buffer.old buffer.new (tag_text tag.now) }

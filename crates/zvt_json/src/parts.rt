@@ -22,7 +22,7 @@ pub(crate) fn comma(buffer: &mut [u8], at: usize, later: bool) -> Result<usize, 
     Ok(at)
 }
 
-/// What a code means, where it has a meaning of its own, and the end of the object.
+/// Writes the meaning of a code, if it has one of its own, and the end of the object.
 pub(crate) fn words(buffer: &mut [u8], at: usize, code: u8) -> Result<usize, Full>
     requires { at ≤ length buffer.old }
     ensures { Puts result at buffer.old buffer.new (words_text (meaning_of code)) }
@@ -37,7 +37,7 @@ pub(crate) fn words(buffer: &mut [u8], at: usize, code: u8) -> Result<usize, Ful
     }
 }
 
-/// The first member of a field.
+/// Writes the first member of a field.
 #[inline(always)]
 pub(crate) fn opened(buffer: &mut [u8], at: usize, bmp: u8) -> Result<usize, Full>
     requires { at ≤ length buffer.old }
@@ -47,7 +47,7 @@ pub(crate) fn opened(buffer: &mut [u8], at: usize, bmp: u8) -> Result<usize, Ful
     byte(buffer, at, bmp)
 }
 
-/// The name of a field.
+/// Writes the name of a field.
 #[inline(always)]
 pub(crate) fn name(buffer: &mut [u8], at: usize, bmp: u8) -> Result<usize, Full>
     requires { at ≤ length buffer.old }
@@ -58,7 +58,7 @@ pub(crate) fn name(buffer: &mut [u8], at: usize, bmp: u8) -> Result<usize, Full>
     push(buffer, at, b'"')
 }
 
-/// The name of a BMP, or nothing.
+/// Returns the name of a BMP, or an empty text.
 fn name_or_nothing(bmp: u8) -> &'static str
     ensures { result.now ≡ field_name bmp }
 {

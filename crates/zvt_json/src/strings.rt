@@ -1,4 +1,4 @@
-//! The characters between the quotation marks of a JSON string.
+//! The characters inside a JSON string.
 ghost use Rattle.std.specs.Prelude.{◌≡◌, ◌≤◌, length};
 ghost use Rattle.hex.specs.Hex.{encode_upper};
 ghost use Rattle.json.specs.Print.{escape};
@@ -9,7 +9,7 @@ ghost use Rattle.zvt_json.specs.Texts.{shut};
 use zvt_text::cursor::{self, Full, fixed, hexadecimal, push, word};
 use zvt_text::{is_plain, plain_first};
 
-/// One byte in hexadecimal, and the quotation mark after it.
+/// Writes one byte in hexadecimal, and the quotation mark after it.
 #[inline(always)]
 pub(crate) fn byte(buffer: &mut [u8], at: usize, byte: u8) -> Result<usize, Full>
     requires { at ≤ length buffer.old }
@@ -19,7 +19,7 @@ pub(crate) fn byte(buffer: &mut [u8], at: usize, byte: u8) -> Result<usize, Full
     push(buffer, at, b'"')
 }
 
-/// Bytes in hexadecimal, and the quotation mark after them.
+/// Writes bytes in hexadecimal, and the quotation mark after them.
 #[inline(always)]
 pub(crate) fn bytes(buffer: &mut [u8], at: usize, bytes: &[u8]) -> Result<usize, Full>
     requires { at ≤ length buffer.old }
@@ -29,7 +29,7 @@ pub(crate) fn bytes(buffer: &mut [u8], at: usize, bytes: &[u8]) -> Result<usize,
     push(buffer, at, b'"')
 }
 
-/// Bytes as between the quotation marks of the text for people, and the quotation mark after them.
+/// Writes bytes as the text output shows them between quotation marks, and the quotation mark after them.
 pub(crate) fn text(buffer: &mut [u8], at: usize, bytes: &[u8]) -> Result<usize, Full>
     requires { at ≤ length buffer.old }
     ensures { Puts result at buffer.old buffer.new (shut (escaped_text bytes.now)) }
@@ -38,7 +38,7 @@ pub(crate) fn text(buffer: &mut [u8], at: usize, bytes: &[u8]) -> Result<usize, 
     push(buffer, at, b'"')
 }
 
-/// Bytes with escapes, where each backslash comes twice.
+/// Writes bytes with escapes, in which each backslash is doubled.
 fn escape_all(buffer: &mut [u8], at: usize, bytes: &[u8]) -> Result<usize, Full>
     requires { at ≤ length buffer.old }
     ensures { Puts result at buffer.old buffer.new (escape (escaped_text bytes.now)) }
@@ -56,7 +56,7 @@ fn escape_all(buffer: &mut [u8], at: usize, bytes: &[u8]) -> Result<usize, Full>
     }
 }
 
-/// One byte of a text.
+/// Writes one byte of a text.
 fn one(buffer: &mut [u8], at: usize, character: u8) -> Result<usize, Full>
     requires { at ≤ length buffer.old }
     ensures { Puts result at buffer.old buffer.new (escape (escaped character)) }

@@ -1,13 +1,12 @@
 mod Begun
 mod Bytes
-mod CallsOutlived
+pub mod CallsOutlived
 mod CheckLemmas
-mod Crashed
 mod Failing
 mod Kept
 mod LineLemmas
-mod Logged
-mod Made
+pub mod Logged
+pub mod Made
 mod NoteLemmas
 mod OpeningLemmas
 mod Numbers
@@ -15,15 +14,14 @@ mod Opened
 mod Outlived
 mod Ordered
 mod ReadLines
-mod Recovering
-mod Relived
+pub mod Recovering
+pub mod Relived
 mod Remarked
 mod RowNoteLemmas
 mod Rows
-mod RunsOutlived
+pub mod RunsOutlived
 mod Reserved
 mod Short
 mod Spaceless
-mod Steps
+pub mod Steps
 mod WordLemmas
-mod Worlds

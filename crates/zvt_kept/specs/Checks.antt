@@ -14,7 +14,7 @@ use Rattle.zvt_text.specs.Words.{trailing}
 unfoldable pub check_of : (text : List ℕ) → List ℕ
 check_of text = encode_upper (take 4 (sha256 text))
 
--- what a line of a check begins with
+-- the beginning of a check's line
 abbrev pub check_sign : List ℕ
 check_sign = codes "#= "
 
@@ -54,11 +54,11 @@ abbrev pub confirms : Option (List ℕ) → (recorded : List (List ℕ)) → Boo
 confirms None recorded = true
 confirms (Some digits) recorded = bytes_eq digits (check_of (text_of recorded))
 
--- a line is no check, or that of this record
+-- the line is not a check, or it is the check of this record
 abbrev pub is_right : (recorded : List (List ℕ)) → (line : List ℕ) → Bool
 is_right recorded line = confirms (trailing check_sign line) recorded
 
--- each of the lines is no check, or that of the record before it
+-- each of the lines is not a check, or it is the check of the record before it
 abbrev pub right_after : (recorded : List (List ℕ)) → List (List ℕ) → Bool
 right_after recorded [] = true
 right_after recorded (line ∷ more) = is_right recorded line && right_after (then_line recorded line) more
@@ -66,7 +66,7 @@ right_after recorded (line ∷ more) = is_right recorded line && right_after (th
 abbrev pub are_right : List (List ℕ) → Bool
 are_right all = right_after [] all
 
--- the line of this number, counted from 1, is the first check that is not that of the record before it
+-- the line with this number, counted from 1, is the first check that does not match the record before it
 pub record IsFirstWrongCheck (text : List ℕ) (number : ℕ) : Type 0 where
   pub before : List (List ℕ)
   pub line : List ℕ

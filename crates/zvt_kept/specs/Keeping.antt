@@ -15,7 +15,8 @@ use Rattle.zvt_journal.specs.declared.device.DeviceError.{DeviceError}
 use Rattle.zvt_kept.specs.KeptTill.{Connects, FindsNoSpace, Hears, KeptValue, LosesLine, OrderLost, Ordered, Orders, has_failed, kept_rests, till_of}
 
 module _ {D : Type 0} (seen : D → List ℕ) (may_leave : D → List ℕ → Type 0) (moment : D → ℕ) (left_since : D → ℕ → List ℕ → Type 0) (faults : D → ℕ) where
-  -- An order was answered so, which has the note that the till was given for it. One that was taken found the journal whole.
+  -- The result of an order, whose record has the note that the till was given. If the order was accepted, the journal
+  -- has not failed.
   abbrev pub kept_orders : KeptValue D → Order → Result Outgoing Untaken → KeptValue D → Type 0
   kept_orders old order (Ok outgoing) new = Orders seen may_leave moment left_since faults order old.note old.standing new.standing old.failure new.failure (Ok outgoing) × (new.failure ≡ None)
   kept_orders old order (Err (Refused why)) new = Orders seen may_leave moment left_since faults order old.note old.standing new.standing old.failure new.failure (Err (Refused why)) × (new ≡ old)
@@ -46,7 +47,7 @@ module _ {D : Type 0} (seen : D → List ℕ) (may_leave : D → List ℕ → Ty
       more)
       h
 
-  -- what happens to it happens to its till
+  -- whatever happens to the till with a journal happens to its till
   pub kept_follows : Follows kept_orders (Hears seen may_leave moment left_since faults) (LosesLine seen may_leave moment left_since faults) (LosesLine seen may_leave moment left_since faults) kept_rests till_of has_failed
   kept_follows = record {
     accepts = λ old order outgoing new taken. (accepted order outgoing old new taken.0.0, ap (λ (f : Option DeviceError). is_some f) taken.1);

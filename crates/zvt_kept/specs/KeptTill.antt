@@ -31,7 +31,7 @@ pub record Standing (D : Type 0) : Type 0 where
   pub device : D
   pub gate : ℕ
 
--- what contracts see of a till with its journal
+-- a till with a journal, as contracts see it
 pub record KeptValue (D : Type 0) : Type 0 where
   pub standing : Standing D
   -- why the journal failed, if it did
@@ -46,18 +46,19 @@ till_of kept = kept.standing.till
 abbrev pub with_note : {D : Type 0} → KeptValue D → List ℕ → KeptValue D
 with_note kept note = record kept { note = note }
 
--- a till with its journal rests where no order runs
+-- a till with a journal is at rest while no order is running
 abbrev pub kept_rests : {D : Type 0} → KeptValue D → Bool
 kept_rests kept = till_rests kept.standing.till
 
 abbrev pub has_failed : {D : Type 0} → KeptValue D → Bool
 has_failed kept = is_some kept.failure
 
--- what a till has lived through beside its journal's log: the loss of its line, while that is down
+-- the events of a till beyond its journal's log: the loss of its line, while that is down
 abbrev pub unless_up : Bool → List Happening
 unless_up up = cond up [] (Lost ∷ [])
 
--- The file is all on the disk and stands for this log. The till is that of the log, after its line was lost where it is down.
+-- The file is completely on the disk and represents this log. The till has the state after the log and, if its line is
+-- down, after losing it.
 pub record Keeps (settings : Settings) (log : List Happening) (seen : List ℕ) (may_leave : List ℕ → Type 0) (gate : ℕ) (state : TillState) : Type 0 where
   pub settled : IsSettled seen may_leave gate
   pub recorded : StandsFor settings.currency (recovered seen) log
@@ -67,24 +68,24 @@ pub record Keeps (settings : Settings) (log : List Happening) (seen : List ℕ) 
 abbrev pub KeepsSome : (seen : List ℕ) → (may_leave : List ℕ → Type 0) → (gate : ℕ) → TillState → Type 0
 KeepsSome seen may_leave gate state = (log : List Happening) × Keeps state.settings log seen may_leave gate state
 
--- The journal keeps what happened to the till. Once it failed the line is down, and stays so.
+-- The journal contains the events of the till. Once it has failed, the line is down and stays down.
 abbrev pub IsKept : (failed : Bool) → (seen : List ℕ) → (may_leave : List ℕ → Type 0) → (gate : ℕ) → TillState → Type 0
 IsKept false seen may_leave gate state = KeepsSome seen may_leave gate state
 IsKept true seen may_leave gate state = state.line_up ≡ false
 
--- a crash leaves a file that stands for the log before, or for the log with what happened after it
+-- a crash leaves a file that represents the log before, or that log and the new events
 abbrev pub LeavesLogs : Settings → (before happened : List Happening) → List ℕ → Type 0
 LeavesLogs settings before happened file =
     StandsFor settings.currency (recovered file) before ⊎ StandsFor settings.currency (recovered file) (before ++ happened)
 
--- The cause of a record that was not made durable: the disk failed once more, or the journal has 2^60 bytes. Nothing is said of
--- memory, which may always be refused.
+-- The cause of a record that was not made durable: the disk failed once more, or the journal has 2^60 bytes. An
+-- allocation may always fail.
 abbrev pub HasCause : DeviceError → (faults_before faults_after gate : ℕ) → Type 0
 HasCause Failed before after gate = before < after
 HasCause Full before after gate = 2 ^ 60 ≤ gate
 HasCause Memory before after gate = Unit {0}
 
--- the records grew by that of an order, with this note
+-- the records were extended by the record of an order, with this note
 abbrev pub HasNoted : {D : Type 0} (seen : D → List ℕ) → Order → (note : List ℕ) → (old new : D) → Type 0
 HasNoted seen order note old new = (sent : List ℕ) × (recovered (seen new) ≡ recovered (seen old) ++ order_record order note sent)
 
@@ -97,7 +98,7 @@ module _ {D : Type 0} (seen : D → List ℕ) (may_leave : D → List ℕ → Ty
     pub repairable : LeavesOnly moment left_since old new IsRepairable
     pub later : faults old ≤ faults new
     pub cause : IfErr result (λ why. HasCause why (faults old) (faults new) gate)
-    -- the gate, which is how many bytes the journal has, stays after an error
+    -- the gate, which is the size of the records, stays the same after an error
     pub stays : OnErr result (gate ≡ gate_before)
 
   -- A record was to be made durable.
@@ -106,8 +107,8 @@ module _ {D : Type 0} (seen : D → List ℕ) (may_leave : D → List ℕ → Ty
     pub is : IsRecordOf one added
     pub adds : Adds added old new gate_before gate result
 
-  -- A journal was to begin on a device without records, which became the other. A crash at any moment leaves no record, or the
-  -- opening, in a file that opening repairs.
+  -- A journal was begun on a device without records, which became the other device. A crash at any moment leaves no
+  -- record, or the opening, in a file that opening repairs.
   pub record Begins (currency : ℕ) (old new : D) : Type 0 where
     pub leaves : LeavesOnly moment left_since old new (IsWithOrWithout [] (opening currency))
     pub repairable : LeavesOnly moment left_since old new IsRepairable
@@ -120,12 +121,12 @@ module _ {D : Type 0} (seen : D → List ℕ) (may_leave : D → List ℕ → Ty
   abbrev pub HasLog : Settings → List Happening → Standing D → Type 0
   HasLog settings log k = Keeps settings log (seen k.device) (may_leave k.device) k.gate k.till.state
 
-  -- A crash at any moment from old to new left the log, or the log and what happened.
+  -- A crash at any moment from old to new leaves the log, or the log and the new events.
   abbrev pub Outlives : (Settings → List Happening) → (old new : Standing D) → Type 0
   Outlives happened old new =
       (settings : Settings) (log : List Happening) → HasLog settings log old → LeavesOnly moment left_since old.device new.device (LeavesLogs settings log (happened settings))
 
-  -- what happened is in the journal's log
+  -- the events are in the journal's log
   abbrev pub Logs : (Settings → List Happening) → (old new : Standing D) → Type 0
   Logs happened old new = (settings : Settings) (log : List Happening) → HasLog settings log old → HasLog settings (log ++ happened settings) new
 
@@ -138,7 +139,7 @@ module _ {D : Type 0} (seen : D → List ℕ) (may_leave : D → List ℕ → Ty
   abbrev pub line_changed : Settings → List Happening
   line_changed settings = Lost ∷ Connected ∷ []
 
-  -- An order was taken, and its record is durable.
+  -- An order was accepted, and its record is durable.
   pub record Ordered (order : Order) (outgoing : Outgoing) (old new : Standing D) : Type 0 where
     pub taken : refusal (facts_of old.till.state) order ≡ None
     pub message : message_of old.till.state.settings old.till.state.book order ≡ Some outgoing
@@ -150,7 +151,7 @@ module _ {D : Type 0} (seen : D → List ℕ) (may_leave : D → List ℕ → Ty
     pub outlives : Outlives (order_sent order) old new
     pub later : faults old.device ≤ faults new.device
 
-  -- An order was taken, and the journal failed. The till is told as of a lost line.
+  -- An order was accepted, and the journal failed. The till is notified of a lost line.
   pub record OrderLost (order : Order) (why : DeviceError) (old new : Standing D) : Type 0 where
     pub cause : FailsOnlyBy why old new
     pub stays : new.gate ≡ old.gate
@@ -161,8 +162,8 @@ module _ {D : Type 0} (seen : D → List ℕ) (may_leave : D → List ℕ → Ty
     pub heard : KeepsHeard old.till new.till
     pub outlives : Outlives (order_sent order) old new
 
-  -- An order would be taken, but the disk gave no room for its records. Nothing came of it: the till is as it was, but for places
-  -- that it may have gained, and so are the file and the records in it, at each moment.
+  -- An order would be accepted, but the disk has no room for its records. It has no effect: the till is as before,
+  -- apart from capacity that it may have gained, and so are the file and the records in it, at each moment.
   pub record FindsNoSpace (order : Order) (old new : Standing D) : Type 0 where
     pub cause : faults old.device < faults new.device
     pub taken : refusal (facts_of old.till.state) order ≡ None
@@ -175,14 +176,14 @@ module _ {D : Type 0} (seen : D → List ℕ) (may_leave : D → List ℕ → Ty
     pub leaves : LeavesOnly moment left_since old.device new.device (λ file. file ≡ seen old.device)
     pub stays : new.gate ≡ old.gate
 
-  -- An order was answered so, and why the journal failed before and after, if it did.
+  -- The result of an order, and why the journal failed before and after it, if it did.
   abbrev pub Orders : Order → (note : List ℕ) → (old new : Standing D) → (was is : Option DeviceError) → Result Outgoing Untaken → Type 0
   Orders order note old new was is (Ok outgoing) = Ordered order outgoing old new × (is ≡ was) × HasNoted seen order note old.device new.device
   Orders order note old new was is (Err (Refused why)) = IsRefusedAs (facts_of old.till.state) old.till.spare order why × (new ≡ old) × (is ≡ was)
   Orders order note old new was is (Err (Unkept NoSpace)) = FindsNoSpace order old new × (is ≡ was)
   Orders order note old new was is (Err (Unkept BookFailed)) = (why : DeviceError) × (is ≡ Some why) × OrderLost order why old new
 
-  -- A message was heard by a till whose line is up, and its record is durable.
+  -- A till whose line is up processed a message, and its record is durable.
   pub record HeardKept (message : Message) (answered : Answered) (old new : Standing D) : Type 0 where
     pub up : old.till.state.line_up ≡ true
     pub heard : till_hears old.till message answered new.till
@@ -205,14 +206,14 @@ module _ {D : Type 0} (seen : D → List ℕ) (may_leave : D → List ℕ → Ty
   abbrev pub no_answer : Answered
   no_answer = record { bytes = []; count = 0 }
 
-  -- A till with its journal hears a message while its line is up, or the journal fails.
+  -- A till with a journal processes a message while its line is up, or the journal fails.
   abbrev pub Hears : KeptValue D → Message → Answered → KeptValue D → Type 0
   Hears old message answered new =
       ((old.standing.till.state.line_up ≡ false) × (new ≡ old) × (answered ≡ no_answer))
       ⊎ ((new.failure ≡ old.failure) × HeardKept message answered old.standing new.standing)
       ⊎ ((why : DeviceError) × (new.failure ≡ Some why) × (answered ≡ no_answer) × MessageLost message why old.standing new.standing)
 
-  -- A line was lost. The journal says so when the next one is up.
+  -- A line was lost. The journal records this when the next line is up.
   abbrev pub LosesLine : (old new : KeptValue D) → Type 0
   LosesLine old new = till_loses old.standing.till new.standing.till × (new.standing.device ≡ old.standing.device) × (new.standing.gate ≡ old.standing.gate) × (new.failure ≡ old.failure)
 

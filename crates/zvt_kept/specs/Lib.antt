@@ -1,5 +1,4 @@
 pub mod Checks
-pub mod Crashes
 pub mod KeptTill
 pub mod Logs
 pub mod Masking

@@ -9,13 +9,13 @@ use Rattle.zvt_till.specs.Hearing.{heard_as}
 use Rattle.zvt_till.specs.Refusals.{sent_as}
 use Rattle.zvt_kept.specs.Records.{Kept, ordered, heard, lost, kept_in, opening}
 
--- What happened by one record. After a lost line a new one is up.
+-- The events of one record. After a lost line, a new one is up.
 abbrev pub Happens : (currency : ℕ) → Kept → List Happening → Type 0
 Happens currency (ordered order note) happened = happened ≡ SentOut (sent_as currency order) ∷ []
 Happens currency (heard bytes) happened = (message : Message) × ∥ Spells padded message bytes ∥₁ × (happened ≡ HeardIn (heard_as message) ∷ [])
 Happens currency lost happened = happened ≡ Lost ∷ Connected ∷ []
 
--- what happened by records one after another
+-- the events of records, one after another
 abbrev pub HappenAll : (currency : ℕ) → List Kept → List Happening → Type 0
 HappenAll currency [] log = log ≡ []
 HappenAll currency (one ∷ more) log =

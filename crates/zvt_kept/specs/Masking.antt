@@ -5,7 +5,7 @@ use Rattle.zvt_till.specs.Sending.{outgoing}
 use Rattle.zvt_apdu.specs.declared.brief.Brief.{Brief}
 use Rattle.zvt_apdu.specs.declared.brief.Brief.TheVariants.{Ack, Nack, Register, Pay, Reverse, CloseDay, AbortOrder}
 
--- the message with the password 00 00 00 in place of its own
+-- the message with 00 00 00 instead of its password
 abbrev pub masked_message : Brief → Brief
 masked_message (Register password config currency) = Register (0 ∷ 0 ∷ 0 ∷ []) config currency
 masked_message (Reverse password receipt) = Reverse (0 ∷ 0 ∷ 0 ∷ []) receipt

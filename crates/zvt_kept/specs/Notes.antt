@@ -1,10 +1,10 @@
--- Notes: what the record of an order says beside the order. They mean nothing to a book.
+-- Notes: the part of an order's record after the order. They do not affect a book.
 use Rattle.std.specs.Prelude.{◌≡◌, ◌==◌, ◌&&◌, true, Bool, false, ℕ, if◌then◌else◌, List, [], ◌∷◌, ◌++◌, codes, length, take, drop, Option, Some, None, option_map}
 use Rattle.std.specs.Char.{is_ascii_digit, is_ascii_graphic}
 use Rattle.std.specs.List.{list_all}
 use Rattle.zvt_text.specs.Words.{is_count, trailing}
 
--- a byte at a place of a form: any digit in the place of a 0, else that byte
+-- a byte that fits a place of a form: any digit for a 0, and otherwise the byte itself
 abbrev pub fits_place : (place byte : ℕ) → Bool
 fits_place place byte = if place == 48 then is_ascii_digit byte else byte == place
 
@@ -40,7 +40,7 @@ abbrev pub fits_if_some : (List ℕ → Bool) → Option (List ℕ) → Bool
 fits_if_some fits None = true
 fits_if_some fits (Some text) = fits text
 
--- the note with this time and this reference, where each that is given is one
+-- the note with this time and this reference, if each that is given has the right form
 abbrev pub note_of : (at reference : Option (List ℕ)) → Option (List ℕ)
 note_of at reference = if fits_if_some is_moment at && fits_if_some is_reference reference then Some (note_words at reference) else None
 

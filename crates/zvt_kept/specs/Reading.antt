@@ -1,4 +1,4 @@
--- What the code reads and writes of records, in the words of their definitions.
+-- The records that the code reads and writes, in terms of their definitions.
 use Rattle.std.specs.Prelude.{◌≡◌, ◌+◌, ◌≤◌, ℕ, List, [], ◌∷◌, ◌++◌, map, length, Option, Some, None, IsSome, Result, Ok, Err, MatchResult, Vec}
 use Rattle.std.specs.Str.Lines.{lines}
 use Rattle.std.specs.declared.alloc.Global.{Global}
@@ -12,13 +12,13 @@ use Rattle.zvt_kept.specs.declared.lines.Meaning.TheVariants.{Nothing, Kept as K
 use Rattle.zvt_kept.specs.declared.lines.RecordError.{RecordError}
 use Rattle.zvt_kept.specs.declared.lines.RecordError.TheVariants.{Check, Line, Memory}
 
--- what an entry of the code stands for
+-- the meaning of an entry of the code
 abbrev pub kept_of : Entry → Kept
 kept_of (entry.Order order note) = ordered order note
 kept_of (entry.Heard message) = heard message.items
 kept_of entry.Lost = lost
 
--- what a line of the code means
+-- the meaning of a line of the code
 abbrev pub meant_by : Meaning → Option (List Kept)
 meant_by Nothing = Some []
 meant_by (KeptEntry one) = Some (kept_of one ∷ [])
@@ -34,14 +34,14 @@ pub record IsFirstWrong (text : List ℕ) (number : ℕ) : Type 0 where
   pub wrong : meaning_behind (last_of [] before) line ≡ None
   pub number_is : number ≡ length before + 1
 
--- the entries are what the text means; or it has no meaning, from that line on, or since that check is wrong
+-- the entries are the meaning of the text; or the text has no meaning, because of this line or this check
 abbrev pub ReadsRecords : (text : List ℕ) → Result (Vec Entry Global) RecordError → Type 0
 ReadsRecords text (Ok entries) = kept_in text ≡ Some (map kept_of entries.items)
 ReadsRecords text (Err (Line number)) = (kept_in text ≡ None) × IsFirstWrong text number
 ReadsRecords text (Err (Check number)) = (kept_in text ≡ None) × IsFirstWrongCheck text number
 ReadsRecords text (Err Memory) = Unit {0}
 
--- the lines of the text before the rest: what they mean, the last of them, and how many they are
+-- the lines of the text before the rest: their meanings, the last of them, and their number
 pub record HasRead (text rest last : List ℕ) (number : ℕ) (entries : List Entry) : Type 0 where
   pub before : List (List ℕ)
   pub is : lines text ≡ before ++ lines rest
@@ -50,6 +50,6 @@ pub record HasRead (text rest last : List ℕ) (number : ℕ) (entries : List En
   pub number_is : number ≡ length before
   pub fits : number + length rest ≤ length text
 
--- A text grew by all that was to be written; or by a prefix of that, where memory was refused.
+-- The text was extended by everything that was to be written or, if memory ran out, by a prefix of it.
 abbrev pub Extends : {E : Type 0} → Result Unit E → (old new : List ℕ) → (written : List ℕ) → Type 0
 Extends result old new written = MatchResult result (λ _. new ≡ old ++ written) (λ _. (part : List ℕ) × IsPrefix part written × (new ≡ old ++ part))

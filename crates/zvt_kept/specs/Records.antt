@@ -1,4 +1,4 @@
--- The records of a till's journal: the text of each, and what a text of records means. A line feed is 10.
+-- The records of a till's journal: the text of each record, and the meaning of a text of records. A line feed is 10.
 use Rattle.std.specs.Prelude.{◌≡◌, ◌<◌, ◌≤◌, ◌==◌, ◌&&◌, ◌||◌, ⊤, Bool, true, false, not, ℕ, ◌+◌, ◌-◌, if◌then◌else◌, List, [], ◌∷◌, ◌++◌, All, codes, decimal, length, take, drop, Option, Some, None, option_map, option_and_then, Result, Ok, Err}
 use Rattle.std.specs.Char.{is_ascii_alphabetic}
 use Rattle.std.specs.Str.Lines.{lines}
@@ -13,7 +13,7 @@ use Rattle.zvt_journal.specs.Files.{IsOpening}
 use Rattle.zvt_journal.specs.Text.{recovered, IsRecord}
 use Rattle.zvt_kept.specs.Checks.{are_right, checked, is_sent}
 
--- what a journal records
+-- an entry of a journal
 pub data Kept : Type 0 where
   ordered : (order : Order) → (note : List ℕ) → Kept
   heard : (message : List ℕ) → Kept
@@ -38,12 +38,12 @@ abbrev pub sent_lines : List (List ℕ) → List ℕ
 sent_lines [] = []
 sent_lines (bytes ∷ more) = sent_line bytes ++ sent_lines more
 
--- one piece, or none where there are no bytes
+-- one piece, or none if there are no bytes
 abbrev pub one_or_none : List ℕ → List (List ℕ)
 one_or_none [] = []
 one_or_none (byte ∷ bytes) = (byte ∷ bytes) ∷ []
 
--- the words of an order, and those of its note
+-- the words of an order, and the words of its note
 abbrev pub noted_words : Order → (note : List ℕ) → List ℕ
 noted_words order note = order_words order ++ note
 
@@ -57,7 +57,7 @@ heard_line message = codes "< " ++ encode_upper message ++ 10 ∷ []
 abbrev pub order_lines : Order → (note sent : List ℕ) → List ℕ
 order_lines order note sent = order_line order note ++ sent_lines (one_or_none sent)
 
--- a message of the terminal, and the bytes of all answers to it
+-- a message of the terminal, and the bytes of all replies to it
 abbrev pub heard_lines : List ℕ → List (List ℕ) → List ℕ
 heard_lines message answers = heard_line message ++ sent_lines answers
 
@@ -78,7 +78,7 @@ lost_record = checked lost_line
 abbrev pub opening : ℕ → List ℕ
 opening currency = codes "# zvt journal 1, currency " ++ decimal currency ++ 10 ∷ []
 
--- the order has words by which it is read back
+-- the words of the order can be read back
 abbrev pub IsSpelledOrder : Order → Type 0
 IsSpelledOrder Register = ⊤
 IsSpelledOrder (Pay amount) = (1 ≤ amount) × (amount ≤ 999999999999)
@@ -99,14 +99,14 @@ pub record IsOrderRecord (order : Order) (note text : List ℕ) : Type 0 where
   pub noted : is_note note ≡ true
   pub is : text ≡ order_record order note sent
 
--- a text is the record of a message, and of any lines of answers to it
+-- a text is the record of a message, with any lines of replies to it
 pub record IsHeardRecord (message text : List ℕ) : Type 0 where
   pub answers : List (List ℕ)
   pub piece : IsPiece message
   pub answer_pieces : All IsPiece answers
   pub is : text ≡ checked (heard_lines message answers)
 
--- a text is what is written for this
+-- a text is the record of this entry
 abbrev pub IsRecordOf : Kept → List ℕ → Type 0
 IsRecordOf (ordered order note) text = IsOrderRecord order note text
 IsRecordOf (heard message) text = IsHeardRecord message text
@@ -144,7 +144,7 @@ abbrev pub by_rest : Option (List ℕ) → (List ℕ → Option Kept) → Option
 by_rest None found other = other
 by_rest (Some rest) found other = found rest
 
--- by what comes behind this word, where the words begin with it
+-- by the text after this word, if the words begin with it
 abbrev pub by_word : (word words : List ℕ) → (List ℕ → Option Kept) → (other : Option Kept) → Option Kept
 by_word word words found other = by_rest (trailing word words) found other
 
@@ -183,13 +183,14 @@ ends_there (Some rest) = ends_word rest
 abbrev pub begins_with : (word words : List ℕ) → Bool
 begins_with word words = ends_there (trailing word words)
 
--- the first word is one of those with which an order or the opening of a journal begins
+-- the first word begins an order or the opening of a journal
 abbrev pub is_reserved : (words : List ℕ) → Bool
 is_reserved words =
     begins_with (codes "register") words || begins_with (codes "pay") words || begins_with (codes "reverse") words
     || begins_with (codes "close") words || begins_with (codes "cancel") words || begins_with (codes "zvt") words
 
--- what follows `# `: with a reserved word an order, or the opening of a journal, which means nothing; any other words are a remark, which a person may add, and mean nothing
+-- the text after `# `: with a reserved word an order, or the opening of a journal, which has no meaning; any other
+-- words are a remark, which a person may add, and have no meaning
 abbrev pub words_meaning : (words : List ℕ) → Option (List Kept)
 words_meaning words = if is_reserved words then ordered_by (order_of words) words else Some []
 
@@ -209,8 +210,9 @@ abbrev pub bytes_in : (after_sign : List ℕ) → Option (List ℕ)
 bytes_in [] = None
 bytes_in (space ∷ digits) = if space == 32 then some_bytes (decode_of digits) else None
 
--- What a line means. `#`, a space and the words of an order are that order; an opening, a remark and a check are nothing. `> ` and bytes
--- are nothing, `< ` and bytes are a message, and `!` alone is a loss. No other line has a meaning.
+-- The meaning of a line. `#`, a space and the words of an order mean that order; an opening, a remark and a check have
+-- no meaning of their own. `> ` and bytes have none either, `< ` and bytes mean a message, and `!` alone means a loss.
+-- Any other line is invalid.
 abbrev pub meaning : (line : List ℕ) → Option (List Kept)
 meaning [] = None
 meaning (first ∷ rest) =
@@ -222,7 +224,7 @@ meaning (first ∷ rest) =
 
 -- ---- what a text means
 
--- one after the other, where both have a meaning
+-- one after the other, if both are valid
 abbrev pub then_kept : Option (List Kept) → Option (List Kept) → Option (List Kept)
 then_kept None more = None
 then_kept (Some kept) None = None
@@ -234,8 +236,8 @@ is_remark [] = false
 is_remark (sign ∷ []) = false
 is_remark (sign ∷ space ∷ words) = sign == 35 && space == 32 && not (is_reserved words)
 
--- What a line means behind another. Bytes that were sent have no meaning behind a remark: its line may be an order's that was
--- damaged.
+-- The meaning of a line after another one. Sent bytes after a remark are invalid, because its line may be a damaged
+-- order.
 abbrev pub meaning_behind : (last line : List ℕ) → Option (List Kept)
 meaning_behind last line = if is_sent line && is_remark last then None else meaning line
 
@@ -244,29 +246,30 @@ abbrev pub last_of : (last : List ℕ) → (lines : List (List ℕ)) → List �
 last_of last [] = last
 last_of last (line ∷ more) = last_of line more
 
--- the meanings of lines one after another, behind this one, where each has one
+-- the meanings of lines one after another, after this one, if each is valid
 abbrev pub meanings : (last : List ℕ) → List (List ℕ) → Option (List Kept)
 meanings last [] = Some []
 meanings last (line ∷ more) = then_kept (meaning_behind last line) (meanings line more)
 
--- what the lines of a text mean, where each check is right
+-- the meaning of the lines of a text, if each check is right
 abbrev pub kept_in : (text : List ℕ) → Option (List Kept)
 kept_in text = if are_right (lines text) then meanings [] (lines text) else None
 
 -- ---- laws
 
--- A record that comes after whole lines adds what it is written for.
+-- A record after complete lines adds the entry that it was written for.
 abbrev pub RecordsAreKept : Type 0
 RecordsAreKept = (text : List ℕ) (kept : List Kept) (one : Kept) (added : List ℕ) → recovered text ≡ text → kept_in text ≡ Some kept → IsRecordOf one added → kept_in (text ++ added) ≡ Some (kept ++ one ∷ [])
 
--- It makes whole lines of them.
+-- The result is complete lines.
 abbrev pub RecordsAreWhole : Type 0
 RecordsAreWhole = (text : List ℕ) (one : Kept) (added : List ℕ) → recovered text ≡ text → IsRecordOf one added → recovered (text ++ added) ≡ text ++ added
 
--- A journal takes it as a record.
+-- A journal accepts it as a record.
 abbrev pub RecordsAreTaken : Type 0
 RecordsAreTaken = (one : Kept) (added : List ℕ) → IsRecordOf one added → IsRecord added
 
--- The opening means nothing, and a journal takes it as its first record: whenever a crash comes, it leaves a journal's file.
+-- The opening has no meaning of its own, and a journal accepts it as its first record: whenever a crash happens, it
+-- leaves a journal's file.
 abbrev pub OpeningIsTaken : Type 0
 OpeningIsTaken = (currency : ℕ) → currency ≤ 9999 → (kept_in (opening currency) ≡ Some []) × IsRecord (opening currency) × IsOpening (opening currency)

@@ -14,17 +14,17 @@ use Rattle.zvt_kept.specs.Reading.{IsFirstWrong}
 use Rattle.zvt_kept.specs.declared.recovery.RecoveryError.{RecoveryError}
 use Rattle.zvt_kept.specs.declared.recovery.RecoveryError.TheVariants.{Opening, Check, Line, Record, Memory}
 
--- The records stand for this log, and the till is that of the log and a lost line.
+-- The records represent this log, and the till has the state after the log and a lost line.
 pub record IsRecovered (settings : Settings) (text : List ℕ) (state : TillState) : Type 0 where
   pub log : List Happening
   pub recorded : StandsFor settings.currency text log
   pub stands : Stands settings (log ++ Lost ∷ []) state
 
--- a till of these settings can have lived through these records
+-- a till with these settings can have these records
 abbrev pub IsLife : Settings → List Kept → Type 0
 IsLife settings kept = (happened : List Happening) × HappenAll settings.currency kept happened × IsLog settings (Connected ∷ happened)
 
--- The record of this number, counted from 1, is the first that no till can have lived through.
+-- The record with this number, counted from 1, is the first one that no till can have after the records before it.
 pub record IsFirstForeign (settings : Settings) (text : List ℕ) (number : ℕ) : Type 0 where
   pub before : List Kept
   pub one : Kept
@@ -42,7 +42,7 @@ Recovers settings text (Err (Check number)) = (kept_in text ≡ None) × IsFirst
 Recovers settings text (Err (Record number)) = IsFirstForeign settings text number
 Recovers settings text (Err Memory) = Unit {0}
 
--- a till of some log, whose line is up, lived through what was recorded, or can't have
+-- a till with some log, whose line is up, replayed a record; or it cannot have this record
 abbrev pub Relives : Bool → Kept → (old new : TillState) → Type 0
 Relives true one old new =
     (settings : Settings) (log : List Happening) → Stands settings log old → old.line_up ≡ true

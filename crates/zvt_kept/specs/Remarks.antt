@@ -7,13 +7,13 @@ use Rattle.zvt_kept.specs.Checks.{is_check, is_sent}
 use Rattle.zvt_kept.specs.Records.{is_remark}
 use Rattle.zvt_kept.specs.Logs.{HasOpening, StandsFor}
 
--- one line, which is a remark but for a carriage return at its end
+-- one line, which is a remark apart from a possible carriage return at its end
 pub record IsRemark (line : List ℕ) : Type 0 where
   pub remark : is_remark (strip_carriage_return line) ≡ true
   pub no_end : All (λ byte. byte ≢ 10) line
 
--- A remark behind whole records of a journal changes nothing: the file stands for the logs that it stands for without it. What
--- comes behind the remark doesn't go on with a record: it begins neither with bytes that were sent nor with a check.
+-- A remark after complete records of a journal changes nothing: the file represents the same logs as without it. The
+-- text after the remark must not continue a record: it begins neither with sent bytes nor with a check.
 abbrev pub RemarksMeanNothing : Type 0
 RemarksMeanNothing =
     (currency : ℕ) (before remark after : List ℕ) (log : List Happening)

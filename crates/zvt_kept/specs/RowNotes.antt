@@ -9,7 +9,7 @@ use Rattle.zvt_till.specs.TillHistory.{Stands}
 use Rattle.zvt_kept.specs.Records.{Kept, ordered, heard, lost, kept_in}
 use Rattle.zvt_kept.specs.Logs.{HappenAll}
 
--- a till is in this state after it lived through these records; its line is up before the first of them
+-- the state of a till after replaying these records; its line is up before the first of them
 pub record LivedThrough (settings : Settings) (kept : List Kept) (state : TillState) : Type 0 where
   pub happened : List Happening
   pub happens : HappenAll settings.currency kept happened
@@ -33,15 +33,16 @@ pub record IsLastPayment (kept : List Kept) (note : List ℕ) : Type 0 where
   pub is : kept ≡ before ++ ordered (Pay amount) note ∷ after
   pub last : All (λ one. is_payment one ≡ false) after
 
--- how many rows the book has, and how many payments are unclear
+-- the number of rows in the book, and the number of unclear payments
 abbrev pub booked_rows : TillState → ℕ
 booked_rows state = length state.book
 
 abbrev pub unclear_rows : TillState → ℕ
 unclear_rows state = length state.unclear
 
--- This note is that of the row with this index, counted from 0. One of the records makes the row: the till of the records before it
--- has as many rows as the index says, and with it one more. The payment that was ordered last by then has the note.
+-- This is the note of the row with this index, counted from 0. One of the records creates the row: the till of the
+-- records before it has as many rows as the index says, and one more with it. The payment that was ordered last by then
+-- has the note.
 pub record IsNoteOf (settings : Settings) (kept : List Kept) (rows : TillState → ℕ) (index : ℕ) (note : List ℕ) : Type 0 where
   pub before : List Kept
   pub one : Kept
@@ -60,7 +61,8 @@ pub record AreNoted (settings : Settings) (kept : List Kept) (rows : TillState �
   pub as_many : length notes ≡ rows state
   pub each : (index : ℕ) (note : List ℕ) → slice_get notes index ≡ Some note → IsNoteOf settings kept rows index note
 
--- These are the notes of the till that is recovered from a text. Behind the records its line is lost, which may end a payment too.
+-- These are the notes of the till that is recovered from a text. After the records its line is lost, which may also end
+-- a payment.
 pub record HasNotes (settings : Settings) (text : List ℕ) (state : TillState) (booked unclear : List (List ℕ)) : Type 0 where
   pub kept : List Kept
   pub read : kept_in text ≡ Some kept
@@ -79,6 +81,6 @@ payment_note before (ordered Cancel note) = before
 payment_note before (heard message) = before
 payment_note before lost = before
 
--- one more note, where there are more rows than notes
+-- one more note, if there are more rows than notes
 abbrev pub grown : (notes : List (List ℕ)) → (rows : ℕ) → (note : List ℕ) → List (List ℕ)
 grown notes rows note = if nat_lt (length notes) rows then notes ++ note ∷ [] else notes

@@ -1,7 +1,7 @@
 //! The check of a record: a line after the record's lines, with a digest of them.
 //!
-//! The journal's theorems about crashes don't rest on checks. A check shows that somebody changed the file, or that the
-//! disk damaged it.
+//! The theorems about crashes do not rest on checks. A check shows that somebody changed the file, or that the disk
+//! damaged it.
 ghost use Rattle.std.specs.Prelude.{◌≡◌, ◌≤◌, ◌++◌, ◌∷◌, [], cond, drop, length, List, ℕ};
 ghost use Rattle.sha2.specs.Hashers.{Holds256};
 ghost use Rattle.zvt_journal.specs.Text.{text_of};
@@ -15,13 +15,14 @@ use zvt_text::words::trailing;
 use zvt_text::{Text, line};
 use zvt_trace::next_line;
 
-/// How many bytes of the digest a check has.
+/// The number of bytes of the digest in a check.
 const CHECK_LEN: usize = 4;
 
 /// The beginning of a check's line.
 const CHECK_SIGN: &[u8] = b"#= ";
 
-/// Writes the check of the record that begins at `start` and ends where the text does. After `Err` nothing is written.
+/// Writes the check of the record that begins at `start` and ends at the end of the text. After `Err` nothing is
+/// written.
 pub(crate) fn put_check(text: &mut Text, start: usize) -> Result<(), AllocError>
     requires { start ≤ length text.old }
     ensures { Extends result text.old text.new (check_line (drop start text.old)) }
@@ -30,7 +31,7 @@ pub(crate) fn put_check(text: &mut Text, start: usize) -> Result<(), AllocError>
     line(text, CHECK_SIGN, &digest[..CHECK_LEN])
 }
 
-/// The line, counted from 1, of the first check that doesn't belong to the record before it.
+/// Returns the line, counted from 1, of the first check that does not match the record before it.
 pub(crate) fn first_wrong_check(text: &[u8]) -> Option<usize>
     ensures { ChecksRecords text.now result }
 {
@@ -54,7 +55,7 @@ pub(crate) fn first_wrong_check(text: &[u8]) -> Option<usize>
     None
 }
 
-/// The check of the record that was hashed, in hexadecimal.
+/// Returns the check of the record that was hashed, in hexadecimal.
 fn check_of(hasher: Sha256) -> [u8; 2 * CHECK_LEN]
     ensures { (text : List ℕ) → Holds256 hasher text → result ≡ check_of text }
 {
@@ -64,7 +65,7 @@ fn check_of(hasher: Sha256) -> [u8; 2 * CHECK_LEN]
     digits
 }
 
-/// The record with one more line, or a new record that begins with the line.
+/// Returns the hash of the record with one more line, or of a new record that begins with the line.
 fn with_line(hasher: Sha256, line: &[u8]) -> Sha256
     ensures { (lines : List (List ℕ)) → Holds256 hasher (text_of lines)
         → Holds256 result (text_of (cond (is_sent line.now) (lines ++ line.now ∷ []) (line.now ∷ []))) }
@@ -75,7 +76,7 @@ fn with_line(hasher: Sha256, line: &[u8]) -> Sha256
     hasher
 }
 
-/// Whether a line is one of bytes that the till sent. It goes on with the record before it.
+/// Returns whether a line contains bytes that the till sent. Such a line continues the record before it.
 pub(crate) fn is_sent(line: &[u8]) -> bool
     ensures { result ≡ is_sent line.now }
 {

@@ -1,4 +1,4 @@
-//! The steps of a till, each of them in its journal first.
+//! The steps of a till, each recorded in its journal first.
 ghost use Rattle.std.specs.Prelude.{◌≡◌, ◌≤◌, [], List, OnOk, Some, ℕ, length, true};
 ghost use Rattle.zvt_apdu.specs.Grammar.{Spells};
 ghost use Rattle.zvt_grammar.specs.Reading.{padded};
@@ -22,8 +22,8 @@ use zvt_stream::Answers;
 use zvt_text::Text;
 use zvt_till::{BookFault, Heard, Order, Outgoing, Till, Untaken, heard_view, reply_to};
 
-/// Gives the till an order once its journal has it, and returns the message to send. An order that the till refuses
-/// asks for no disk space. If the disk has no space, the till and the journal's records stay as they were. If the
+/// Gives the till an order once the journal contains it, and returns the message to send. An order that the till
+/// refuses needs no disk space. If the disk has no space, the till and the journal's records stay as they were. If the
 /// journal fails, `failure` says why.
 pub(crate) fn take_order<D: Device>(
     alloc: Global,
@@ -59,7 +59,7 @@ pub(crate) fn take_order<D: Device>(
     }
 }
 
-/// Lets the till process a message once its journal has it, and returns the bytes to send.
+/// Lets the till process a message once the journal contains it, and returns the bytes to send.
 pub(crate) fn take_message<D: Device>(
     alloc: Global,
     till: &mut Till,
@@ -160,7 +160,7 @@ pub(crate) fn keep_opening<D: Device>(
     journal.append(text.bytes())
 }
 
-/// Makes it durable that the line was lost and a new one is up.
+/// Makes the record durable that the line was lost and a new one is up.
 pub(crate) fn keep_lost<D: Device>(
     alloc: Global,
     journal: &mut Journal<D>,
@@ -174,7 +174,7 @@ pub(crate) fn keep_lost<D: Device>(
     journal.append(text.bytes())
 }
 
-/// The message without its password, as a journal has it.
+/// Returns the message without its password, as a journal contains it.
 fn masked(outgoing: &Outgoing) -> Outgoing
     ensures { result ≡ masked outgoing.now }
 {
@@ -198,7 +198,7 @@ fn masked(outgoing: &Outgoing) -> Outgoing
     Outgoing { brief }
 }
 
-/// Returns the bytes of a till's immediate reply while it is connected.
+/// Returns the bytes with which a connected till replies immediately.
 pub fn answers_to(heard: &Heard) -> Answers
     ensures answers { IsAnswer (reply_to heard.now) result }
     ensures few { length result.bytes ≤ 32 }

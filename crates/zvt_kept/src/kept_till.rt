@@ -1,10 +1,11 @@
-//! A till whose orders and messages are in its journal before anything that follows from them leaves it.
+//! A till that records its orders and messages in its journal before it acts on them.
 ghost use Rattle.std.specs.Prelude.{◌≡◌};
 
 use crate::keeping::{keep_lost, keep_opening, take_message, take_order};
 use crate::note::Note;
 use crate::recovery::{Recovered, RecoveryError, recover};
 use std::alloc::{AllocError, Global};
+use std::fmt;
 use std::marker::Model;
 use zvt_apdu::ApduView;
 use zvt_journal::{Device, DeviceError, Journal};
@@ -23,11 +24,18 @@ pub struct KeptTill<D: Device> {
     note: Note,
 }
 
-/// Why no journal was begun, and its device.
+/// Why no journal was begun. Hands back the device.
 #[derive(Drop)]
 pub struct Unbegun<D: Device> {
     pub device: D,
     pub why: DeviceError,
+}
+
+impl<D: Device> fmt::Display for Unbegun<D> {
+    fn fmt<W: fmt::Write>(&self, f: &mut fmt::Formatter<W>) -> fmt::Result {
+        let why = self.why;
+        write!(f, "no journal was begun: {why}")
+    }
 }
 
 impl<D: Device> Model for KeptTill<D> {
@@ -58,10 +66,10 @@ impl<D: Device + Drop> KeptTill<D> {
     ghost use Rattle.zvt_till.specs.Till.{new_till};
     ghost use Rattle.zvt_till.specs.declared.happenings.Happening.TheVariants.{Connected};
 
-    /// Begins a journal on a device without records, which `zvt_journal::open` left at rest: its opening is durable
-    /// then. The till is new, and its line is down.
+    /// Begins a journal on a device without records, at rest as `zvt_journal::open` leaves it, and makes its opening
+    /// durable. The till is new and not connected.
     ///
-    /// After an error the device has no record, or the opening; opening it again says which. `Full` never comes.
+    /// After an error, the device contains no record or the opening; open it again to find out. `Full` never occurs.
     pub fn create(
         alloc: Global,
         settings: &TillSettings,
@@ -104,7 +112,7 @@ impl<D: Device + Drop> KeptTill<D> {
     /// Restores the till from the records of a device at rest, like [`recover`]. The till is not connected. Writes
     /// nothing.
     ///
-    /// A text without a record is no till's: [`KeptTill::create`] begins a journal on its device.
+    /// Fails with `Opening` if the text has no record: use [`KeptTill::create`] to begin a journal on its device.
     pub fn open(
         alloc: Global,
         settings: &TillSettings,
@@ -140,7 +148,7 @@ impl<D: Device + Drop> KeptTill<D> {
 impl<D: Device> KeptTill<D> {
     ghost use Rattle.zvt_kept.specs.KeptTill.{Connects, IsKept, LosesLine, has_failed, with_note};
 
-    /// The till, to look at.
+    /// Returns the till.
     pub fn till(&self) -> &Till
         ensures till { result.now ≡ self.now.standing.till }
         ensures kept { IsKept (has_failed self.now) (D.seen self.now.standing.device)
@@ -149,28 +157,29 @@ impl<D: Device> KeptTill<D> {
         &self.till
     }
 
-    /// The device of the journal, to look at.
+    /// Returns the device of the journal.
     pub fn device(&self) -> &D
         ensures { result.now ≡ self.now.standing.device }
     {
         &self.journal.device
     }
 
-    /// Why the journal failed, if it did.
+    /// Returns why the journal failed, if it did.
     pub fn failure(&self) -> Option<DeviceError>
         ensures { result ≡ self.now.failure }
     {
         self.failure
     }
 
-    /// Gives the next orders this note, which their records have.
+    /// Sets the note of the next orders, which their records will contain.
     pub fn note_next(&mut self, note: Note)
         ensures { self.new ≡ with_note self.old note }
     {
         self.note = note;
     }
 
-    /// The line is up. A record says that an earlier line was lost. Nothing changes where the line is up.
+    /// Notifies the till that a line is up, after recording that an earlier line was lost. Does nothing if the line is
+    /// up.
     fn connected(&mut self, alloc: Global) -> Result<(), DeviceError>
         ensures { Connects D.seen D.may_leave D.moment D.left_since D.faults self.old self.new result }
     {
@@ -188,7 +197,7 @@ impl<D: Device> KeptTill<D> {
         Ok(())
     }
 
-    /// The line was lost. The journal is written when the next line is up.
+    /// Notifies the till that the line was lost. The record is written when the next line is up.
     fn line_lost(&mut self)
         ensures { LosesLine D.seen D.may_leave D.moment D.left_since D.faults self.old self.new }
     {
@@ -196,9 +205,9 @@ impl<D: Device> KeptTill<D> {
     }
 }
 
-/// A till with its journal processes a message once the journal has it. If the journal fails, the till processes
-/// nothing and loses its connection. It never reports a failed allocation: if a record cannot be allocated, the
-/// journal fails.
+/// A till with a journal processes a message once the journal contains it. If the journal fails, the till processes
+/// nothing and loses its connection. It never reports a failed allocation: if a record cannot be allocated, the journal
+/// fails.
 impl<D: Device> Machine for KeptTill<D> {
     ghost use Rattle.std.specs.Prelude.{false};
     ghost use Rattle.zvt_kept.specs.KeptTill.{Hears, LosesLine, kept_rests};
@@ -241,7 +250,7 @@ impl<D: Device> Machine for KeptTill<D> {
 }
 
 /// Each order is durable, with its note, before you get the message to send. Space for all records of an order is
-/// reserved before: without it the order is not taken, and nothing changes.
+/// reserved first; without it the order is not accepted, and nothing changes.
 impl<D: Device> Keeper for KeptTill<D> {
     ghost use Rattle.std.specs.Prelude.{refl};
     ghost use Rattle.zvt_kept.specs.Keeping.{kept_connects, kept_follows, kept_orders};

@@ -1,15 +1,14 @@
-//! Laws about sequences of records, and about the records that a crash at any moment leaves.
-ghost use Rattle.zvt_kept.specs.Crashes.{CrashesAccount, CrashesAreLosses, CrashesKeepReversals, CrashesMatch};
-ghost use Rattle.zvt_kept.specs.Crashes.{FilesAreWorlds};
+//! Laws about sequences of records, and about the records that a crash at any moment leaves. Each is stated as the
+//! contract of an empty function.
 ghost use Rattle.zvt_kept.specs.Logs.{LogsAreOne};
-ghost use Rattle.zvt_kept.specs.Outliving.{CallsAreMoves, CallsOutlive, HearingsOutlive, LogsAreRecovered, RunsOutlive};
+ghost use Rattle.zvt_kept.specs.Outliving.{CallsOutlive, HearingsOutlive, LogsAreRecovered, RunsOutlive};
 ghost use Rattle.zvt_kept.specs.Outliving.{TillsAreRecovered};
 ghost use Rattle.zvt_kept.specs.Records.{OpeningIsTaken, RecordsAreKept, RecordsAreTaken, RecordsAreWhole};
 ghost use Rattle.zvt_kept.specs.Remarks.{RemarksMeanNothing};
 
 use zvt_journal::Device;
 
-/// A record after complete lines adds exactly the entry for which it was written. The result is complete lines again,
+/// A record after complete lines adds exactly the entry for which it was written. The result is again complete lines,
 /// and a journal accepts it.
 pub fn records_are_kept()
     ensures kept { RecordsAreKept }
@@ -17,8 +16,8 @@ pub fn records_are_kept()
     ensures taken { RecordsAreTaken }
 {}
 
-/// The opening of a journal means nothing, and a journal takes it as its first record: a crash while it is appended
-/// leaves a file that opening takes.
+/// The opening of a journal has no meaning of its own, and a journal accepts it as its first record: a crash while it
+/// is appended leaves a file that can be opened.
 pub fn opening_is_taken()
     ensures { OpeningIsTaken }
 {}
@@ -33,48 +32,29 @@ pub fn logs_are_one()
     ensures { LogsAreOne }
 {}
 
-/// The journal of a till's log recovers to the till of that log, whose line was lost, unless memory is refused.
+/// The journal of a till's log recovers to the till of that log after losing its line, unless memory runs out.
 pub fn logs_are_recovered()
     ensures { LogsAreRecovered }
 {}
 
-/// While a till hears messages, a crash at any moment leaves a journal of its log and of some first ones of them.
+/// While a till processes messages, a crash at any moment leaves a journal of its log and a prefix of these messages.
 pub fn hearings_outlive<D: Device>()
     ensures { HearingsOutlive D.seen D.may_leave D.moment D.left_since D.faults }
 {}
 
-/// While a till runs an order, a crash at any moment leaves a journal of its log, perhaps of the order, and then of
-/// some first ones of the messages that were read.
+/// While a till runs an order, a crash at any moment leaves a journal of its log, possibly followed by the order and
+/// then by a prefix of the messages that were read.
 pub fn runs_outlive<D: Device>()
     ensures { RunsOutlive D.seen D.may_leave D.moment D.left_since D.faults }
 {}
 
-/// Over many orders and lines, a crash at any moment leaves a journal of the till's log and a prefix of what happened.
-/// At the end it is of all that happened, if the journal did not fail.
+/// Over many orders and lines, a crash at any moment leaves a journal of the till's log and a prefix of the later
+/// events. At the end, the journal contains all events, unless it failed.
 pub fn calls_outlive<D: Device>()
     ensures { CallsOutlive D.seen D.may_leave D.moment D.left_since D.faults }
 {}
 
-/// The calls of a till with its journal are moves of both ends of its line: after a crash at any moment, recovery gives
-/// the till that both ends have after a crash.
-pub fn calls_are_moves<D: Device>()
-    ensures { CallsAreMoves D.seen D.may_leave D.moment D.left_since D.faults }
-{}
-
-/// Of a till whose journal did not fail, recovery finds the same till, whose line was lost, unless memory is refused.
+/// If a till's journal did not fail, recovery restores the same till after losing its line, unless memory runs out.
 pub fn tills_are_recovered<D: Device>()
     ensures { TillsAreRecovered D.seen D.may_leave D.moment D.left_since D.faults }
-{}
-
-/// With any settings of the till, a crash and the recovery from its journal have the same effect on both ends as a
-/// lost connection. Recovery restores exactly the till that a lost connection would leave.
-///
-/// So what holds of both ends holds with crashes: each entry of the till's book is an approval of its own in the
-/// terminal's ledger. Over lines that keep order no approval, and no payment that was taken back, is dropped.
-pub fn crashes_are_losses()
-    ensures same { CrashesAreLosses }
-    ensures files { FilesAreWorlds }
-    ensures matches { CrashesMatch }
-    ensures account { CrashesAccount }
-    ensures reversals { CrashesKeepReversals }
 {}

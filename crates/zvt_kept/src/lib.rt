@@ -1,8 +1,9 @@
 //! A till that keeps its book in a journal.
 //!
-//! Each order is in the journal before its message is sent, and each message before the till hears it. A record is
-//! complete lines of text. An order is a comment line and a line with the bytes to send. A message of the terminal is
-//! a line with its bytes, and a line with the replies to it. A lost connection is `!`. Each record ends in its check.
+//! Each order is in the journal before its message is sent, and each message of the terminal before the till processes
+//! it. A record consists of complete lines of text. The record of an order is a comment line and a line with the bytes
+//! to send. The record of a message is a line with its bytes, and a line with the replies to it. The record of a lost
+//! connection is `!`. Each record ends with its check.
 #![tactic(auto)]
 
 mod check;
@@ -19,9 +20,8 @@ mod words;
 pub use keeping::answers_to;
 pub use kept_till::{KeptTill, Unbegun};
 pub use laws::{
-    calls_are_moves, calls_outlive, crashes_are_losses, hearings_outlive, logs_are_one,
-    logs_are_recovered, opening_is_taken, records_are_kept, remarks_mean_nothing, runs_outlive,
-    tills_are_recovered,
+    calls_outlive, hearings_outlive, logs_are_one, logs_are_recovered, opening_is_taken,
+    records_are_kept, remarks_mean_nothing, runs_outlive, tills_are_recovered,
 };
 pub use lines::{RecordError, read_records};
 pub use note::{MAX_REFERENCE_LEN, Note, is_reference};

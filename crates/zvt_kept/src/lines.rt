@@ -1,4 +1,4 @@
-//! The meaning of records.
+//! Reads the lines of records.
 ghost use Rattle.std.specs.Prelude.{◌≡◌, ◌∷◌, [], Some, option_map, is_some, ◌++◌, IfOk, OnOk};
 ghost use Rattle.std.specs.Char.{is_ascii_hexdigit};
 ghost use Rattle.std.specs.List.{list_all};
@@ -16,13 +16,13 @@ use thiserror::Error;
 use zvt_text::words::trailing;
 use zvt_trace::next_line;
 
-/// Why records can't be read.
+/// Why records cannot be read.
 #[derive(Clone, Copy, Debug, PartialEq, Eq, Error)]
 pub enum RecordError {
-    /// This line, counted from 1, is no line of a journal.
+    /// This line, counted from 1, is not a line of a journal.
     #[error("line {number} of the book is not part of a valid record")]
     Line { number: usize },
-    /// This line, counted from 1, is a check that doesn't belong to the record before it.
+    /// This line, counted from 1, is a check that does not match the record before it.
     #[error("line {number} of the journal is not the check of its record: the file was changed or damaged")]
     Check { number: usize },
     /// An allocation failed.
@@ -79,7 +79,7 @@ enum Meaning {
     Unknown,
 }
 
-/// Reads a line behind another: bytes that were sent have no meaning behind a remark.
+/// Reads a line that follows another. Sent bytes after a remark have no meaning.
 fn read_after(alloc: Global, last: &[u8], line: &[u8]) -> Result<Meaning, AllocError>
     ensures { IfOk result (λ read. meaning_behind last.now line.now ≡ meant_by read) }
 {
@@ -89,7 +89,7 @@ fn read_after(alloc: Global, last: &[u8], line: &[u8]) -> Result<Meaning, AllocE
     read_line(alloc, line)
 }
 
-/// Whether a line is a remark.
+/// Returns whether a line is a remark.
 fn is_remark(line: &[u8]) -> bool
     ensures { result ≡ is_remark line.now }
 {
@@ -166,7 +166,7 @@ fn heard(alloc: Global, text: &[u8]) -> Result<Meaning, AllocError>
     }
 }
 
-/// Whether these digits spell at least one byte.
+/// Returns whether these digits spell at least one byte.
 fn spells_bytes(digits: &[u8]) -> bool
     ensures { result ≡ is_some (some_bytes (decode_of digits.now)) }
 {
@@ -176,7 +176,7 @@ fn spells_bytes(digits: &[u8]) -> bool
     all_digits(digits)
 }
 
-/// Whether each of these is a hexadecimal digit.
+/// Returns whether all of these are hexadecimal digits.
 fn all_digits(digits: &[u8]) -> bool
     ensures { result ≡ list_all is_ascii_hexdigit digits.now }
 {

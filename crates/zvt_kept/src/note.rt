@@ -1,4 +1,4 @@
-//! Notes: what the record of an order says beside the order.
+//! Notes: the time and the reference in the record of an order.
 ghost use Rattle.std.specs.Prelude.{◌≡◌, ◌≤◌, ◌+◌, ◌++◌, ◌&&◌, drop, if◌then◌else◌, length, option_map, take, true};
 ghost use Rattle.std.specs.Char.{is_ascii_graphic};
 ghost use Rattle.std.specs.List.{list_all};
@@ -9,10 +9,10 @@ use arrayvec::ArrayVec;
 use std::marker::Model;
 use zvt_text::words::trailing;
 
-/// The most characters of a reference.
+/// Maximum number of characters in a reference.
 pub const MAX_REFERENCE_LEN: usize = 40;
 
-/// The bytes of a time.
+/// The number of bytes in a time.
 const MOMENT_LEN: usize = 20;
 
 /// The note in the record of an order: the time of the order, and the caller's reference.
@@ -36,7 +36,7 @@ impl Note {
     ghost use Rattle.std.specs.Prelude.{[], IfSome, None, Some};
     ghost use Rattle.zvt_kept.specs.Notes.{at_in, note_of, reference_in};
 
-    /// A note that says nothing.
+    /// Creates an empty note.
     pub fn none() -> Note
         ensures { result ≡ [] }
     {
@@ -45,8 +45,8 @@ impl Note {
         }
     }
 
-    /// The note with this time and this reference. It is `None` where the time is not of the form
-    /// `2026-11-28T09:14:03Z`, or the reference is not 1 to 40 printable ASCII characters without a space.
+    /// Creates a note with this time and this reference. Returns `None` unless the time has the form
+    /// `2026-11-28T09:14:03Z` and the reference is 1 to 40 printable ASCII characters without a space.
     pub fn new(at: Option<&[u8]>, reference: Option<&[u8]>) -> Option<Note>
         ensures note { result ≡ note_of (option_map (λ text. text.now) at.entry)
             (option_map (λ text. text.now) reference.entry) }
@@ -62,7 +62,7 @@ impl Note {
         Some(Note { words })
     }
 
-    /// The note of these words, if they are one.
+    /// Reads the note in these words, if they are one.
     pub(crate) fn read(words: &[u8]) -> Option<Note>
         ensures { result ≡ (if is_note words.now then Some words.now else None) }
     {
@@ -73,7 +73,7 @@ impl Note {
         }
     }
 
-    /// The note of these words.
+    /// Makes a note of these words.
     fn of(words: &[u8]) -> Note
         requires { is_note words.now ≡ true }
         ensures { result ≡ words.now }
@@ -83,7 +83,7 @@ impl Note {
         Note { words: held }
     }
 
-    /// Copies the note.
+    /// Returns a copy of the note.
     pub fn copied(&self) -> Note
         ensures { result ≡ self.now }
     {
@@ -118,7 +118,7 @@ impl Note {
     }
 }
 
-/// Whether each of these that is given is a time and a reference.
+/// Returns whether the time and the reference, if given, have the right form.
 fn are_right(at: Option<&[u8]>, reference: Option<&[u8]>) -> bool
     ensures { result ≡ (fits_if_some is_moment (option_map (λ text. text.now) at.entry) && fits_if_some is_reference
         (option_map (λ text. text.now) reference.entry)) }
@@ -134,7 +134,7 @@ fn are_right(at: Option<&[u8]>, reference: Option<&[u8]>) -> bool
     right_time && right_reference
 }
 
-/// Adds a word behind its key, if there is one.
+/// Adds a word and its key, if there is one.
 fn add(words: &mut ArrayVec<u8, 69>, key: &[u8], word: Option<&[u8]>)
     requires { length words.old.items + length (keyed key.now (option_map (λ text. text.now) word)) ≤ 69 }
     ensures { words.new.items ≡ words.old.items ++ keyed key.now (option_map (λ text. text.now) word.entry) }
@@ -145,7 +145,7 @@ fn add(words: &mut ArrayVec<u8, 69>, key: &[u8], word: Option<&[u8]>)
     }
 }
 
-/// Whether these words are a note.
+/// Returns whether these words are a note.
 pub(crate) fn is_note(words: &[u8]) -> bool
     ensures { result ≡ is_note words.now }
 {
@@ -155,7 +155,7 @@ pub(crate) fn is_note(words: &[u8]) -> bool
     }
 }
 
-/// Whether a time comes first, and then nothing or a reference.
+/// Returns whether these words are a time, followed by nothing or by a reference.
 fn is_moment_first(rest: &[u8]) -> bool
     ensures { result ≡ is_moment (take 20 rest.now) && is_reference_part (drop 20 rest.now) }
 {
@@ -166,7 +166,7 @@ fn is_moment_first(rest: &[u8]) -> bool
     is_moment(moment) && is_reference_part(words)
 }
 
-/// Whether these words are nothing, or a reference.
+/// Returns whether these words are empty or a reference.
 fn is_reference_part(words: &[u8]) -> bool
     ensures { result ≡ is_reference_part words.now }
 {
@@ -179,14 +179,14 @@ fn is_reference_part(words: &[u8]) -> bool
     }
 }
 
-/// Whether this is a time to the second.
+/// Returns whether this is a time to the second.
 fn is_moment(text: &[u8]) -> bool
     ensures { result ≡ is_moment text.now }
 {
     fits(b"0000-00-00T00:00:00Z", text)
 }
 
-/// Whether a text has this form.
+/// Returns whether a text has this form.
 fn fits(form: &[u8], text: &[u8]) -> bool
     ensures { result ≡ fits form.now text.now }
 {
@@ -205,7 +205,7 @@ fn fits(form: &[u8], text: &[u8]) -> bool
     rest.is_empty()
 }
 
-/// Whether a byte may be at this place: any digit in the place of a 0, else that byte.
+/// Returns whether a byte fits this place of the form: a 0 stands for any digit, and every other byte for itself.
 fn fits_place(place: u8, byte: u8) -> bool
     ensures { result ≡ fits_place place byte }
 {
@@ -216,7 +216,7 @@ fn fits_place(place: u8, byte: u8) -> bool
     }
 }
 
-/// Whether this is 1 to 40 printable ASCII characters, none of them a space.
+/// Returns whether this is a valid reference: 1 to 40 printable ASCII characters, none of them a space.
 pub fn is_reference(text: &[u8]) -> bool
     ensures { result ≡ is_reference text.now }
 {
@@ -226,7 +226,7 @@ pub fn is_reference(text: &[u8]) -> bool
     all_graphic(text)
 }
 
-/// Whether each of these is a printable ASCII character and no space.
+/// Returns whether all of these are printable ASCII characters other than the space.
 fn all_graphic(text: &[u8]) -> bool
     ensures { result ≡ list_all is_ascii_graphic text.now }
 {

@@ -1,4 +1,4 @@
-//! The text of records: the lines of each, and the check of them.
+//! Writes records: the lines of each, and its check.
 ghost use Rattle.std.specs.Prelude.{◌≡◌, ◌++◌, ◌<◌, ◌≤◌, ◌^◌, [], ◌∷◌, Some, decimal, length};
 ghost use Rattle.zvt_journal.specs.Text.{IsRecord};
 ghost use Rattle.zvt_kept.specs.Reading.{Extends};
@@ -36,7 +36,7 @@ pub fn put_opening(text: &mut Text, currency: Currency) -> Result<(), AllocError
 
 /// Writes an order with its note, and the bytes that are sent for it. After `Err` a prefix of the record is written.
 ///
-/// The bytes are written as they are given. So the caller puts 00 00 00 in the place of a password.
+/// The bytes are written unchanged, so the caller has to replace a password by 00 00 00.
 pub fn put_order(text: &mut Text, order: &Order, note: &Note, sent: &[u8]) -> Result<(), AllocError>
     ensures written { Extends result text.old text.new (order_record order.now note.now sent.now) }
     ensures kept { IsSpelledOrder order.now → IsRecordOf (ordered order.now note.now)
@@ -58,8 +58,7 @@ fn put_order_line(text: &mut Text, order: &Order, note: &[u8]) -> Result<(), All
     text.push(b'\n')
 }
 
-/// Writes a message of the terminal and the bytes of all replies to it. After `Err`, the text has a part of the
-/// record.
+/// Writes a message of the terminal and the bytes of all replies to it. After `Err` a prefix of the record is written.
 pub fn put_heard(text: &mut Text, message: &[u8], answers: &[u8]) -> Result<(), AllocError>
     ensures written { Extends result text.old text.new (heard_record message.now answers.now) }
     ensures kept { 0 < length message.now → IsRecordOf (heard message.now) (heard_record message.now answers.now) }

@@ -1,4 +1,4 @@
-//! The till of a journal's records.
+//! Restores a till from the records of its journal.
 ghost use Rattle.std.specs.Prelude.{◌≡◌, ◌↔◌, ℕ, List, Err, IsTrue, IfOk, MatchResult, Ok};
 ghost use Rattle.zvt_kept.specs.Reading.{kept_of};
 ghost use Rattle.zvt_kept.specs.Logs.{HasOpening};
@@ -21,16 +21,16 @@ use zvt_text::Text;
 use zvt_text::words::trailing;
 use zvt_till::{Order, OrderRefusal, Till, TillSettings, heard};
 
-/// Why a journal's records make no till.
+/// Why a till cannot be restored from a journal's records.
 #[derive(Clone, Copy, Debug, PartialEq, Eq, Error)]
 pub enum RecoveryError {
     /// The first line is not the opening of a journal with this currency.
-    #[error("this book is of another currency: give the book's currency, or name another file")]
+    #[error("this book has another currency: give the book's currency, or name another file")]
     Opening,
-    /// This line, counted from 1, is no line of a journal.
+    /// This line, counted from 1, is not a line of a journal.
     #[error("line {number} of the book is not part of a valid record")]
     Line { number: usize },
-    /// This line, counted from 1, is a check that doesn't belong to the record before it.
+    /// This line, counted from 1, is a check that does not match the record before it.
     #[error("line {number} of the book is not the check of its record: the file was changed or damaged")]
     Check { number: usize },
     /// This record, counted from 1, is the first that cannot follow the records before it: the till refuses its order,
@@ -53,9 +53,9 @@ impl From<AllocError> for RecoveryError {
 /// A till that was rebuilt from its journal, and the notes of its payments.
 #[derive(Drop)]
 pub struct Recovered {
-    /// The till, whose line is down.
+    /// The till, which is not connected.
     pub till: Till,
-    /// The note of each payment of the till's book, in the order of the book.
+    /// The note of each payment in the till's book, in the order of the book.
     pub booked: Vec<Note>,
     /// The note of each unclear payment, in the order of [`Till::unclear`].
     pub unclear: Vec<Note>,
@@ -106,7 +106,7 @@ pub fn recover(
     })
 }
 
-/// Whether the text begins with the first line of a journal of this currency.
+/// Returns whether the text begins with the first line of a journal of this currency.
 fn has_opening(alloc: Global, text: &[u8], currency: Currency) -> Result<bool, AllocError>
     ensures { IfOk result (λ begins. IsTrue begins ↔ HasOpening currency text.now) }
 {

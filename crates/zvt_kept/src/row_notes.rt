@@ -1,4 +1,4 @@
-//! The notes of a till's payments, while the till lives through its records again.
+//! Collects the notes of a till's payments while its records are replayed.
 ghost use Rattle.std.specs.Prelude.{◌≡◌, [], OnOk, length};
 ghost use Rattle.zvt_kept.specs.Reading.{kept_of};
 ghost use Rattle.zvt_kept.specs.RowNotes.{grown, payment_note};
@@ -8,7 +8,7 @@ use crate::records::Entry;
 use std::alloc::{AllocError, Global};
 use zvt_till::{Order, Till};
 
-/// The notes of the payments that have ended, and of the one that was ordered last.
+/// The notes of the payments that have ended, and the note of the payment that was ordered last.
 #[derive(Drop)]
 pub(crate) struct RowNotes {
     /// The note of the payment that was ordered last.
@@ -20,7 +20,7 @@ pub(crate) struct RowNotes {
 }
 
 impl RowNotes {
-    /// The notes of a new till.
+    /// Returns the notes of a new till.
     pub(crate) fn new(alloc: Global) -> RowNotes
         ensures booked { result.booked.items ≡ [] }
         ensures unclear { result.unclear.items ≡ [] }
@@ -47,7 +47,7 @@ impl RowNotes {
         }
     }
 
-    /// Adds the note that it holds for a payment that the till booked, or that became unclear.
+    /// Adds the held note if the till booked a payment, or one became unclear.
     pub(crate) fn follow(&mut self, till: &Till) -> Result<(), AllocError>
         ensures last { OnOk result (self.new.last ≡ self.old.last) }
         ensures booked { OnOk result (self.new.booked.items ≡ grown self.old.booked.items (length till.now.state.book)

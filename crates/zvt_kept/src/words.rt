@@ -1,4 +1,4 @@
-//! The words of a comment.
+//! Reads the words of a comment.
 ghost use Rattle.std.specs.Prelude.{◌≡◌, ◌≤◌, ◌-◌, ◌==◌, ℕ, IfSome, List, length, option_map};
 ghost use Rattle.std.specs.List.{position, position_or_len};
 ghost use Rattle.zvt_kept.specs.Reading.{kept_of};
@@ -11,10 +11,10 @@ use zvt_bcd::Amount;
 use zvt_text::words::{decimal_number, trailing};
 use zvt_till::Order;
 
-/// The most digits of a number.
+/// Maximum number of digits in a number.
 const MAX_DIGITS: usize = 12;
 
-/// Whether the first word is one with which an order or the opening of a journal begins.
+/// Returns whether the first word begins an order or the opening of a journal.
 pub(crate) fn is_reserved(words: &[u8]) -> bool
     ensures { result ≡ is_reserved words.now }
 {
@@ -26,7 +26,7 @@ pub(crate) fn is_reserved(words: &[u8]) -> bool
         || begins_with(b"zvt", words)
 }
 
-/// Whether this is the first word.
+/// Returns whether this is the first word.
 fn begins_with(word: &[u8], words: &[u8]) -> bool
     ensures { result ≡ begins_with word.now words.now }
 {
@@ -36,7 +36,7 @@ fn begins_with(word: &[u8], words: &[u8]) -> bool
     }
 }
 
-/// Whether a word ends before this: no letter follows.
+/// Returns whether a word ends before this: no letter follows.
 fn ends_word(rest: &[u8]) -> bool
     ensures { result ≡ ends_word rest.now }
 {
@@ -46,7 +46,7 @@ fn ends_word(rest: &[u8]) -> bool
     }
 }
 
-/// The order that words name, with the note behind it.
+/// Reads the order that the words name, with the note after it.
 pub(crate) fn order_of(words: &[u8]) -> Option<Entry>
     ensures { option_map kept_of result ≡ order_of words.now }
 {
@@ -65,7 +65,7 @@ pub(crate) fn order_of(words: &[u8]) -> Option<Entry>
     reversal(trailing(b"reverse ", words)?)
 }
 
-/// A payment of this amount, before a note.
+/// Reads a payment of this amount, and a note.
 fn payment(tail: &[u8]) -> Option<Entry>
     ensures { option_map kept_of result ≡ with_number Order.Pay tail.now }
 {
@@ -74,7 +74,7 @@ fn payment(tail: &[u8]) -> Option<Entry>
     Some(Entry::Order { order, note })
 }
 
-/// The reversal of this entry, before a note.
+/// Reads the reversal of this entry, and a note.
 fn reversal(tail: &[u8]) -> Option<Entry>
     ensures { option_map kept_of result ≡ with_number (λ n. Order.Reverse (n - 1)) tail.now }
 {
@@ -84,7 +84,7 @@ fn reversal(tail: &[u8]) -> Option<Entry>
     Some(Entry::Order { order, note })
 }
 
-/// An order, before a note.
+/// Reads the note of an order without a number.
 fn plain(order: Order, rest: &[u8]) -> Option<Entry>
     ensures { option_map kept_of result ≡ plain order rest.now }
 {
@@ -92,7 +92,7 @@ fn plain(order: Order, rest: &[u8]) -> Option<Entry>
     Some(Entry::Order { order, note })
 }
 
-/// The first word, and the note behind it.
+/// Returns the first word, and the note after it.
 fn noted_digits(tail: &[u8]) -> Option<(&[u8], Note)>
     ensures { option_map {U = List ℕ × List ℕ} (λ found. (found.0.now, found.1)) result ≡ noted_digits tail.now }
 {
@@ -101,7 +101,7 @@ fn noted_digits(tail: &[u8]) -> Option<(&[u8], Note)>
     Some((word, note))
 }
 
-/// How many bytes come before the first of this value, or how many there are.
+/// Returns the number of bytes before the first byte with this value, or the number of all bytes if none has it.
 pub fn size_before(byte: u8, words: &[u8]) -> usize
     ensures size { result ≡ position_or_len (λ other. other == byte) words.now }
     ensures fits { result ≤ length words.now }
@@ -119,14 +119,14 @@ fn first_of(byte: u8, words: &[u8]) -> Option<usize>
     words.iter().position(|other| *other == byte)
 }
 
-/// The amount of that many digits.
+/// Parses an amount.
 fn amount(digits: &[u8]) -> Option<Amount>
     ensures { result ≡ number_of digits.now }
 {
     Amount::new(number(digits)?)
 }
 
-/// The number of one to twelve decimal digits that are not all 0.
+/// Parses a number of one to twelve decimal digits, not all of them 0.
 fn number(digits: &[u8]) -> Option<u64>
     ensures number { result ≡ number_of digits.now }
     ensures least { IfSome result (λ number. 1 ≤ number) }

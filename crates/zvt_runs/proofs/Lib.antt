@@ -16,3 +16,5 @@ pub mod Outlived
 pub mod ManyTills
 pub mod Traced
 pub mod OverTcpLemmas
+pub mod Crashed
+pub mod Worlds

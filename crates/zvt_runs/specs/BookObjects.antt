@@ -1,4 +1,4 @@
--- A till's book as JSON. The members of an object come in the order of their names.
+-- A till's book as JSON. The members of an object are in the alphabetical order of their names.
 use Rattle.std.specs.Prelude.{◌≡◌, ℕ, ◌+◌, Bool, true, false, List, [], ◌∷◌, ◌++◌, Option, Some, None, codes, slice_get, refl}
 use Rattle.std.specs.Fmt.{decimal, digits}
 use Rattle.std.specs.List.{enumerate_from, flat_map}
@@ -22,16 +22,16 @@ use Rattle.zvt_kept.specs.Notes.{at_in, reference_in}
 use Rattle.zvt_kept.specs.declared.recovery.Recovered.{Recovered}
 use Rattle.zvt_runs.specs.Books.{book_text}
 
--- the receipt number, where the payment has one, and what comes after it
+-- the receipt number, if the payment has one, and the text after it
 abbrev pub with_receipt : Option (List ℕ) → Members → Members
 with_receipt None later = later
 with_receipt (Some receipt) later = member (codes "receipt") (hex_value receipt) later
 
--- the currency in four digits, and what comes after it
+-- the currency in four digits, and the text after it
 abbrev pub with_currency : (currency : ℕ) → Members → Members
 with_currency currency later = member (codes "currency") (string (four_digits currency)) later
 
--- the trace number, where the terminal named one, and what comes after it
+-- the trace number, if the terminal named one, and the text after it
 abbrev pub with_trace : Option ℕ → Members → Members
 with_trace None later = later
 with_trace (Some trace) later = member (codes "trace") (count_value trace) later
@@ -40,7 +40,7 @@ abbrev pub with_moment : Option (List ℕ) → Members → Members
 with_moment None later = later
 with_moment (Some moment) later = member (codes "at") (string moment) later
 
--- the time of the order, where its record has one, and what comes after it
+-- the time of the order, if its record has one, and the text after it
 abbrev pub with_time : (note : Option (List ℕ)) → Members → Members
 with_time None later = later
 with_time (Some note) later = with_moment (at_in note) later
@@ -49,33 +49,33 @@ abbrev pub with_word : Option (List ℕ) → Members → Members
 with_word None later = later
 with_word (Some word) later = member (codes "ref") (string word) later
 
--- the reference of the order, where its record has one, and what comes after it
+-- the reference of the order, if its record has one, and the text after it
 abbrev pub with_reference : (note : Option (List ℕ)) → Members → Members
 with_reference None later = later
 with_reference (Some note) later = with_word (reference_in note) later
 
--- the cause of a last reversal that is unclear, and what comes after it
+-- the cause of the last reversal if that is unclear, and the text after it
 abbrev pub with_unclear_reversal : Doubt → Members → Members
 with_unclear_reversal No later = later
 with_unclear_reversal (Unclear cause) later = member (codes "reversal_unclear") (string (cause_name cause)) later
 with_unclear_reversal TakenBack later = later
 
--- that a completed reversal took the payment back, if one did, and what comes after it
+-- that a completed reversal took the payment back, if one did, and the text after it
 abbrev pub with_reversed : Bool → Members → Members
 with_reversed false later = later
 with_reversed true later = member (codes "reversed") (boolean true) later
 
--- that the terminal took the payment back before, if it said so, and what comes after it
+-- that the terminal had taken the payment back before, if it said so, and the text after it
 abbrev pub with_taken_back : Doubt → Members → Members
 with_taken_back No later = later
 with_taken_back (Unclear cause) later = later
 with_taken_back TakenBack later = member (codes "taken_back") (boolean true) later
 
--- what the reversals of an entry left, and what comes after it
+-- the state of an entry's reversals, and the text after it
 abbrev pub with_reversals : Bool → Doubt → Members → Members
 with_reversals reversed doubt later = with_unclear_reversal doubt (with_reversed reversed (with_taken_back doubt later))
 
--- the currency and the number of an entry, and what comes after them
+-- the currency and the number of an entry, and the text after them
 abbrev pub with_number : (currency number : ℕ) → Members → Members
 with_number currency number later = with_currency currency (member (codes "number") (count_value number) later)
 
@@ -84,16 +84,16 @@ payment_value currency number entry note =
     object (member (codes "amount") (count_value entry.amount) (with_time note (with_number currency number
     (with_receipt entry.receipt (with_reference note (with_reversals entry.reversed entry.doubt (with_trace (Some entry.trace) no_members)))))))
 
--- an entry, its number in the book, by which it is reversed, and its note
+-- an entry, the number in the book by which it is reversed, and its note
 abbrev pub entry_value : (currency number : ℕ) → Entry → (note : Option (List ℕ)) → Data
 entry_value currency number entry note = object (member (codes "booked") (payment_value currency number entry note) no_members)
 
--- what was heard of a payment and its reference, and what comes after them
+-- the numbers that the terminal named for a payment and its reference, and the text after them
 abbrev pub with_heard : Option Numbers → (note : Option (List ℕ)) → Members → Members
 with_heard None note later = with_reference note later
 with_heard (Some numbers) note later = with_receipt numbers.receipt (with_reference note (with_trace numbers.trace later))
 
--- why a payment is unclear, the currency, and what comes after them
+-- why a payment is unclear, the currency, and the text after them
 abbrev pub with_cause : Cause → (currency : ℕ) → Members → Members
 with_cause cause currency later = member (codes "cause") (string (cause_name cause)) (with_currency currency later)
 
@@ -101,15 +101,15 @@ abbrev pub doubt_value : (currency : ℕ) → ℕ × Cause → Option Numbers �
 doubt_value currency row heard note =
     object (member (codes "amount") (count_value row.0) (with_time note (with_cause row.1 currency (with_heard heard note no_members))))
 
--- a payment of which it is not known whether it happened, and its note
+-- an unclear payment and its note
 abbrev pub unclear_value : (currency : ℕ) → ℕ × Cause → Option Numbers → (note : Option (List ℕ)) → Data
 unclear_value currency row heard note = object (member (codes "unclear") (doubt_value currency row heard note) no_members)
 
--- the entries, numbered from 1; the note of each stands at its place
+-- the entries, numbered from 1, each with the note at the same index
 abbrev pub entries_json : (currency : ℕ) → List Entry → (notes : List (List ℕ)) → List ℕ
 entries_json currency book notes = flat_map (λ it. line_text (entry_value currency (it.0 + 1) it.1 (slice_get notes it.0))) (enumerate_from 0 book)
 
--- what was heard of a payment stands at its place, and so does its note
+-- the unclear payments, each with the numbers and the note at the same index
 abbrev pub unclears_json : (currency : ℕ) → List (ℕ × Cause) → (heard : List Numbers) → (notes : List (List ℕ)) → List ℕ
 unclears_json currency unclear heard notes =
     flat_map (λ it. line_text (unclear_value currency it.1 (slice_get heard it.0) (slice_get notes it.0))) (enumerate_from 0 unclear)
@@ -117,8 +117,7 @@ unclears_json currency unclear heard notes =
 abbrev pub sum_value : (currency total : ℕ) → Data
 sum_value currency total = object (with_currency currency (member (codes "total") (count_value total) no_members))
 
--- a line for each entry, for each payment of which it is not known whether it happened, and for the sum of the entries that
--- were not reversed
+-- a line for each entry, for each unclear payment, and for the sum of the entries that were not reversed
 abbrev pub book_json : Recovered → List ℕ
 book_json recovered =
     let till = recovered.till in
@@ -127,7 +126,7 @@ book_json recovered =
     ++ unclears_json s.settings.currency s.unclear till.heard recovered.unclear.items
     ++ line_text (sum_value s.settings.currency (total s.book))
 
--- the book in that form
+-- the book in this form
 abbrev pub book_lines : Form → Recovered → List ℕ
 book_lines Text recovered = book_text recovered
 book_lines Json recovered = book_json recovered

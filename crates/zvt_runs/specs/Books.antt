@@ -14,7 +14,7 @@ use Rattle.zvt_kept.specs.declared.recovery.Recovered.{Recovered}
 use Rattle.zvt_runs.specs.Notes.{named_text}
 use Rattle.zvt_runs.specs.Outcomes.{total_text}
 
--- what follows an entry that a completed reversal took back
+-- the text after an entry that a completed reversal took back
 abbrev pub reversed_text : Bool → List ℕ
 reversed_text false = []
 reversed_text true = codes " reversed"
@@ -22,17 +22,17 @@ reversed_text true = codes " reversed"
 abbrev pub unclear_reversal_text : Cause → List ℕ
 unclear_reversal_text cause = codes " reversal unclear " ++ cause_name cause
 
--- what follows an entry of whose reversals something is left open
+-- the text after an entry whose reversals leave a doubt
 abbrev pub doubt_text : Doubt → List ℕ
 doubt_text No = []
 doubt_text (Unclear cause) = unclear_reversal_text cause
 doubt_text TakenBack = codes " taken back"
 
--- its amount and its numbers
+-- the amount and the numbers of an entry
 abbrev pub booked_text : Entry → List ℕ
 booked_text entry = codes "booked " ++ decimal entry.amount ++ 32 ∷ numbers_text entry.trace entry.receipt
 
--- the time and the reference of its order, where its record has them
+-- the time and the reference of an order, if its record has them
 abbrev pub noted_text : (note : Option (List ℕ)) → List ℕ
 noted_text None = []
 noted_text (Some note) = note
@@ -40,7 +40,7 @@ noted_text (Some note) = note
 abbrev pub entry_text : Entry → (note : Option (List ℕ)) → List ℕ
 entry_text entry note = booked_text entry ++ reversed_text entry.reversed ++ doubt_text entry.doubt ++ noted_text note ++ 10 ∷ []
 
--- what was heard of a payment
+-- the numbers that the terminal named for a payment
 abbrev pub heard_words : Option Numbers → List ℕ
 heard_words None = []
 heard_words (Some numbers) = named_text numbers.trace numbers.receipt
@@ -48,15 +48,15 @@ heard_words (Some numbers) = named_text numbers.trace numbers.receipt
 abbrev pub unclear_text : ℕ × Cause → Option Numbers → (note : Option (List ℕ)) → List ℕ
 unclear_text row heard note = codes "unclear " ++ decimal row.0 ++ 32 ∷ cause_name row.1 ++ heard_words heard ++ noted_text note ++ 10 ∷ []
 
--- the note of an entry stands at its place
+-- the entries, each with the note at the same index
 abbrev pub entries_text : List Entry → (notes : List (List ℕ)) → List ℕ
 entries_text book notes = flat_map (λ it. entry_text it.1 (slice_get notes it.0)) (enumerate_from 0 book)
 
--- what was heard of a payment stands at its place, and so does its note
+-- the unclear payments, each with the numbers and the note at the same index
 abbrev pub unclears_text : List (ℕ × Cause) → (heard : List Numbers) → (notes : List (List ℕ)) → List ℕ
 unclears_text unclear heard notes = flat_map (λ it. unclear_text it.1 (slice_get heard it.0) (slice_get notes it.0)) (enumerate_from 0 unclear)
 
--- the entries, the payments of which it is not known whether they happened, and the sum of the entries that were not reversed
+-- the entries, the unclear payments, and the sum of the entries that were not reversed
 abbrev pub book_text : Recovered → List ℕ
 book_text recovered =
     let till = recovered.till in

@@ -30,23 +30,23 @@ pub record Line : Type 0 where
   pub terminal_end : EndState
   pub served : Served
 
--- a line whose ends are seen so
+-- a line as contracts see it, given how they see its ends
 abbrev pub line_of : {A B : Type 0} → (A → EndState) → (B → EndState) → BothEnds A B → Line
 line_of till_end terminal_end line = record { till_end = till_end line.till; terminal_end = terminal_end line.terminal; served = line.served }
 
--- and its till
+-- a line and its till
 abbrev pub here : {A B K : Type 0} → (A → EndState) → (B → EndState) → BothEnds A B → K → Standing Line K
 here till_end terminal_end line till = standing (line_of till_end terminal_end line) till
 
--- a terminal that serves its line
+-- a terminal never rests while it serves a line
 abbrev pub never : Served → Bool
 never served = false
 
--- how the last order ended, where none runs
+-- the outcome of the last order, unless an order is running
 abbrev pub ended_of : TillValue → Option Outcome
 ended_of till = cond (till_rests till) till.state.last_outcome None
 
--- the terminal has its verdict, and does nothing
+-- the terminal is told its decision, and nothing else happens
 pub record Decided (step : Step) (old new : Line) : Type 0 where
   pub terminal_end : new.terminal_end ≡ old.terminal_end
   pub served : new.served ≡ record { terminal = old.served.terminal; verdict = verdict_of step }
@@ -60,7 +60,7 @@ module _ {K : Type 0} (orders : K → Order → Result Outgoing Untaken → K �
   abbrev pub TillTurn : (old new : Standing Line K) → Type 0
   TillTurn old new = Turn hears is_resting old.line.till_end old.till new.line.till_end new.till
 
-  -- the terminal's turn, then the till's
+  -- a turn of the terminal, then a turn of the till
   pub record Alternates (old new : Standing Line K) : Type 0 where
     pub terminal : TerminalTurn old.line new.line
     pub till_turn : TillTurn old new
@@ -72,30 +72,30 @@ module _ {K : Type 0} (orders : K → Order → Result Outgoing Untaken → K �
       × (new.line.till_end ≡ old.line.till_end) × loses old.till new.till)
       ⊎ (TerminalTurn old.line new.line × TurnBreaks hears is_resting loses malforms fault old.line.till_end old.till new.line.till_end new.till)
 
-  -- that many alternations, after none of which the book had failed or the till rested
+  -- this many alternations, and after none of them had the book failed or was the till at rest
   abbrev pub Alternations : ℕ → (old new : Standing Line K) → Type 0
   Alternations zero old new = old ≡ new
   Alternations (suc n) old new = (middle : Standing Line K) × Alternations n old middle × Alternates middle new × (failed new.till ≡ false) × (till_rests (till new.till) ≡ false)
 
   -- ---- a step
 
-  -- the order was taken and written
+  -- the order was accepted and written
   pub record Begins (step : Step) (old new : Standing Line K) : Type 0 where
     pub decided : Decided step old.line new.line
     pub ordered : Ordered orders (order_of step) old.line.till_end old.till new.line.till_end new.till
 
-  -- it was not taken, or could not be written
+  -- the order was not accepted, or could not be written
   pub record BeginsNot (step : Step) (fault : RunFault) (old new : Standing Line K) : Type 0 where
     pub decided : Decided step old.line new.line
     pub not_ordered : NotOrdered orders loses fault (order_of step) old.line.till_end old.till new.line.till_end new.till
 
-  -- the order was sent, and that many alternations followed
+  -- the order was sent, and this many alternations followed
   pub record Underway (step : Step) (count : ℕ) (old now : Standing Line K) : Type 0 where
     pub sent : Standing Line K
     pub begins : Begins step old sent
     pub alternations : Alternations count sent now
 
-  -- and one more
+  -- the order was sent, and some alternations and a last one followed
   pub record AtLast (step : Step) (old new : Standing Line K) : Type 0 where
     pub count : ℕ
     pub middle : Standing Line K
@@ -103,20 +103,20 @@ module _ {K : Type 0} (orders : K → Order → Result Outgoing Untaken → K �
     pub underway : Underway step count old middle
     pub last : Alternates middle new
 
-  -- The till rests after an alternation, the first after which it does, and this became of the order.
+  -- After an alternation the till is at rest for the first time, and this is the outcome of the order.
   pub record Comes (step : Step) (outcome : Outcome) (old new : Standing Line K) : Type 0 where
     pub at_last : AtLast step old new
     pub whole : failed new.till ≡ false
     pub rests : till_rests (till new.till) ≡ true
     pub came : (till new.till).state.last_outcome ≡ Some outcome
 
-  -- the book failed in an alternation
+  -- the book failed during an alternation
   pub record BookFails (step : Step) (fault : RunFault) (old new : Standing Line K) : Type 0 where
     pub at_last : AtLast step old new
     pub has_failed : failed new.till ≡ true
     pub is : fault ≡ BookBroke Failed
 
-  -- the line broke in an alternation
+  -- the line broke during an alternation
   pub record Breaks (step : Step) (fault : RunFault) (old new : Standing Line K) : Type 0 where
     pub count : ℕ
     pub middle : Standing Line K
@@ -126,7 +126,7 @@ module _ {K : Type 0} (orders : K → Order → Result Outgoing Untaken → K �
     pub last : BreaksOff broken middle new
     pub is : fault ≡ LineBroke broken
 
-  -- all alternations were made, and the till lost its line
+  -- all alternations were made, and then the till lost its line
   pub record GivenUp (step : Step) (fault : RunFault) (old new : Standing Line K) : Type 0 where
     pub middle : Standing Line K
     pub underway : Underway step 1000 old middle
@@ -134,17 +134,17 @@ module _ {K : Type 0} (orders : K → Order → Result Outgoing Untaken → K �
     pub loses_line : loses middle.till new.till
     pub is : fault ≡ LineBroke Turns
 
-  -- Once the line broke or the book failed it is known what became of the order.
+  -- Once the line broke or the book failed, the outcome of the order is known.
   pub record Fails (step : Step) (fault : RunFault) (old new : Standing Line K) : Type 0 where
     pub fails : BeginsNot step fault old new ⊎ Breaks step fault old new ⊎ BookFails step fault old new ⊎ GivenUp step fault old new
     pub over : IsOver fault (till new.till).state
 
-  -- What becomes of a step on a line both ends of which are here.
+  -- The result of a step on a line with both ends in this process.
   abbrev pub MakesHere : Line → K → Step → Result Outcome RunFault → Line → K → Type 0
   MakesHere before old step (Ok outcome) after new = Comes step outcome (standing before old) (standing after new)
   MakesHere before old step (Err fault) after new = Fails step fault (standing before old) (standing after new)
 
--- of a till alone
+-- the same for a till without a book
 abbrev pub MakesHereAlone : Line → TillValue → Step → Result Outcome RunFault → Line → TillValue → Type 0
 MakesHereAlone before old step result after new = MakesHere till_orders till_hears till_rests never_failed itself till_loses till_malforms before old step result after new
 

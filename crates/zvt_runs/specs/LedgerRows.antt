@@ -1,4 +1,4 @@
--- What is reported of the rows that a ledger got from a till.
+-- Reports of the rows that a ledger got from a till.
 use Rattle.std.specs.Prelude.{◌≡◌, ℕ, List, [], ◌∷◌, ◌++◌, codes, refl, Option, Some, None}
 use Rattle.std.specs.Fmt.{decimal, digits}
 use Rattle.std.specs.List.{flat_map}
@@ -9,11 +9,11 @@ use Rattle.zvt_text.specs.declared.form.Form.{Form}
 use Rattle.zvt_text.specs.declared.form.Form.TheVariants.{Text, Json}
 use Rattle.zvt_term.specs.declared.ledger.Row.{Row}
 
--- an approval of an amount, whose trace and receipt number are both this number
+-- an approval of an amount, with this number as trace and receipt number
 abbrev pub approved_text : (number amount : ℕ) → List ℕ
 approved_text number amount = codes "zvt: approved " ++ decimal amount ++ codes " as number " ++ decimal number ++ 10 ∷ []
 
--- the approval of the original number was taken back
+-- the approval with the original number was reversed
 abbrev pub reversed_text : (number original amount : ℕ) → List ℕ
 reversed_text number original amount = codes "zvt: took back " ++ decimal amount ++ codes " of number " ++ decimal original ++ codes " as number " ++ decimal number ++ 10 ∷ []
 
@@ -26,7 +26,7 @@ reversed_value till number original amount =
     object (member (codes "number") (count_value number) (member (codes "original") (count_value original)
     (member (codes "reversed") (count_value amount) (member (codes "till") (count_value till) no_members))))
 
--- the line of a row with this number and amount, in that form
+-- the line of a row with this number and amount, in this form
 abbrev pub row_line : Form → (till number amount : ℕ) → (reverses : Option ℕ) → List ℕ
 row_line Text till number amount None = approved_text number amount
 row_line Text till number amount (Some original) = reversed_text number original amount

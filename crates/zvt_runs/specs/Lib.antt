@@ -25,3 +25,5 @@ pub mod OverTcp
 pub mod TcpReporting
 pub mod Showing
 pub mod Connecting
+pub mod Crashes
+pub mod Worlds

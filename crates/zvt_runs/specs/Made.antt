@@ -1,4 +1,4 @@
--- Steps that were made, what their lines say, and whether one fell short.
+-- The steps that were made, their lines, and whether one of them did not succeed.
 use Rattle.std.specs.Prelude.{◌==◌, not, ℕ, Bool, true, false, List, Option, Some, None, Result, Ok, Err}
 use Rattle.std.specs.List.{flat_map, list_any}
 use Rattle.std.specs.String.{string_bytes}
@@ -17,7 +17,7 @@ use Rattle.zvt_runs.specs.declared.arguments.Step.{Step}
 use Rattle.zvt_runs.specs.declared.arguments.Step.TheVariants.{Register, Pay, Reverse, CloseDay, Decline}
 use Rattle.zvt_runs.specs.Objects.{step_line}
 
--- a step, what it came to, and the till after it
+-- a step, its result, and the till after it
 pub record Made : Type 0 where
   pub planned : Planned
   pub result : Result Outcome RunFault
@@ -30,7 +30,7 @@ stop_of (Err (Order why)) = None
 stop_of (Err (Line fault)) = Some (LineBroke fault)
 stop_of (Err (BookBroke why)) = Some Book
 
--- the order was not sent where memory runs out
+-- the order was not sent because memory ran out
 abbrev pub is_memory : OrderRefusal → Bool
 is_memory NoMemory = true
 is_memory _ = false
@@ -41,7 +41,7 @@ wants_memory (Err (Order why)) = is_memory why
 wants_memory (Err (Line fault)) = false
 wants_memory (Err (BookBroke why)) = false
 
--- a step succeeded: its order ended as it was meant to; a payment that the terminal was to decline ended with that code
+-- a step succeeded: its order had the intended outcome; a payment to be declined ended with the intended code
 abbrev pub succeeded : Step → Outcome → Bool
 succeeded Register Registered = true
 succeeded Register _ = false
@@ -55,12 +55,12 @@ succeeded (Decline amount code) (Declined told) = told == code
 succeeded (Decline amount code) (Aborted told) = told == code
 succeeded (Decline amount code) _ = false
 
--- a step did not succeed: its order was not sent, ended otherwise, or was cut off by its line
+-- a step did not succeed: its order was not sent, had another outcome, or was cut off
 abbrev pub fell_short : Step → Result Outcome RunFault → Bool
 fell_short step (Ok outcome) = not (succeeded step outcome)
 fell_short step (Err fault) = true
 
--- one of them did not
+-- one of the steps did not succeed
 abbrev pub some_short : List Made → Bool
 some_short all = list_any (λ made. fell_short made.planned.step made.result) all
 

@@ -1,4 +1,4 @@
--- What is reported of a step as soon as it was made: of an order that is unclear or was not sent, in words.
+-- The notes on steps: a text for each order that is unclear or was not sent.
 use Rattle.std.specs.Prelude.{ℕ, ◌+◌, List, [], ◌∷◌, ◌++◌, codes, Option, Some, None, Result, Ok, Err, slice_get}
 use Rattle.std.specs.Fmt.{decimal}
 use Rattle.std.specs.List.{flat_map}
@@ -20,11 +20,11 @@ use Rattle.zvt_runs.specs.declared.arguments.Step.{Step}
 use Rattle.zvt_runs.specs.declared.arguments.Step.TheVariants.{Register, Pay, Reverse, CloseDay, Decline}
 use Rattle.zvt_runs.specs.Made.{Made}
 
--- the name of the cause, and what it means
+-- the name of the cause, and its meaning
 abbrev pub why_unclear : Cause → List ℕ
 why_unclear cause = codes " is unclear (" ++ cause_name cause ++ codes ": " ++ cause_words cause ++ codes ")"
 
--- the numbers that the terminal named of a payment, each after a space
+-- the numbers that the terminal named for a payment, each after a space
 abbrev pub named_text : (trace : Option ℕ) → (receipt : Option (List ℕ)) → List ℕ
 named_text None None = []
 named_text None (Some receipt) = codes " receipt " ++ encode_upper receipt
@@ -41,18 +41,18 @@ payment_note amount cause numbers =
     codes "zvt: the payment of " ++ decimal amount ++ why_unclear cause ++ heard_text numbers.trace numbers.receipt
     ++ codes ". It may have been charged or not: look at the terminal's journal or its last receipt before you order it again\n"
 
--- the step that takes back the entry at this place, whose number is counted from 1
+-- the step that reverses the entry at this index; its number is counted from 1
 abbrev pub reversing : ℕ → List ℕ
 reversing place = codes "zvt: reverse:" ++ decimal (place + 1)
 
--- the payment that an entry is
+-- the payment of an entry
 abbrev pub entry_numbers : Entry → List ℕ
 entry_numbers entry = codes " (" ++ numbers_text entry.trace entry.receipt ++ codes ")"
 
 abbrev pub of_payment : Entry → List ℕ
 of_payment entry = codes " of the payment of " ++ decimal entry.amount ++ entry_numbers entry
 
--- of the entry at this place of the book
+-- the note on the unclear reversal of the entry at this index
 abbrev pub reversal_note : ℕ → Entry → Cause → Numbers → List ℕ
 reversal_note place entry cause numbers =
     reversing place ++ of_payment entry ++ why_unclear cause ++ heard_text numbers.trace numbers.receipt
@@ -68,7 +68,7 @@ registration_note cause = codes "zvt: the registration" ++ why_unclear cause ++ 
 abbrev pub closing_note : Cause → List ℕ
 closing_note cause = codes "zvt: the end of day" ++ why_unclear cause ++ codes ". The terminal may have closed the day or not: look at its journal\n"
 
--- of the order of a step that is unclear
+-- the note on a step whose order is unclear
 abbrev pub unclear_note : Step → Cause → TillValue → List ℕ
 unclear_note Register cause till = registration_note cause
 unclear_note (Pay amount) cause till = payment_note amount cause till.numbers
@@ -76,7 +76,7 @@ unclear_note (Decline amount code) cause till = payment_note amount cause till.n
 unclear_note (Reverse place) cause till = row_note place (slice_get till.state.book place) cause till.numbers
 unclear_note CloseDay cause till = closing_note cause
 
--- of an order that ended so
+-- the note on an order with this outcome
 abbrev pub outcome_note : Step → Outcome → TillValue → List ℕ
 outcome_note step Registered till = []
 outcome_note step (Paid trace receipt) till = []
@@ -87,25 +87,25 @@ outcome_note step (Unclear cause) till = unclear_note step cause till
 outcome_note step Reversed till = []
 outcome_note step DayClosed till = []
 
--- the name of a refusal, and what it means
+-- the name of a refusal, and its meaning
 abbrev pub why_unsent : OrderRefusal → List ℕ
 why_unsent why = codes " (" ++ refusal_name why ++ codes "): " ++ refusal_words why ++ codes "\n"
 
--- of an order that was not sent, after the word of its step
+-- the note on an order that was not sent, after the word of its step
 abbrev pub unsent_note : List ℕ → OrderRefusal → List ℕ
 unsent_note word why = codes "zvt: " ++ word ++ codes " was not sent" ++ why_unsent why
 
--- of an order for whose records the book had no room, after the word of its step
+-- the note on an order whose records have no room in the book, after the word of its step
 abbrev pub no_space_note : List ℕ → List ℕ
 no_space_note word =
     codes "zvt: " ++ word ++ codes " was not sent (NoSpace): the disk of the book has no room for the records of a payment: free some space, then run the step again\n"
 
--- of an order that the till says ended so, if it does
+-- the note on an order with the outcome that the till reports, if any
 abbrev pub last_note : Step → Option Outcome → TillValue → List ℕ
 last_note step None till = []
 last_note step (Some outcome) till = outcome_note step outcome till
 
--- of a step that came to this, where the till is so after it
+-- the note on a step with this result, given the till after it
 abbrev pub step_note : (word : List ℕ) → Step → Result Outcome RunFault → TillValue → List ℕ
 step_note word step (Ok outcome) till = outcome_note step outcome till
 step_note word step (Err (Order why)) till = unsent_note word why
@@ -116,6 +116,6 @@ step_note word step (Err (BookBroke Failed)) till = last_note step till.state.la
 abbrev pub made_note : Made → List ℕ
 made_note made = step_note (string_bytes made.planned.word) made.planned.step made.result made.till
 
--- of steps that were made one after another
+-- the notes on steps, one after another
 abbrev pub notes_text : List Made → List ℕ
 notes_text all = flat_map made_note all

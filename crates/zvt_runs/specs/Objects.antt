@@ -1,4 +1,4 @@
--- The lines of a run in either form. The members of an object come in the order of their names.
+-- The lines of a run in either form. The members of an object are in the alphabetical order of their names.
 use Rattle.std.specs.Prelude.{◌≡◌, ℕ, List, [], ◌∷◌, codes, Option, Some, None, Result, Ok, Err, refl}
 use Rattle.std.specs.Fmt.{digits}
 use Rattle.hex.specs.Hex.{encode_with}
@@ -21,35 +21,35 @@ use Rattle.zvt_till.specs.declared.outcomes.Outcome.{Outcome}
 use Rattle.zvt_till.specs.declared.outcomes.Outcome.TheVariants.{Registered, Paid, Declined, Refused, Aborted, Unclear, Reversed, DayClosed}
 use Rattle.zvt_runs.specs.Outcomes.{ending_text, no_space, step_text, total_text}
 
--- the word of a step, and what comes after it
+-- the word of a step, and the text after it
 abbrev pub of_step : List ℕ → Members → Members
 of_step word later = member (codes "step") (string word) later
 
--- how a step ended, its word, and what comes after both
+-- how a step ended, its word, and the text after both
 abbrev pub ended_so : (name word : List ℕ) → Members → Members
 ended_so name word later = member (codes "outcome") (string name) (of_step word later)
 
--- a step of whose outcome there is nothing more to say
+-- a step whose outcome has no details
 abbrev pub ended_value : (name word : List ℕ) → Data
 ended_value name word = object (ended_so name word no_members)
 
 abbrev pub trace_member : ℕ → Members
 trace_member trace = member (codes "trace") (count_value trace) no_members
 
--- a payment that was booked, by its numbers
+-- a booked payment, by its numbers
 abbrev pub paid_value : List ℕ → ℕ → Option (List ℕ) → Data
 paid_value word trace None = object (ended_so (codes "paid") word (trace_member trace))
 paid_value word trace (Some receipt) = object (member (codes "outcome") (string (codes "paid")) (member (codes "receipt") (hex_value receipt) (of_step word (trace_member trace))))
 
--- what the terminal said, and its code, with what the code means where it has a meaning of its own
+-- a result of the terminal and its code, with the code's meaning if it has one
 abbrev pub coded_value : (name word : List ℕ) → ℕ → Data
 coded_value name word code = object (member (codes "code") (byte_value code) (ended_so name word (words_of (meaning_of code))))
 
--- a step of which it is not known whether it happened
+-- a step whose outcome is unclear
 abbrev pub unclear_value : List ℕ → Cause → Data
 unclear_value word cause = object (member (codes "cause") (string (cause_name cause)) (ended_so (codes "unclear") word no_members))
 
--- a step whose order ended so
+-- a step whose order had this outcome
 abbrev pub outcome_value : List ℕ → Outcome → Data
 outcome_value word Registered = ended_value (codes "registered") word
 outcome_value word (Paid trace receipt) = paid_value word trace receipt
@@ -60,16 +60,16 @@ outcome_value word (Unclear cause) = unclear_value word cause
 outcome_value word Reversed = ended_value (codes "reversed") word
 outcome_value word DayClosed = ended_value (codes "day closed") word
 
--- a step whose order was not sent for this reason
+-- a step whose order was not sent, for this reason
 abbrev pub unsent_value : (word reason : List ℕ) → Data
 unsent_value word reason = object (member (codes "outcome") (string (codes "not sent")) (member (codes "reason") (string reason) (of_step word no_members)))
 
--- a step in which the line broke or the book failed, where the till says how its order ended
+-- a step during which the line broke or the book failed, with the outcome that the till reports
 abbrev pub broken_value : List ℕ → Option Outcome → Data
 broken_value word None = object (of_step word no_members)
 broken_value word (Some outcome) = outcome_value word outcome
 
--- what became of a step, where the till says so of the order that ended last
+-- the outcome of a step; `last` is the outcome of the till's last order
 abbrev pub step_value : List ℕ → Result Outcome RunFault → Option Outcome → Data
 step_value word (Ok outcome) last = outcome_value word outcome
 step_value word (Err (Order why)) last = unsent_value word (refusal_name why)
@@ -82,12 +82,12 @@ total_value total = object (member (codes "total") (count_value total) no_member
 
 -- ---- lines
 
--- the line of a step, in that form
+-- the line of a step, in this form
 abbrev pub step_line : Form → List ℕ → Result Outcome RunFault → Option Outcome → List ℕ
 step_line Text word result last = step_text word (ending_text result last)
 step_line Json word result last = line_text (step_value word result last)
 
--- the last line, in that form
+-- the last line, in this form
 abbrev pub total_line : Form → ℕ → List ℕ
 total_line Text total = total_text total
 total_line Json total = line_text (total_value total)
@@ -123,7 +123,7 @@ without_room : step_line Json (codes "pay:1") (Err (BookBroke NoSpace)) (Some Re
 unfolding escape_byte
 without_room = refl
 
--- a line that broke in an order
+-- a line that broke during an order
 broken_off : step_line Json (codes "close") (Err (Line Turns)) (Some DayClosed) ≡ codes "{\"outcome\":\"day closed\",\"step\":\"close\"}\n"
 unfolding escape_byte
 broken_off = refl

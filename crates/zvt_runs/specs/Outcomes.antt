@@ -1,4 +1,4 @@
--- How outcomes are said.
+-- The texts of outcomes.
 use Rattle.std.specs.Prelude.{ℕ, List, [], ◌∷◌, ◌++◌, codes, Option, Some, None, Result, Ok, Err}
 use Rattle.std.specs.Fmt.{decimal}
 use Rattle.zvt_text.specs.Numbers.{numbers_text}
@@ -10,11 +10,11 @@ use Rattle.zvt_till.specs.declared.line.RunFault.TheVariants.{Order, Line, Book 
 use Rattle.zvt_till.specs.declared.outcomes.Outcome.{Outcome}
 use Rattle.zvt_till.specs.declared.outcomes.Outcome.TheVariants.{Registered, Paid, Declined, Refused, Aborted, Unclear, Reversed, DayClosed}
 
--- a payment that was booked, by its numbers
+-- a booked payment, by its numbers
 abbrev pub paid_text : ℕ → Option (List ℕ) → List ℕ
 paid_text trace receipt = codes "paid " ++ numbers_text trace receipt
 
--- what the terminal said, with its code in words
+-- a result of the terminal, with its code in words
 abbrev pub coded_text : List ℕ → ℕ → List ℕ
 coded_text said code = said ++ result_words code
 
@@ -32,12 +32,12 @@ outcome_text DayClosed = codes "day closed"
 abbrev pub no_space : List ℕ
 no_space = codes "NoSpace"
 
--- what became of the order of a line that broke, or of a book that failed
+-- the outcome of an order whose line broke or whose book failed
 abbrev pub broken_text : Option Outcome → List ℕ
 broken_text None = []
 broken_text (Some outcome) = outcome_text outcome
 
--- what became of a step, where the till says so of the order that ended last
+-- the outcome of a step; `last` is the outcome of the till's last order
 abbrev pub ending_text : Result Outcome RunFault → Option Outcome → List ℕ
 ending_text (Ok outcome) last = outcome_text outcome
 ending_text (Err (Order why)) last = codes "not sent: " ++ refusal_name why

@@ -1,4 +1,4 @@
--- What a crash at any moment of a run over TCP leaves of a till's book.
+-- The book that a crash at any moment of a run over TCP leaves.
 use Rattle.std.specs.Prelude.{◌≡◌, ℕ, false, List, ◌∷◌, ◌++◌, map, Option, Result}
 use Rattle.zvt_grammar.specs.Reading.{Reading}
 use Rattle.zvt_till.specs.declared.happenings.Happening.{Happening}
@@ -17,21 +17,21 @@ use Rattle.zvt_runs.specs.Steps.{order_of}
 use Rattle.zvt_runs.specs.TillEnd.{BeginsThere, MakesThere}
 use Rattle.zvt_runs.specs.OverTcp.{AnswersOverTcp}
 
--- the call of a till with its journal that makes a step
+-- the call of a till with a journal that makes a step
 abbrev pub call_of : Planned → KeptStep
 call_of planned = runs (order_of planned.step)
 
--- the calls of a run that makes these steps: its line is up, and then they are made
+-- the calls of a run that makes these steps: it gets a line, and then makes them
 abbrev pub calls_of : List Planned → List KeptStep
 calls_of plan = connects ∷ map call_of plan
 
 module _ {D : Type 0} (seen : D → List ℕ) (may_leave : D → List ℕ → Type 0) (moment : D → ℕ) (left_since : D → ℕ → List ℕ → Type 0) (faults : D → ℕ) where
-  -- what becomes of a step of a till with its journal, whose order has the note of the step's word
+  -- the result of a step of a till with a journal, whose order has the note of the step's word
   abbrev pub MakesKept : Law EndState (KeptValue D)
   MakesKept = noting with_note (MakesThere (kept_orders seen may_leave moment left_since faults) (Hears seen may_leave moment left_since faults) kept_rests has_failed till_of (LosesLine seen may_leave moment left_since faults) (LosesLine seen may_leave moment left_since faults))
 
-  -- Some first steps of the plan were made. A crash at any moment leaves a journal of the till's log and a prefix of what happened
-  -- by these steps; and of all of it at the end, where the journal did not fail.
+  -- The first steps of the plan were made. A crash at any moment leaves a journal of the till's log and a prefix of the
+  -- events of these steps. At the end the journal contains all of them, unless it failed.
   pub record OutlivesRun (settings : Settings) (log : List Happening) (plan : List Planned) (old new : KeptValue D) : Type 0 where
     pub done : List Planned
     pub later : List Planned
@@ -41,8 +41,8 @@ module _ {D : Type 0} (seen : D → List ℕ) (may_leave : D → List ℕ → Ty
     pub leaves : LeavesOnly moment left_since old.standing.device new.standing.device (IsBetween settings.currency log happened)
     pub then : has_failed new ≡ false → HasLog seen may_leave moment left_since faults settings (log ++ happened) new.standing
 
-  -- The book outlives the process: whatever a run of a till over TCP answers, a crash at any moment of it leaves the book of what
-  -- happened up to then.
+  -- The book outlives the process: whatever a run of a till over TCP returns, a crash at any moment of it leaves the
+  -- book of the events up to then.
   abbrev pub BookRunsOutlive : Type 0
   BookRunsOutlive =
       (settings : Settings) (log : List Happening) (reading : Reading) (options : StepOptions) (plan : List Planned) (old new : KeptValue D) (first last : Option (List ℕ))

@@ -1,16 +1,16 @@
--- What the words of a run name.
+-- The steps that the words of a run name.
 use Rattle.std.specs.Prelude.{◌≡◌, ℕ, List, [], ◌∷◌, ◌++◌, codes, map, take, Some, None, Result, Ok, Err, slice_get, Vec}
 use Rattle.std.specs.String.{string_bytes}
 use Rattle.std.specs.Global.{Global}
 use Rattle.zvt_runs.specs.declared.fault.EndFault.{EndFault}
-use Rattle.zvt_runs.specs.declared.fault.EndFault.TheVariants.{BadStep, Book, Line, Memory, Net, Silent, Trace, Unsuccessful, Write}
+use Rattle.zvt_runs.specs.declared.fault.EndFault.TheVariants.{BadStep, Memory}
 use Rattle.zvt_runs.specs.declared.plans.Planned.{Planned}
 use Rattle.zvt_runs.specs.declared.arguments.Ends.{Ends}
 use Rattle.zvt_runs.specs.declared.arguments.Ends.TheVariants.{Both, Till}
 use Rattle.zvt_runs.specs.declared.arguments.Step.{Step}
 use Rattle.zvt_runs.specs.Words.{step_of}
 
--- the words of a run for which none were given
+-- the default words of a run
 abbrev pub default_words : Ends → List (List ℕ)
 default_words Both = codes "register" ∷ codes "pay:1000" ∷ codes "decline:500:6C" ∷ codes "reverse:1" ∷ codes "close" ∷ []
 default_words Till = codes "register" ∷ codes "close" ∷ []
@@ -19,19 +19,19 @@ abbrev pub words_of : Ends → List (List ℕ) → List (List ℕ)
 words_of ends [] = default_words ends
 words_of ends (word ∷ words) = word ∷ words
 
--- each word has its place, with the step that it names
+-- each word is at its index, with the step that it names
 pub record Plans (ends : Ends) (words : List (List ℕ)) (plan : List Planned) : Type 0 where
   pub same_words : map (λ planned. string_bytes planned.word) plan ≡ words
   pub named : map (λ planned. Some planned.step) plan ≡ map (λ word. step_of ends word) words
 
--- one step more, and its word
+-- one more step and its word
 pub record AddsStep (word : List ℕ) (step : Step) (old new : List Planned) : Type 0 where
   pub planned : Planned
   pub added : new ≡ old ++ planned ∷ []
   pub its_word : string_bytes planned.word ≡ word
   pub its_step : planned.step ≡ step
 
--- the words before this one name steps, and it names none
+-- the words before this one name steps, and this one names none
 pub record StopsAt (ends : Ends) (words : List (List ℕ)) (at : ℕ) : Type 0 where
   pub before : List Step
   pub word : List ℕ
@@ -43,10 +43,4 @@ abbrev pub PlansOrStops : Ends → List (List ℕ) → Result (Vec Planned Globa
 PlansOrStops ends words (Ok plan) = Plans ends words plan.items
 PlansOrStops ends words (Err (BadStep at)) = StopsAt ends words at
 PlansOrStops ends words (Err Memory) = Unit {0}
-PlansOrStops ends words (Err Write) = ⊥
-PlansOrStops ends words (Err (Line broken)) = ⊥
-PlansOrStops ends words (Err (Net why)) = ⊥
-PlansOrStops ends words (Err (Silent seconds)) = ⊥
-PlansOrStops ends words (Err Trace) = ⊥
-PlansOrStops ends words (Err Book) = ⊥
-PlansOrStops ends words (Err Unsuccessful) = ⊥
+PlansOrStops ends words result = ⊥

@@ -1,4 +1,4 @@
--- What a new till does on a line.
+-- The run of a new till on a line.
 use Rattle.std.specs.Prelude.{◌≡◌, ℕ, List, Option, Result}
 use Rattle.zvt_runs.specs.declared.plans.StepOptions.{StepOptions}
 use Rattle.zvt_till.specs.declared.entries.Entry.{Entry}
@@ -11,7 +11,8 @@ use Rattle.zvt_runs.specs.Runs.{Answers, Standing, StepLaw, by_step}
 use Rattle.zvt_runs.specs.declared.fault.EndFault.{EndFault}
 use Rattle.zvt_runs.specs.declared.plans.Planned.{Planned}
 
--- A new till of these settings, connected to a line at its start, ran these steps, and this was reported of them and of its book.
+-- A new till with these settings, connected to a fresh line, ran these steps. `Reported` holds for the notes on the
+-- steps and for the till's book.
 pub record RunsPlan {L : Type 0} (makes : StepLaw L TillValue) (begins : L → Type 0) (settings : Settings) (options : StepOptions) (plan : List Planned) (old new : Option (List ℕ)) (Reported : List ℕ → List Entry → Type 0) (result : Result Unit EndFault) : Type 0 where
   pub before : Standing L TillValue
   pub after : Standing L TillValue

@@ -1,4 +1,4 @@
--- What a simulated terminal does on its connection.
+-- The service of a simulated terminal on its connection.
 use Rattle.std.specs.Prelude.{◌≢◌, Result, Ok, Err}
 use Rattle.zvt_stream.specs.declared.line.LineFault.{LineFault}
 use Rattle.zvt_stream.specs.declared.line.LineFault.TheVariants.{Ended}
@@ -8,11 +8,11 @@ use Rattle.zvt_term.specs.declared.served.Served.{Served}
 use Rattle.zvt_runs.specs.BothEnds.{never}
 use Rattle.zvt_runs.specs.LineEnd.{Breaks, EndState}
 
--- the terminal heard and answered what came, until the line broke so, which was reported to it
+-- the terminal received and answered messages until the line broke with this fault, and was notified of it
 abbrev pub ServesUntil : LineFault → EndState → Served → EndState → Served → Type 0
 ServesUntil fault before old after new = Breaks served_hears never served_loses served_loses Rest 1000000 fault before old after new
 
--- What a service answers: an end of the line between two messages is no fault, and each other is.
+-- The result of a service: the end of the line between two messages is not a fault, and any other end is.
 abbrev pub Serves : EndState → Served → EndState → Served → Result Unit LineFault → Type 0
 Serves before old after new (Ok done) = ServesUntil (Ended 0) before old after new
 Serves before old after new (Err fault) = (fault ≢ Ended 0) × ServesUntil fault before old after new

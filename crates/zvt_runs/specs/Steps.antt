@@ -1,4 +1,4 @@
--- What a step asks of the till and of the terminal.
+-- The order of a step, and the terminal's decision on it.
 use Rattle.zvt_till.specs.declared.orders.Order.{Order}
 use Rattle.zvt_till.specs.declared.orders.Order.TheVariants.{Register as RegisterOrder, Pay as PayOrder, Reverse as ReverseOrder, CloseDay as CloseDayOrder}
 use Rattle.zvt_term.specs.declared.turns.Verdict.{Verdict}
@@ -13,7 +13,7 @@ order_of (Reverse entry) = ReverseOrder entry
 order_of CloseDay = CloseDayOrder
 order_of (Decline amount code) = PayOrder amount
 
--- the terminal approves what no step declines
+-- the terminal approves unless the step declines
 abbrev pub verdict_of : Step → Verdict
 verdict_of Register = Approve
 verdict_of (Pay amount) = Approve

@@ -1,4 +1,4 @@
--- What becomes of a step at a till's end of a line to a terminal elsewhere.
+-- The result of a step at a till's end of a line to a terminal elsewhere.
 use Rattle.std.specs.Prelude.{◌≡◌, ◌+◌, ◌≤◌, Bool, Result, Ok, Err}
 use Rattle.zvt_apdu.specs.Message.{Message}
 use Rattle.zvt_grammar.specs.Reading.{Reading}
@@ -23,8 +23,8 @@ module _ {K : Type 0} (orders : K → Order → Result Outgoing Untaken → K �
     pub none_fails : NoneFails before after
     pub reads : after.reads ≤ before.reads + 100000
 
-  -- The order was not sent, or the line broke, or the book failed; and the one read or write failed for which the fault stands,
-  -- and no other. Once the line broke or the book failed it is known what became of the order.
+  -- The order was not sent, or the line broke, or the book failed. The one read or write that the fault represents
+  -- failed, and no other. Once the line broke or the book failed, the outcome of the order is known.
   pub record FailsThere (step : Step) (fault : RunFault) (before : EndState) (old : K) (after : EndState) (new : K) : Type 0 where
     pub fails : Fails orders hears is_resting failed loses malforms fault (order_of step) before.stream after.stream old new before.coming after.coming before.written after.written 100000 before.reads after.reads
     pub failed_reads : after.failed_reads ≡ before.failed_reads + reads_failed fault
@@ -32,15 +32,15 @@ module _ {K : Type 0} (orders : K → Order → Result Outgoing Untaken → K �
     pub reads : after.reads ≤ before.reads + 100000
     pub over : IsOver fault (till new).state
 
-  -- What becomes of a step: what the terminal elsewhere decides of it is its own.
+  -- The result of a step. The terminal elsewhere makes its own decision on it.
   abbrev pub MakesThere : EndState → K → Step → Result Outcome RunFault → EndState → K → Type 0
   MakesThere before old step (Ok outcome) after new = RunsThere step outcome before old after new
   MakesThere before old step (Err fault) after new = FailsThere step fault before old after new
 
--- of a till alone
+-- the same for a till without a book
 abbrev pub MakesThereAlone : EndState → TillValue → Step → Result Outcome RunFault → EndState → TillValue → Type 0
 MakesThereAlone before old step result after new = MakesThere till_orders till_hears till_rests never_failed itself till_loses till_malforms before old step result after new
 
--- a line at its start, whose lengths are read so
+-- a fresh line, whose lengths are read in this way
 abbrev pub BeginsThere : Reading → EndState → Type 0
 BeginsThere r end = end.stream ≡ start_in r

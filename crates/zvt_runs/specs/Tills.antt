@@ -1,4 +1,4 @@
--- What a simulated terminal does on one connection after another.
+-- A simulated terminal's service of one connection after another.
 use Rattle.std.specs.Prelude.{◌≡◌, ◌≤◌, ◌+◌, ℕ, List, [], ◌∷◌, length, Option, Some, None, Result, Ok, Err}
 use Rattle.zvt_grammar.specs.Reading.{Reading}
 use Rattle.zvt_stream.specs.StreamState.{start_in}
@@ -9,20 +9,20 @@ use Rattle.zvt_term.specs.declared.turns.Verdict.{Verdict}
 use Rattle.zvt_runs.specs.LineEnd.{EndState}
 use Rattle.zvt_runs.specs.Service.{Serves}
 use Rattle.zvt_runs.specs.declared.fault.EndFault.{EndFault}
-use Rattle.zvt_runs.specs.declared.fault.EndFault.TheVariants.{BadStep, Book, Line as LineBroke, Memory, Net, Silent, Trace, Unsuccessful, Write}
+use Rattle.zvt_runs.specs.declared.fault.EndFault.TheVariants.{Line as LineBroke, Memory, Net, Trace}
 
 -- ---- one line
 
--- it has no line: no till is registered, and no order is on its way
+-- it has no line: no till is registered, and no order is running
 abbrev pub IsOffline : TerminalState → Type 0
 IsOffline terminal = terminal ≡ lost_terminal terminal
 
--- how a line ended, if it broke
+-- the result of serving a line, given how it broke, if it did
 abbrev pub ended_by : Option LineFault → Result Unit LineFault
 ended_by None = Ok tt
 ended_by (Some fault) = Err fault
 
--- A terminal without a line served one from its start, whose lengths are read so. It broke so, if it broke.
+-- A terminal without a line served a fresh one, whose lengths are read in this way, until it ended or broke.
 pub record ServesLine (r : Reading) (old : Served) (broke : Option LineFault) (new : Served) : Type 0 where
   pub before : EndState
   pub after : EndState
@@ -32,68 +32,54 @@ pub record ServesLine (r : Reading) (old : Served) (broke : Option LineFault) (n
 
 -- ---- one line after another
 
--- The terminal that one line leaves serves the next.
+-- The terminal that one line leaves serves the next one.
 abbrev pub ServesLines : Reading → List (Option LineFault) → Served → Served → Type 0
 ServesLines r [] old new = new ≡ old
 ServesLines r (broke ∷ more) old new = (middle : Served) × ServesLine r old broke middle × ServesLines r more middle new
 
--- the first that broke
+-- the fault of the first line that broke
 abbrev pub first_broken : List (Option LineFault) → Option LineFault
 first_broken [] = None
 first_broken (None ∷ more) = first_broken more
 first_broken (Some fault ∷ more) = Some fault
 
--- that many lines were served, and this is how the first of them broke that did
+-- this many lines were served, and this is the fault of the first one that broke
 pub record ServesMany (r : Reading) (count : ℕ) (first : Option LineFault) (old new : Served) : Type 0 where
   pub lines : List (Option LineFault)
   pub serves : ServesLines r lines old new
   pub counted : length lines ≡ count
   pub is_first : first_broken lines ≡ first
 
--- at most that many were
+-- at most this many lines were served
 abbrev pub ServesSome : Reading → ℕ → Served → Served → Type 0
 ServesSome r most old new = (count : ℕ) × (first : Option LineFault) × (count ≤ most) × ServesMany r count first old new
 
--- What is answered of that many tills: all were served, whatever broke; or the next could not be, or a trace could not be
--- written, or there was too little memory to begin with one or to report it.
+-- The result for this many tills: all were served, whether or not a line broke; or a connection could not be accepted,
+-- a trace could not be written, or memory ran out while a till connected or was reported.
 abbrev pub AnswersTills : Reading → ℕ → Served → Served → Result Unit EndFault → Type 0
 AnswersTills r count old new (Ok done) = ServesMany r count None old new
 AnswersTills r count old new (Err (LineBroke fault)) = ServesMany r count (Some fault) old new
 AnswersTills r count old new (Err (Net why)) = ServesSome r count old new
 AnswersTills r count old new (Err Trace) = ServesSome r count old new
-AnswersTills r count old new (Err Book) = ⊥
-AnswersTills r count old new (Err Unsuccessful) = ⊥
-AnswersTills r count old new (Err (BadStep at)) = ⊥
-AnswersTills r count old new (Err (Silent seconds)) = ⊥
-AnswersTills r count old new (Err Write) = ⊥
 AnswersTills r count old new (Err Memory) = ServesSome r count old new
+AnswersTills r count old new result = ⊥
 
--- The connections that were taken meanwhile: one for each till where all were served, and else no more than that.
+-- The connections that were accepted: one per till if all were served, and otherwise at most that many.
 abbrev pub TakesTills : (count before after : ℕ) → Result Unit EndFault → Type 0
 TakesTills count before after (Ok done) = after ≡ before + count
 TakesTills count before after (Err (LineBroke fault)) = after ≡ before + count
 TakesTills count before after (Err (Net why)) = after ≤ before + count
 TakesTills count before after (Err Trace) = after ≤ before + count
-TakesTills count before after (Err Book) = ⊥
-TakesTills count before after (Err Unsuccessful) = ⊥
-TakesTills count before after (Err (BadStep at)) = ⊥
-TakesTills count before after (Err (Silent seconds)) = ⊥
-TakesTills count before after (Err Write) = ⊥
 TakesTills count before after (Err Memory) = after ≤ before + count
+TakesTills count before after result = ⊥
 
--- by a new terminal of this number and verdict
+-- the same for a new terminal with this number and decision
 abbrev pub AnswersService : Reading → ℕ → ℕ → Verdict → Result Unit EndFault → Type 0
 AnswersService r count tid verdict result = (new : Served) × AnswersTills r count (record { terminal = new_terminal tid; verdict = verdict }) new result
 
--- what is answered of one till
+-- the result for one till
 abbrev pub AnswersTill : Reading → Served → Served → Result (Option LineFault) EndFault → Type 0
 AnswersTill r old new (Ok broke) = ServesLine r old broke new
 AnswersTill r old new (Err Trace) = (broke : Option LineFault) × ServesLine r old broke new
-AnswersTill r old new (Err Book) = ⊥
-AnswersTill r old new (Err Unsuccessful) = ⊥
-AnswersTill r old new (Err (LineBroke fault)) = ⊥
-AnswersTill r old new (Err (Net why)) = ⊥
-AnswersTill r old new (Err (BadStep at)) = ⊥
-AnswersTill r old new (Err (Silent seconds)) = ⊥
-AnswersTill r old new (Err Write) = ⊥
 AnswersTill r old new (Err Memory) = new ≡ old
+AnswersTill r old new result = ⊥

@@ -68,12 +68,12 @@ abbrev pub refers : Option (List ℕ) → Bool
 refers None = false
 refers (Some reference) = is_reference reference
 
--- nothing comes behind a number, or a reference
+-- a number ends here: nothing follows it, or a reference
 abbrev pub ends_number : List ℕ → Bool
 ends_number [] = true
 ends_number (byte ∷ rest) = refers (trailing (codes ":ref=") (byte ∷ rest))
 
--- the digits before nothing, or before a reference
+-- the digits before the end, or before a reference
 abbrev pub digits_of : (tail : List ℕ) → Option (List ℕ)
 digits_of tail = cond (ends_number (drop (number_size tail) tail)) (Some (take (number_size tail) tail)) None
 
@@ -87,7 +87,7 @@ abbrev pub behind_sign : List ℕ → Option (List ℕ)
 behind_sign [] = None
 behind_sign (sign ∷ rest) = Some rest
 
--- what a word has behind its first `=`
+-- the text of a word after its first `=`
 abbrev pub reference_of : List ℕ → Option (List ℕ)
 reference_of word = behind_sign (drop (position_or_len (λ byte. byte == 61) word) word)
 
@@ -97,7 +97,7 @@ step_of ends word =
     cond (bytes_eq word (codes "register")) (Some Register)
     (cond (bytes_eq word (codes "close")) (Some CloseDay) (numbered ends word))
 
--- The note of an order: some time or none, and the reference of the word that names its step. Where these are no note, it says
--- nothing.
+-- The note of an order: a time or none, and the reference in the word that names its step. If these do not form a note,
+-- it is empty.
 abbrev pub IsNoteOf : (word note : List ℕ) → Type 0
 IsNoteOf word note = (at : Option (List ℕ)) × ((note_of at (reference_of word) ≡ Some note) ⊎ (note ≡ []))

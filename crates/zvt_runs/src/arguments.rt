@@ -10,34 +10,34 @@ use zvt_term::Verdict;
 use zvt_text::words::{decimal_number, trailing};
 use zvt_till::Order;
 
-/// Which ends of a line a run works.
+/// The ends of a line that a run operates.
 #[derive(Clone, Copy)]
 pub enum Ends {
-    /// The till's and the terminal's.
+    /// The till and the terminal.
     Both,
-    /// The till's alone.
+    /// The till alone.
     Till,
 }
 
 /// One step of a run.
 #[derive(Clone, Copy)]
 pub enum Step {
-    /// The till registers on its line.
+    /// Registers the till on its line.
     Register,
-    /// A payment.
+    /// Pays this amount.
     Pay(Amount),
-    /// The payment at this place of the till's book, counted from 0, is taken back.
+    /// Reverses the payment at this index of the till's book, counted from 0.
     Reverse(usize),
-    /// The end of the day.
+    /// Closes the day.
     CloseDay,
-    /// A payment that the terminal declines with this code.
+    /// Pays this amount, and the terminal declines it with this result code.
     Decline { amount: Amount, code: u8 },
 }
 
 impl Step {
     ghost use Rattle.zvt_runs.specs.Steps.{order_of, verdict_of};
 
-    /// Returns the order to the till.
+    /// Returns the order that the till is given.
     pub fn order(&self) -> Order
         ensures { result ≡ order_of self.now }
     {
@@ -50,7 +50,7 @@ impl Step {
         }
     }
 
-    /// Returns the terminal's decision.
+    /// Returns the terminal's decision on the order.
     pub fn verdict(&self) -> Verdict
         ensures { result ≡ verdict_of self.now }
     {
@@ -61,10 +61,10 @@ impl Step {
     }
 }
 
-/// The most digits of a number in a word.
+/// The maximum number of digits in a number.
 const MAX_DIGITS: usize = 12;
 
-/// The amount of that many digits.
+/// Parses an amount.
 fn amount(digits: &[u8]) -> Option<Amount>
     ensures { result ≡ amount_of digits.now }
 {
@@ -72,7 +72,7 @@ fn amount(digits: &[u8]) -> Option<Amount>
     Amount::new(units)
 }
 
-/// The place of an entry that is counted from 1.
+/// Parses the number of an entry, which is counted from 1, and returns its index.
 fn entry(digits: &[u8]) -> Option<usize>
     ensures { result ≡ entry_of digits.now }
 {
@@ -84,7 +84,7 @@ fn entry(digits: &[u8]) -> Option<usize>
     }
 }
 
-/// The value of a hexadecimal digit, in capital or in small letters.
+/// Returns the value of a hexadecimal digit in upper or lower case.
 pub(crate) fn digit(byte: u8) -> Option<u8>
     ensures { result ≡ (if is_ascii_hexdigit byte then Some (digit_value byte) else None) }
 {
@@ -96,7 +96,7 @@ pub(crate) fn digit(byte: u8) -> Option<u8>
     }
 }
 
-/// The code of two hexadecimal digits, which is not 00.
+/// Parses a result code of two hexadecimal digits. 00 is not accepted.
 fn code(high: u8, low: u8) -> Option<u8>
     ensures { result ≡ code_of high low }
 {
@@ -104,7 +104,7 @@ fn code(high: u8, low: u8) -> Option<u8>
     if code == 0 { None } else { Some(code) }
 }
 
-/// A payment to be declined, where its amount and its code are right.
+/// Returns a payment to be declined, if both its amount and its code are valid.
 fn declining(amount: Option<Amount>, code: Option<u8>) -> Option<Step>
     ensures { result ≡ declining amount code }
 {
@@ -113,7 +113,7 @@ fn declining(amount: Option<Amount>, code: Option<u8>) -> Option<Step>
     Some(Step::Decline { amount, code })
 }
 
-/// A payment to be declined: its amount, a colon and the code.
+/// Parses a payment to be declined: the amount, a colon and the code.
 fn declined(words: &[u8]) -> Option<Step>
     ensures { result ≡ declined words.now }
 {
@@ -125,7 +125,7 @@ fn declined(words: &[u8]) -> Option<Step>
     }
 }
 
-/// The digits before nothing, or before a reference.
+/// Returns the digits of a number that ends the word or is followed by a reference.
 fn digits_of(tail: &[u8]) -> Option<&[u8]>
     ensures { option_map (λ digits. digits.now) result ≡ digits_of tail.now }
 {
@@ -137,7 +137,7 @@ fn digits_of(tail: &[u8]) -> Option<&[u8]>
     }
 }
 
-/// Whether nothing comes behind a number, or a reference.
+/// Returns whether a number ends here: nothing follows it, or a reference.
 fn ends_number(rest: &[u8]) -> bool
     ensures { result ≡ ends_number rest.now }
 {
@@ -150,7 +150,7 @@ fn ends_number(rest: &[u8]) -> bool
     }
 }
 
-/// A step that has a number.
+/// Parses a step with a number.
 fn numbered(ends: Ends, word: &[u8]) -> Option<Step>
     ensures { result ≡ numbered ends word.now }
 {
@@ -166,10 +166,12 @@ fn numbered(ends: Ends, word: &[u8]) -> Option<Step>
     }
 }
 
-/// Parses a step: `register`, `pay:N`, `reverse:N` (entries of the book are counted from 1), `close` and, if both ends
-/// run, `decline:N:XX`. N is one to twelve decimal digits, not all of them 0. XX is two hexadecimal digits in upper or
-/// lower case, but not 00. A payment and a reversal may have a reference for the till's book, such as
-/// `pay:1234:ref=A-1009`: 1 to 40 printable ASCII characters without a space.
+/// Parses a step: `register`, `pay:N`, `reverse:N`, `close` and, if the run operates both ends, `decline:N:XX`.
+///
+/// N is one to twelve decimal digits, not all of them 0. In `pay` and `decline` it is an amount in the currency's
+/// smallest unit, and in `reverse` an entry of the book, counted from 1. XX is two hexadecimal digits in upper or lower
+/// case, but not 00. A payment and a reversal may have a reference for the till's book, such as `pay:1234:ref=A-1009`:
+/// 1 to 40 printable ASCII characters without a space.
 pub fn step_of(ends: Ends, word: &str) -> Option<Step>
     ensures { result ≡ step_of ends word.now }
 {
@@ -180,8 +182,7 @@ pub fn step_of(ends: Ends, word: &str) -> Option<Step>
     }
 }
 
-/// Parses a result code of two hexadecimal digits in upper or lower case. 00 is not accepted, because it is no reason
-/// to decline.
+/// Parses a result code of two hexadecimal digits in upper or lower case. 00 is not accepted, because it means success.
 pub fn result_code(word: &str) -> Option<u8>
     ensures { result ≡ code_in word.now }
 {

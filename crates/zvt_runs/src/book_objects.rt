@@ -1,4 +1,4 @@
-//! A till's book as JSON objects, one a line.
+//! A till's book as JSON objects, one per line.
 ghost use Rattle.std.specs.Prelude.{◌≡◌, ◌∷◌, ◌++◌, OnOk, option_map};
 ghost use Rattle.hex.specs.Hex.{encode_upper};
 ghost use Rattle.json.specs.Print.{escape};
@@ -18,8 +18,9 @@ use zvt_kept::{Note, Recovered};
 use zvt_text::Text;
 use zvt_till::{Cause, Doubt, Entry, Numbers};
 
-/// An object for each entry with its number and what became of its reversals, then for each unclear payment with what
-/// was heard of it, and at last for the sum of the entries that were not reversed. Those of payments have their notes.
+/// Adds an object for each entry with its number and the state of its reversals, and then one for each unclear payment
+/// with the numbers that the terminal named. The last object is the sum of the entries that were not reversed. The
+/// objects of payments contain their notes.
 pub(crate) fn say_objects(text: &mut Text, recovered: &Recovered) -> Result<(), AllocError>
     ensures { OnOk result (text.new ≡ text.old ++ book_json recovered.now) }
 {
@@ -36,7 +37,7 @@ pub(crate) fn say_objects(text: &mut Text, recovered: &Recovered) -> Result<(), 
     say_sum(text, currency, till.total())
 }
 
-/// The lines of these entries, numbered from 1, each with its note.
+/// Adds the lines of these entries, numbered from 1, each with its note.
 fn say_entries(
     text: &mut Text,
     currency: Currency,
@@ -51,7 +52,7 @@ fn say_entries(
     Ok(())
 }
 
-/// The lines of these unclear payments, each with what was heard of it, and with its note.
+/// Adds the lines of these unclear payments, each with the numbers that the terminal named and with its note.
 fn say_unclear(
     text: &mut Text,
     currency: Currency,
@@ -67,7 +68,7 @@ fn say_unclear(
     Ok(())
 }
 
-/// The line of the entry with this number.
+/// Adds the line of the entry with this number.
 #[tactic(auto, using(crate::proofs::BookObjects::entry_said))]
 fn say_entry(
     text: &mut Text,
@@ -82,7 +83,7 @@ fn say_entry(
     write_entry(text, currency, number, entry, note)
 }
 
-/// The line of an unclear payment.
+/// Adds the line of an unclear payment.
 #[tactic(auto, using(crate::proofs::BookObjects::unclear_said))]
 fn say_unclear_row(
     text: &mut Text,
@@ -97,7 +98,7 @@ fn say_unclear_row(
     write_unclear(text, currency, row, heard, note)
 }
 
-/// The line of the sum.
+/// Adds the line of the sum.
 #[tactic(auto, using(crate::proofs::BookObjects::sum_said))]
 fn say_sum(text: &mut Text, currency: Currency, total: u64) -> Result<(), AllocError>
     ensures { OnOk result (text.new ≡ text.old ++ line_text (sum_value currency total)) }
@@ -127,7 +128,7 @@ fn write_entry(
     text.word(b"}}\n")
 }
 
-/// A line of this kind up to its amount.
+/// Writes the start of a line of this kind, up to its amount.
 fn say_amount(text: &mut Text, kind: &[u8], amount: Amount) -> Result<(), AllocError>
     ensures { OnOk result (text.new ≡ text.old ++ amount_part kind.now amount) }
 {
@@ -135,7 +136,7 @@ fn say_amount(text: &mut Text, kind: &[u8], amount: Amount) -> Result<(), AllocE
     text.number(amount.get())
 }
 
-/// The time of the order, where its record has one.
+/// Writes the time of the order, if its record has one.
 fn say_time(text: &mut Text, note: Option<&Note>) -> Result<(), AllocError>
     ensures { OnOk result (text.new ≡ text.old ++ time_part (option_map (λ words. words.now) note.entry)) }
 {
@@ -145,7 +146,7 @@ fn say_time(text: &mut Text, note: Option<&Note>) -> Result<(), AllocError>
     }
 }
 
-/// A time, if there is one.
+/// Writes a time, if there is one.
 fn say_moment(text: &mut Text, moment: Option<&[u8]>) -> Result<(), AllocError>
     ensures { OnOk result (text.new ≡ text.old ++ moment_part (option_map (λ moment. moment.now) moment.entry)) }
 {
@@ -157,7 +158,7 @@ fn say_moment(text: &mut Text, moment: Option<&[u8]>) -> Result<(), AllocError>
     text.push(b'"')
 }
 
-/// The reference of the order, where its record has one.
+/// Writes the reference of the order, if its record has one.
 fn say_reference(text: &mut Text, note: Option<&Note>) -> Result<(), AllocError>
     ensures { OnOk result (text.new ≡ text.old ++ reference_part (option_map (λ words. words.now) note.entry)) }
 {
@@ -167,7 +168,7 @@ fn say_reference(text: &mut Text, note: Option<&Note>) -> Result<(), AllocError>
     }
 }
 
-/// A reference, if there is one.
+/// Writes a reference, if there is one.
 fn say_word(text: &mut Text, word: Option<&[u8]>) -> Result<(), AllocError>
     ensures { OnOk result (text.new ≡ text.old ++ word_part (option_map (λ word. word.now) word.entry)) }
 {
@@ -179,7 +180,7 @@ fn say_word(text: &mut Text, word: Option<&[u8]>) -> Result<(), AllocError>
     text.push(b'"')
 }
 
-/// The currency and the number of an entry.
+/// Writes the currency and the number of an entry.
 fn say_number(text: &mut Text, currency: Currency, number: usize) -> Result<(), AllocError>
     ensures { OnOk result (text.new ≡ text.old ++ number_part currency number) }
 {
@@ -189,7 +190,7 @@ fn say_number(text: &mut Text, currency: Currency, number: usize) -> Result<(), 
     text.number(number)
 }
 
-/// The currency of a book.
+/// Writes the currency of a book.
 fn say_currency(text: &mut Text, currency: Currency) -> Result<(), AllocError>
     ensures { OnOk result (text.new ≡ text.old ++ currency_part currency) }
 {
@@ -198,7 +199,7 @@ fn say_currency(text: &mut Text, currency: Currency) -> Result<(), AllocError>
     text.push(b'"')
 }
 
-/// The receipt number, where the payment has one.
+/// Writes the receipt number, if the payment has one.
 fn say_receipt(text: &mut Text, receipt: Option<[u8; 2]>) -> Result<(), AllocError>
     ensures { OnOk result (text.new ≡ text.old ++ receipt_part receipt) }
 {
@@ -210,14 +211,14 @@ fn say_receipt(text: &mut Text, receipt: Option<[u8; 2]>) -> Result<(), AllocErr
     text.push(b'"')
 }
 
-/// Bytes in hexadecimal, of which JSON escapes no digit.
+/// Writes bytes in hexadecimal. JSON escapes none of the digits.
 fn say_digits(text: &mut Text, bytes: &[u8]) -> Result<(), AllocError>
     ensures { Adds result text.old text.new (escape (encode_upper bytes.now)) }
 {
     zvt_text::hexadecimal(text, bytes)
 }
 
-/// What the reversals of an entry left.
+/// Writes the state of an entry's reversals.
 fn say_reversals(text: &mut Text, reversed: bool, doubt: Doubt) -> Result<(), AllocError>
     ensures { OnOk result (text.new ≡ text.old ++ reversals_part reversed doubt) }
 {
@@ -226,7 +227,7 @@ fn say_reversals(text: &mut Text, reversed: bool, doubt: Doubt) -> Result<(), Al
     say_taken_back(text, doubt)
 }
 
-/// The cause of the last reversal of an entry, where it is unclear.
+/// Writes the cause of an entry's last reversal, if that is unclear.
 fn say_unclear_reversal(text: &mut Text, doubt: Doubt) -> Result<(), AllocError>
     ensures { OnOk result (text.new ≡ text.old ++ unclear_reversal_part doubt) }
 {
@@ -238,7 +239,7 @@ fn say_unclear_reversal(text: &mut Text, doubt: Doubt) -> Result<(), AllocError>
     text.push(b'"')
 }
 
-/// That a completed reversal took the payment back, if one did.
+/// Writes whether a completed reversal took the payment back.
 fn say_reversed(text: &mut Text, reversed: bool) -> Result<(), AllocError>
     ensures { OnOk result (text.new ≡ text.old ++ reversed_part reversed) }
 {
@@ -248,7 +249,7 @@ fn say_reversed(text: &mut Text, reversed: bool) -> Result<(), AllocError>
     Ok(())
 }
 
-/// That the terminal took the payment back before, if it said so.
+/// Writes that the terminal had taken the payment back before, if it said so.
 fn say_taken_back(text: &mut Text, doubt: Doubt) -> Result<(), AllocError>
     ensures { OnOk result (text.new ≡ text.old ++ taken_back_part doubt) }
 {
@@ -258,7 +259,7 @@ fn say_taken_back(text: &mut Text, doubt: Doubt) -> Result<(), AllocError>
     }
 }
 
-/// The trace number, where the terminal named one.
+/// Writes the trace number, if the terminal named one.
 fn say_trace(text: &mut Text, trace: Option<Trace>) -> Result<(), AllocError>
     ensures { OnOk result (text.new ≡ text.old ++ trace_part trace) }
 {
@@ -289,7 +290,7 @@ fn write_unclear(
     text.word(b"}}\n")
 }
 
-/// Why a payment is unclear, and the currency.
+/// Writes why a payment is unclear, and the currency.
 fn say_cause(text: &mut Text, cause: Cause, currency: Currency) -> Result<(), AllocError>
     ensures { OnOk result (text.new ≡ text.old ++ cause_part cause currency) }
 {
@@ -299,7 +300,7 @@ fn say_cause(text: &mut Text, cause: Cause, currency: Currency) -> Result<(), Al
     say_currency(text, currency)
 }
 
-/// What was heard of an unclear payment, if anything was, and the reference of its order.
+/// Writes the numbers that the terminal named for an unclear payment, if any, and the reference of its order.
 fn say_heard(text: &mut Text, heard: Option<Numbers>, note: Option<&Note>) -> Result<(), AllocError>
     ensures { OnOk result (text.new ≡ text.old ++ heard_part heard (option_map (λ words. words.now) note.entry)) }
 {

@@ -1,4 +1,4 @@
-//! A till's book, and its text.
+//! A till's book as text.
 ghost use Rattle.std.specs.Prelude.{◌≡◌, ◌<◌, ◌++◌, Err, IfErr, OnOk, option_map, slice_get};
 ghost use Rattle.zvt_io.specs.Devices.{Writes};
 ghost use Rattle.zvt_runs.specs.BookObjects.{book_lines};
@@ -19,10 +19,11 @@ use zvt_text::{Form, Text};
 use zvt_till::{Cause, Doubt, Entry, Numbers};
 
 /// Writes a till's book: one line per entry, with the state of its reversals, then one per unclear payment, with the
-/// numbers that the terminal named of it, then the total of the entries that were not reversed. The line of a payment
-/// ends in the time and the reference of its order, if its record has them.
+/// numbers that the terminal named for it, then the total of the entries that were not reversed. The line of a payment
+/// ends with the time and the reference of its order, if its record has them.
 ///
-/// Writes the text once. If an allocation fails, writes nothing.
+/// Fails with `Memory` if an allocation fails, and has then written nothing. Fails with `Write` if the writer fails,
+/// and has then written some prefix of the text.
 pub fn write_book<W: Sink>(
     alloc: Global,
     form: Form,
@@ -38,7 +39,7 @@ pub fn write_book<W: Sink>(
     Ok(())
 }
 
-/// Writes the records of a book as they are. Their text is a trace.
+/// Writes the records of a book unchanged. Their text is a trace. Fails with `Write` if the writer fails.
 pub fn write_records<W: Sink>(records: &[u8], writer: &mut W) -> Result<(), EndFault>
     ensures text { Writes (W.written writer.old) (W.written writer.new) result records.now }
     ensures fault { IfErr result (λ fault. fault ≡ EndFault.Write) }
@@ -50,7 +51,7 @@ pub fn write_records<W: Sink>(records: &[u8], writer: &mut W) -> Result<(), EndF
     }
 }
 
-/// The lines of a book in this form.
+/// Adds the lines of a book in this form.
 fn say_lines(text: &mut Text, form: Form, recovered: &Recovered) -> Result<(), AllocError>
     ensures { OnOk result (text.new ≡ text.old ++ book_lines form recovered.now) }
 {
@@ -60,7 +61,7 @@ fn say_lines(text: &mut Text, form: Form, recovered: &Recovered) -> Result<(), A
     }
 }
 
-/// The lines of text of a book.
+/// Adds the lines of a book as text.
 fn say_book(text: &mut Text, recovered: &Recovered) -> Result<(), AllocError>
     ensures { OnOk result (text.new ≡ text.old ++ book_text recovered.now) }
 {
@@ -75,7 +76,7 @@ fn say_book(text: &mut Text, recovered: &Recovered) -> Result<(), AllocError>
     say_total(text, till.total())
 }
 
-/// The lines of these entries, each with its note.
+/// Adds the lines of these entries, each with its note.
 fn say_entries(text: &mut Text, book: &[Entry], notes: &[Note]) -> Result<(), AllocError>
     ensures { OnOk result (text.new ≡ text.old ++ entries_text book.now notes.now) }
 {
@@ -85,7 +86,7 @@ fn say_entries(text: &mut Text, book: &[Entry], notes: &[Note]) -> Result<(), Al
     Ok(())
 }
 
-/// The lines of these unclear payments, each with what was heard of it, and with its note.
+/// Adds the lines of these unclear payments, each with the numbers that the terminal named and with its note.
 fn say_unclear(
     text: &mut Text,
     unclear: &[(Amount, Cause)],
@@ -100,7 +101,7 @@ fn say_unclear(
     Ok(())
 }
 
-/// The line of an entry.
+/// Adds the line of an entry.
 fn say_entry(text: &mut Text, entry: &Entry, note: Option<&Note>) -> Result<(), AllocError>
     ensures { OnOk result (text.new ≡ text.old ++ entry_text entry.now (option_map (λ words. words.now) note.entry)) }
 {
@@ -111,7 +112,7 @@ fn say_entry(text: &mut Text, entry: &Entry, note: Option<&Note>) -> Result<(), 
     text.push(b'\n')
 }
 
-/// The words of a note, if there is one.
+/// Adds the words of a note, if there is one.
 fn say_note(text: &mut Text, note: Option<&Note>) -> Result<(), AllocError>
     ensures { OnOk result (text.new ≡ text.old ++ noted_text (option_map (λ words. words.now) note.entry)) }
 {
@@ -121,7 +122,7 @@ fn say_note(text: &mut Text, note: Option<&Note>) -> Result<(), AllocError>
     }
 }
 
-/// The amount and the numbers of an entry.
+/// Adds the amount and the numbers of an entry.
 fn say_booked(text: &mut Text, entry: &Entry) -> Result<(), AllocError>
     ensures { OnOk result (text.new ≡ text.old ++ booked_text entry.now) }
 {
@@ -131,7 +132,7 @@ fn say_booked(text: &mut Text, entry: &Entry) -> Result<(), AllocError>
     zvt_text::numbers(text, entry.trace, entry.receipt)
 }
 
-/// That an entry was reversed, if it was.
+/// Adds that an entry was reversed, if it was.
 fn say_reversed(text: &mut Text, reversed: bool) -> Result<(), AllocError>
     ensures { OnOk result (text.new ≡ text.old ++ reversed_text reversed) }
 {
@@ -141,7 +142,7 @@ fn say_reversed(text: &mut Text, reversed: bool) -> Result<(), AllocError>
     Ok(())
 }
 
-/// What the reversals of an entry leave open, if they do.
+/// Adds what the reversals of an entry left open, if anything.
 fn say_doubt(text: &mut Text, doubt: Doubt) -> Result<(), AllocError>
     ensures { OnOk result (text.new ≡ text.old ++ doubt_text doubt) }
 {
@@ -152,7 +153,7 @@ fn say_doubt(text: &mut Text, doubt: Doubt) -> Result<(), AllocError>
     }
 }
 
-/// That the last reversal of an entry took the payment back or not, with the cause.
+/// Adds that the outcome of an entry's last reversal is unknown, with the cause.
 fn say_unclear_reversal(text: &mut Text, cause: Cause) -> Result<(), AllocError>
     ensures { OnOk result (text.new ≡ text.old ++ unclear_reversal_text cause) }
 {
@@ -160,7 +161,7 @@ fn say_unclear_reversal(text: &mut Text, cause: Cause) -> Result<(), AllocError>
     text.word(cause.name().as_bytes())
 }
 
-/// The line of an unclear payment.
+/// Adds the line of an unclear payment.
 fn say_unclear_row(
     text: &mut Text,
     row: &(Amount, Cause),
@@ -180,7 +181,7 @@ fn say_unclear_row(
     text.push(b'\n')
 }
 
-/// What was heard of the unclear payment at this place.
+/// Returns the numbers that the terminal named for the unclear payment at this index.
 pub(crate) fn heard_at(heard: &[Numbers], at: usize) -> Option<Numbers>
     ensures { result ≡ slice_get heard.now at }
 {
@@ -190,14 +191,14 @@ pub(crate) fn heard_at(heard: &[Numbers], at: usize) -> Option<Numbers>
     }
 }
 
-/// The note of the payment at this place.
+/// Returns the note of the payment at this index.
 pub(crate) fn note_at(notes: &[Note], at: usize) -> Option<&Note>
     ensures { option_map (λ words. words.now) result ≡ slice_get notes.now at }
 {
     notes.get(at)
 }
 
-/// The numbers that were heard of an unclear payment, if there are any.
+/// Adds the numbers that the terminal named for an unclear payment, if there are any.
 fn say_heard(text: &mut Text, heard: Option<Numbers>) -> Result<(), AllocError>
     ensures { OnOk result (text.new ≡ text.old ++ heard_words heard) }
 {

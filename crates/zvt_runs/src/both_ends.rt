@@ -18,10 +18,10 @@ use zvt_stream::LineFault;
 use zvt_term::Served;
 use zvt_till::{BookFault, Keeper, Outcome, RunFault, Till};
 
-/// The number of turns of each end after which an order is given up.
+/// The number of turns of each end before an order is given up.
 const ALTERNATIONS: u64 = 1_000;
 
-/// Both ends of a line. They take turns, the terminal first.
+/// Both ends of a line, and the decisions of the terminal. The ends take turns, the terminal first.
 #[derive(Drop)]
 pub struct BothEnds<A, B> {
     pub till: A,
@@ -30,7 +30,7 @@ pub struct BothEnds<A, B> {
 }
 
 impl<A: LineEnd, B: LineEnd> BothEnds<A, B> {
-    /// A turn of the terminal, and one of the till. A fault of either was reported to the till.
+    /// Makes a turn of the terminal, and then one of the till. Reports a fault of either to the till.
     fn alternate<K: Keeper>(&mut self, alloc: Global, till: &mut K) -> Result<(), LineFault>
         ensures { MatchResult result
             (λ _. Alternates K.orders K.hears K.is_resting K.failed K.till K.loses K.malforms
@@ -73,16 +73,17 @@ impl<A: LineEnd, B: LineEnd, K: Keeper> StepLine<K> for BothEnds<A, B> {
     }
 }
 
-/// Makes the steps one after another with a till, alone or with a book, on this line that is at its start.
+/// Runs the steps with a till, alone or with a book, on this fresh line.
 ///
-/// Each step writes a line when it ends: its word and its outcome. The last line is the till's total, including the
-/// entries that it had before. `steps` has the form of these lines. After a line that broke no further step is made,
-/// and the fault is `Line`. An order that is not sent is a fault only where memory runs out. The other faults are
-/// `Write` and `Memory`. After these no step is made again, and no step after the one whose line is missing. However a
-/// run ends that began, `report` gets a line for each of the till's entries whose last reversal is unclear.
+/// Each step writes a line when it ends, with its word and its outcome; the last line is the till's total, including
+/// the entries that it had before. `steps` selects the form of these lines. If the line breaks, the remaining steps are
+/// skipped and the result is `Line`. An order that the till declines to send is reported in its line, and is a fault
+/// only if memory ran out. After `Write` and `Memory` no step is repeated, and no step follows the one whose line is
+/// missing. Unless the book could not be kept before the first step, `report` gets a line for each of the till's
+/// entries whose last reversal is unclear, however the run ends.
 ///
-/// A book has the record of an order, with the note that `notes` gives it, before its first byte is sent. If the book
-/// cannot be kept, no further step is made, and the fault is `Book`.
+/// A book contains the record of an order, with the note that `notes` gives it, before the order's first byte is sent.
+/// If the book cannot be kept, the remaining steps are skipped and the result is `Book`.
 pub fn run_both_ends<A: LineEnd, B: LineEnd, K: Keeper, T: Sink, E: Sink, N: NoteSource<K>>(
     alloc: Global,
     line: &mut BothEnds<A, B>,
@@ -105,7 +106,7 @@ pub fn run_both_ends<A: LineEnd, B: LineEnd, K: Keeper, T: Sink, E: Sink, N: Not
     run_connected(alloc, line, till, notes, steps, writer, report)
 }
 
-/// How the last order of a till ended, where no order runs.
+/// Returns the outcome of the till's last order, unless an order is running.
 fn ended(till: &Till) -> Option<Outcome>
     ensures { result ≡ ended_of till.now }
 {

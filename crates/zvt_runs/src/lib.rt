@@ -1,7 +1,8 @@
 //! Runs of a till, of a simulated terminal, and of both ends of a line, over any devices and, in [`tcp`], over sockets.
 //!
-//! A run makes steps one after another, each named by a word ([`step_of`]), and writes what becomes of each:
-//! [`run_till_end`] at a till's end of a line, [`run_both_ends`] at both. [`serve`] is a terminal's end.
+//! A run makes steps one after another, each named by a word ([`step_of`]), and writes the outcome of each. Use
+//! [`run_till_end`] for a till whose terminal is elsewhere, [`run_both_ends`] for a till and a terminal in one process,
+//! and [`serve`] for a terminal.
 #![tactic(auto)]
 
 mod arguments;
@@ -9,6 +10,7 @@ mod book_objects;
 mod books;
 mod both_ends;
 mod fault;
+mod laws;
 mod line_end;
 mod notes;
 mod objects;
@@ -28,6 +30,7 @@ pub use arguments::{Ends, Step, result_code, step_of};
 pub use books::{write_book, write_records};
 pub use both_ends::{BothEnds, run_both_ends};
 pub use fault::{EndFault, NetFault};
+pub use laws::{calls_are_moves, crashes_are_losses};
 pub use line_end::LineEnd;
 pub use order_notes::{Clocked, NoNotes, NoteSource};
 pub use plans::{Planned, StepOptions, StepRun, plan};

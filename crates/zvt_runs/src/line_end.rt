@@ -7,15 +7,16 @@ use zvt_io::{Sink, Source};
 use zvt_stream::{Endpoint, LineFault, Machine, Until, pump};
 use zvt_till::{Keeper, Order, RunFault, send_order};
 
-/// The reads of one turn.
+/// The number of reads in one turn.
 const READS_OF_A_TURN: u64 = 1_000;
 
 /// One end of a line.
 pub trait LineEnd {
-    /// Its stream, what is to come, what was written, the reads made, and how many reads and writes failed.
+    /// The state of the end: its stream, the bytes still to come, the bytes written, the number of reads, and the
+    /// numbers of failed reads and writes.
     ghost state: { Self → EndState };
 
-    /// Gives the till an order, and writes its message. If the write fails, the till has lost its line and the fault is
+    /// Gives the till an order and writes its message. If the write fails, the till loses its line and the result is
     /// `Write`.
     fn order<K: Keeper>(
         &mut self,
@@ -27,7 +28,7 @@ pub trait LineEnd {
             (λ _. Ordered K.orders order (state self.old) till.old (state self.new) till.new)
             (λ fault. NotOrdered K.orders K.loses fault order (state self.old) till.old (state self.new) till.new) };
 
-    /// The machine reads until it has written a message or rests. It hears of a fault.
+    /// Lets the machine read until it has written a message or is at rest. Notifies it of a fault.
     fn turn<M: Machine>(&mut self, alloc: Global, machine: &mut M) -> Result<(), LineFault>
         ensures { MatchResult result
             (λ _. Turn M.hears M.is_resting (state self.old) machine.old (state self.new) machine.new)

@@ -17,9 +17,9 @@ use zvt_io::Sink;
 use zvt_text::Text;
 use zvt_till::{BookFault, Cause, Entry, Numbers, OrderRefusal, Outcome, RunFault, Till};
 
-/// Returns what a person has to know of a step that came to this, and what to do: of an order that is unclear, which
-/// numbers the terminal named; of one that was not sent, why not. Of other steps there is nothing to say. The only
-/// fault is `Memory`.
+/// Returns the note on a step: what a person has to know about it and do. For an unclear order, it says which numbers
+/// the terminal named; for an order that was not sent, why not. For any other step it is empty. The only fault is
+/// `Memory`.
 pub(crate) fn note_of(
     alloc: Global,
     planned: &Planned,
@@ -35,7 +35,8 @@ pub(crate) fn note_of(
     Ok(text)
 }
 
-/// Writes a note to a device that works, and returns whether it still does. A device that failed gets nothing more.
+/// Writes a note to a device that has not failed, and returns whether it still works. Writes nothing to a device that
+/// has failed.
 pub(crate) fn report_note<E: Sink>(works: bool, note: &Text, report: &mut E) -> bool
     ensures { (first : Option (List ℕ)) (count : ℕ) (text : List ℕ) → ReportedSoFar works first (E.written report.old)
         count (E.failures report.old) text
@@ -47,7 +48,7 @@ pub(crate) fn report_note<E: Sink>(works: bool, note: &Text, report: &mut E) -> 
     report.write_all(note.bytes()).is_ok()
 }
 
-/// Adds the note of a step that came to this.
+/// Adds the note on a step with this result.
 fn say_note(
     text: &mut Text,
     planned: &Planned,
@@ -66,7 +67,7 @@ fn say_note(
     }
 }
 
-/// Adds what there is to say of an order that was cut off.
+/// Adds the note on an order that was cut off.
 fn say_last(text: &mut Text, step: &Step, till: &Till) -> Result<(), AllocError>
     ensures { OnOk result (text.new ≡ text.old ++ last_note step.now till.now.state.last_outcome till.now) }
 {
@@ -109,7 +110,7 @@ fn say_why_unsent(text: &mut Text, why: OrderRefusal) -> Result<(), AllocError>
     text.push(b'\n')
 }
 
-/// Adds what there is to say of an order that ended so.
+/// Adds the note on an order with this outcome.
 fn say_outcome(
     text: &mut Text,
     step: &Step,
@@ -149,7 +150,7 @@ fn say_payment(
     )
 }
 
-/// Adds that the reversal of the entry at this place of the book is unclear.
+/// Adds that the reversal of the entry at this index of the book is unclear.
 fn say_row(text: &mut Text, place: usize, cause: Cause, till: &Till) -> Result<(), AllocError>
     ensures { OnOk result (text.new ≡ text.old ++ row_note place (slice_get till.now.state.book place) cause
         till.now.numbers) }
@@ -179,7 +180,7 @@ fn say_reversal(
     )
 }
 
-/// Adds the step that takes back the entry at this place.
+/// Adds the step that reverses the entry at this index.
 fn say_step(text: &mut Text, place: usize) -> Result<(), AllocError>
     ensures { OnOk result (text.new ≡ text.old ++ reversing place) }
 {
@@ -187,7 +188,7 @@ fn say_step(text: &mut Text, place: usize) -> Result<(), AllocError>
     text.number(place as u128 + 1)
 }
 
-/// Adds which payment an entry is: its amount and its numbers.
+/// Adds the amount and the numbers of an entry.
 fn say_entry(text: &mut Text, entry: &Entry) -> Result<(), AllocError>
     ensures { OnOk result (text.new ≡ text.old ++ of_payment entry.now) }
 {
@@ -223,7 +224,7 @@ fn say_closing(text: &mut Text, cause: Cause) -> Result<(), AllocError>
     text.word(b". The terminal may have closed the day or not: look at its journal\n")
 }
 
-/// Adds that something is unclear: the name of the cause, and what it means.
+/// Adds the name of a cause, and what it means.
 fn say_why(text: &mut Text, cause: Cause) -> Result<(), AllocError>
     ensures { OnOk result (text.new ≡ text.old ++ why_unclear cause) }
 {
@@ -234,7 +235,7 @@ fn say_why(text: &mut Text, cause: Cause) -> Result<(), AllocError>
     text.word(b")")
 }
 
-/// Adds which numbers the terminal named.
+/// Adds the numbers that the terminal named.
 fn say_heard(text: &mut Text, numbers: Numbers) -> Result<(), AllocError>
     ensures { OnOk result (text.new ≡ text.old ++ heard_text numbers.trace numbers.receipt) }
 {
@@ -254,7 +255,7 @@ fn say_numbers_named(text: &mut Text, numbers: Numbers) -> Result<(), AllocError
     say_named(text, numbers)
 }
 
-/// Adds the numbers that the terminal named of a payment, each after a space.
+/// Adds the numbers that the terminal named for a payment, each after a space.
 pub(crate) fn say_named(text: &mut Text, numbers: Numbers) -> Result<(), AllocError>
     ensures { OnOk result (text.new ≡ text.old ++ named_text numbers.trace numbers.receipt) }
 {

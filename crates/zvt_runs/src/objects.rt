@@ -11,7 +11,7 @@ use zvt_bcd::Trace;
 use zvt_text::Text;
 use zvt_till::{BookFault, Outcome, RunFault};
 
-/// Adds the object of a step: its word, and what became of it, where the till says this of the order that ended last.
+/// Adds the object of a step: its word and its outcome. `last` is the outcome of the till's last order.
 pub(crate) fn say_step_object(
     alloc: Global,
     text: &mut Text,
@@ -36,7 +36,7 @@ pub(crate) fn say_total_object(text: &mut Text, total: u64) -> Result<(), AllocE
     text.word(b"}\n")
 }
 
-/// The object of a step.
+/// Returns the object of a step.
 fn step_object(
     alloc: Global,
     word: &str,
@@ -58,7 +58,7 @@ fn step_object(
     }
 }
 
-/// The object of a step whose order was cut off.
+/// Returns the object of a step whose order was cut off.
 fn broken_object(alloc: Global, word: &str, last: Option<Outcome>) -> Result<Value, AllocError>
     ensures { IfOk result (λ object. view object ≡ broken_value word.now last) }
 {
@@ -68,7 +68,7 @@ fn broken_object(alloc: Global, word: &str, last: Option<Outcome>) -> Result<Val
     }
 }
 
-/// The object of a step whose order ended so.
+/// Returns the object of a step with this outcome.
 fn outcome_object(alloc: Global, word: &str, outcome: &Outcome) -> Result<Value, AllocError>
     ensures { IfOk result (λ object. view object ≡ outcome_value word.now outcome.now) }
 {
@@ -86,14 +86,14 @@ fn outcome_object(alloc: Global, word: &str, outcome: &Outcome) -> Result<Value,
     }
 }
 
-/// The object of a step of whose outcome there is nothing more to say.
+/// Returns the object of a step whose outcome has no details.
 fn ended_object(alloc: Global, word: &str, name: &str) -> Result<Value, AllocError>
     ensures { IfOk result (λ object. view object ≡ ended_value name.now word.now) }
 {
     json!(in alloc; {"outcome": name, "step": word})
 }
 
-/// The object of a payment that was booked.
+/// Returns the object of a payment that was booked.
 fn paid_object(
     alloc: Global,
     word: &str,
@@ -110,7 +110,7 @@ fn paid_object(
     json!(in alloc; {"outcome": "paid", "receipt": &digits, "step": word, "trace": trace})
 }
 
-/// The object of a step that the terminal ended with this code, with what the code means.
+/// Returns the object of a step that the terminal ended with this code, with the meaning of the code.
 fn coded_object(alloc: Global, word: &str, name: &str, code: u8) -> Result<Value, AllocError>
     ensures { IfOk result (λ object. view object ≡ coded_value name.now word.now code) }
 {

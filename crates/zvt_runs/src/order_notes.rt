@@ -1,4 +1,4 @@
-//! The notes of orders that a book keeps: the time, and the reference that a step's word gives.
+//! The notes that a book keeps on orders: the time, and the reference that a step's word contains.
 ghost use Rattle.std.specs.Prelude.{◌≡◌, List, option_map, ℕ};
 ghost use Rattle.zvt_runs.specs.Words.{IsNoteOf, reference_of};
 
@@ -10,17 +10,17 @@ use std::time::SystemTime;
 use zvt_journal::Device;
 use zvt_kept::{KeptTill, Note, size_before};
 
-/// What gives the orders of a till their notes.
+/// Supplies the notes of a till's orders.
 pub trait NoteSource<K> {
     /// The till, with this note for its next order.
     ghost noted: { K → List ℕ → K };
 
-    /// Gives the till the note of its next order, with the reference in this word of a step.
+    /// Gives the till the note for its next order, with the reference in this word of a step.
     fn note_next(&self, till: &mut K, word: &[u8])
         ensures { (note : List ℕ) × IsNoteOf word.now note × (till.new ≡ noted till.old note) };
 }
 
-/// No notes, as of a till alone: it has no book that could hold them.
+/// No notes, for a till alone, which has no book to keep them in.
 #[derive(Clone, Copy)]
 pub struct NoNotes;
 
@@ -32,7 +32,8 @@ impl<K> NoteSource<K> for NoNotes {
     fn note_next(&self, _till: &mut K, _word: &[u8]) {}
 }
 
-/// The time by this clock, and the reference that the word gives. Without a clock that can be read there is no time.
+/// Notes with the time of this clock and the reference in the step's word. If the clock cannot be read, they have no
+/// time.
 #[derive(Clone, Copy)]
 pub struct Clocked<'a, C> {
     pub clock: &'a C,
@@ -48,7 +49,7 @@ impl<D: Device, C: Clock> NoteSource<KeptTill<D>> for Clocked<'_, C> {
     }
 }
 
-/// The note of the step which this word names.
+/// Returns the note of the step that this word names.
 fn note_of<C: Clock>(clock: &C, word: &[u8]) -> Note
     ensures { IsNoteOf word.now result }
 {
@@ -60,7 +61,7 @@ fn note_of<C: Clock>(clock: &C, word: &[u8]) -> Note
     Note::none()
 }
 
-/// The time to the second, in UTC.
+/// Returns the time to the second, in UTC.
 fn moment<C: Clock>(clock: &C) -> Option<ArrayString<33>> {
     let now = SystemTime::now(clock).ok()?;
     let seconds = now.duration_since(SystemTime::UNIX_EPOCH).ok()?.as_secs();
@@ -68,7 +69,7 @@ fn moment<C: Clock>(clock: &C) -> Option<ArrayString<33>> {
     Some(DateTimePrinter::new().timestamp_text(at.to_plain()))
 }
 
-/// The reference that a step's word gives, behind its first `=`.
+/// Returns the reference in a step's word, which follows its first `=`.
 fn reference(word: &[u8]) -> Option<&[u8]>
     ensures { option_map (λ text. text.now) result ≡ reference_of word.now }
 {

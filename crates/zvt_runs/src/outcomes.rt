@@ -7,8 +7,8 @@ use zvt_bcd::Trace;
 use zvt_text::Text;
 use zvt_till::Outcome;
 
-/// Adds to the text how an order ended, as `paid trace 000001 receipt 0001` or `declined 6F wrong currency`. It fails
-/// where memory is refused, and the text then ends anywhere.
+/// Adds the outcome of an order, such as `paid trace 000001 receipt 0001` or `declined 6F wrong currency`. Fails if an
+/// allocation fails; the text is then incomplete.
 pub(crate) fn outcome_text(text: &mut Text, outcome: &Outcome) -> Result<(), AllocError>
     ensures { OnOk result (text.new ≡ text.old ++ outcome_text outcome.now) }
 {
@@ -27,7 +27,7 @@ pub(crate) fn outcome_text(text: &mut Text, outcome: &Outcome) -> Result<(), All
     }
 }
 
-/// A payment that was booked, by its numbers.
+/// Adds the numbers of a payment that was booked.
 fn paid(text: &mut Text, trace: Trace, receipt: Option<[u8; 2]>) -> Result<(), AllocError>
     ensures { OnOk result (text.new ≡ text.old ++ paid_text trace receipt) }
 {
@@ -35,7 +35,7 @@ fn paid(text: &mut Text, trace: Trace, receipt: Option<[u8; 2]>) -> Result<(), A
     zvt_text::numbers(text, trace, receipt)
 }
 
-/// What the terminal said, with its code in words.
+/// Adds a result of the terminal, with the meaning of its code.
 fn coded(text: &mut Text, said: &str, code: u8) -> Result<(), AllocError>
     ensures { OnOk result (text.new ≡ text.old ++ coded_text said.now code) }
 {

@@ -1,4 +1,4 @@
-//! The steps of a run, as its words name them.
+//! The steps of a run, from the words that name them.
 ghost use Rattle.std.specs.Prelude.{◌≡◌, ◌++◌, ◌∷◌, [], OnOk, map};
 ghost use Rattle.std.specs.String.{string_bytes};
 ghost use Rattle.zvt_runs.specs.Plans.{AddsStep, PlansOrStops, words_of};
@@ -20,14 +20,14 @@ pub struct Planned {
 pub struct StepOptions {
     /// The form of the lines for the steps and the total.
     pub form: Form,
-    /// Whether the run fails where a step did not succeed.
+    /// Whether the run fails if a step does not succeed.
     pub check: bool,
 }
 
 /// The steps of a run, and how it reports them.
 #[derive(Clone, Copy)]
 pub struct StepRun<'a> {
-    /// The steps, which are made in this order.
+    /// The steps, in the order in which they are made.
     pub plan: &'a [Planned],
     /// How the steps are reported.
     pub options: StepOptions,
@@ -45,8 +45,8 @@ const BOTH_ENDS: [&str; 5] = [
 /// The default steps of a run of a till.
 const TILL_ALONE: [&str; 2] = ["register", "close"];
 
-/// The steps that the words name. Without words they are the default steps of these ends. The first word that names no
-/// step is the fault `BadStep`. The other fault is `Memory`.
+/// Parses the words as steps. Without words, returns the default steps of these ends. Fails with `BadStep` at the first
+/// word that names no step, or with `Memory`.
 pub fn plan(alloc: Global, ends: Ends, words: &[&str]) -> Result<Vec<Planned>, EndFault>
     ensures { PlansOrStops ends (words_of ends (map (λ word. word.now) words.now)) result }
 {
@@ -59,7 +59,7 @@ pub fn plan(alloc: Global, ends: Ends, words: &[&str]) -> Result<Vec<Planned>, E
     }
 }
 
-/// The steps that these words name.
+/// Parses these words as steps.
 fn plan_words(alloc: Global, ends: Ends, words: &[&str]) -> Result<Vec<Planned>, EndFault>
     ensures { PlansOrStops ends (map (λ word. word.now) words.now) result }
 {
@@ -73,7 +73,7 @@ fn plan_words(alloc: Global, ends: Ends, words: &[&str]) -> Result<Vec<Planned>,
     Ok(plan)
 }
 
-/// Adds the step that a word names.
+/// Adds a step and its word.
 fn add(alloc: Global, plan: &mut Vec<Planned>, word: &str, step: Step) -> Result<(), AllocError>
     ensures { OnOk result (AddsStep word.now step plan.old.items plan.new.items) }
 {

@@ -1,4 +1,4 @@
-//! The characters between the quotation marks of a JSON string.
+//! The characters inside a JSON string.
 ghost use Rattle.std.specs.Prelude.{◌≡◌, ◌<◌, ◌/◌, ◌%◌, ◌∷◌, [], ◌++◌, OnOk};
 ghost use Rattle.std.specs.Char.{digit_char};
 ghost use Rattle.json.specs.Print.{escape, escape_byte};
@@ -6,7 +6,7 @@ ghost use Rattle.json.specs.Print.{escape, escape_byte};
 use std::alloc::AllocError;
 use zvt_text::Text;
 
-/// Adds these characters with the escapes of JSON.
+/// Adds these characters, escaped as JSON requires.
 #[tactic(auto, unfolding(json::specs::Print::escape_byte))]
 pub(crate) fn say_escaped(text: &mut Text, characters: &[u8]) -> Result<(), AllocError>
     ensures { OnOk result (text.new ≡ text.old ++ escape characters.now) }
@@ -37,7 +37,7 @@ fn say_character(text: &mut Text, character: u8) -> Result<(), AllocError>
     }
 }
 
-/// Adds the escape of a control character by its number.
+/// Adds the numeric escape of a control character.
 fn say_control(text: &mut Text, character: u8) -> Result<(), AllocError>
     ensures { OnOk result (text.new ≡ text.old ++ 92 ∷ 117 ∷ 48 ∷ 48 ∷ digit_char (character / 16)
         ∷ digit_char (character % 16) ∷ []) }
@@ -47,7 +47,7 @@ fn say_control(text: &mut Text, character: u8) -> Result<(), AllocError>
     text.push(digit(character % 16))
 }
 
-/// The character of a hexadecimal digit.
+/// Returns the character of a hexadecimal digit.
 fn digit(value: u8) -> u8
     requires { value < 16 }
     ensures { result ≡ digit_char value }

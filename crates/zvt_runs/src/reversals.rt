@@ -6,8 +6,8 @@ use itoa::Buffer;
 use zvt_io::{Failed, Sink};
 use zvt_till::{Cause, Doubt, Entry};
 
-/// Reports each entry of the book whose last reversal is unclear: a line each, without asking for memory. A device that
-/// fails is no fault, and the lines after that are not reported.
+/// Reports each entry of the book whose last reversal is unclear, one line each, without allocating. If the device
+/// fails, the remaining lines are dropped; this is not an error.
 pub(crate) fn report_reversals<E: Sink>(book: &[Entry], report: &mut E)
     ensures { ReportsReversals (E.written report.old) (E.written report.new) (E.failures report.old)
         (E.failures report.new) book.now }
@@ -21,7 +21,7 @@ pub(crate) fn report_reversals<E: Sink>(book: &[Entry], report: &mut E)
     }
 }
 
-/// Reports the entry of this number, counted from 1, where its last reversal is unclear.
+/// Reports the entry of this number, counted from 1, if its last reversal is unclear.
 fn report_entry<E: Sink>(number: usize, entry: &Entry, report: &mut E) -> Result<(), Failed>
     ensures bytes { Writes (E.written report.old) (E.written report.new) result (entry_text number entry.now) }
     ensures failures { CountsFailure (E.failures report.old) (E.failures report.new) result }

@@ -7,11 +7,12 @@ use zvt_io::{Sink, Source};
 use zvt_stream::{Endpoint, LineFault, Until, pump};
 use zvt_term::Served;
 
-/// The reads after which a terminal gives up its connection.
+/// The number of reads before a terminal gives up its connection.
 const READS_OF_A_SERVICE: u64 = 1_000_000;
 
-/// Lets the terminal answer incoming messages until the connection ends, and tells it about the end. An end between
-/// two messages is not a fault; any other end is.
+/// Lets the terminal answer incoming messages until the connection ends, and then notifies it.
+///
+/// Returns `Ok` if the connection ends between two messages, and the fault if it ends in any other way.
 pub fn serve<R: Source, W: Sink>(
     alloc: Global,
     end: &mut Endpoint<R, W>,

@@ -1,11 +1,11 @@
-//! The words that a till's settings are given by.
+//! The words for a till's settings.
 ghost use Rattle.std.specs.Prelude.{◌≡◌, ◌∷◌, []};
 ghost use Rattle.zvt_runs.specs.Settings.{config_of, currency_of, digits_of, password_of};
 
 use crate::arguments::digit;
 use zvt_bcd::Currency;
 
-/// A byte of two decimal digits.
+/// Parses a byte of two decimal digits.
 fn digits(high: u8, low: u8) -> Option<u8>
     ensures { result ≡ digits_of high low }
 {
@@ -16,7 +16,7 @@ fn digits(high: u8, low: u8) -> Option<u8>
     }
 }
 
-/// The password that six decimal digits name.
+/// Parses a password of six decimal digits.
 pub fn password_of(word: &str) -> Option<[u8; 3]>
     ensures { result ≡ password_of word.now }
 {
@@ -26,7 +26,7 @@ pub fn password_of(word: &str) -> Option<[u8; 3]>
     }
 }
 
-/// The configuration byte that two hexadecimal digits name, in capital or small letters.
+/// Parses a configuration byte of two hexadecimal digits, in upper or lower case.
 pub fn config_of(word: &str) -> Option<u8>
     ensures { result ≡ config_of word.now }
 {
@@ -36,7 +36,7 @@ pub fn config_of(word: &str) -> Option<u8>
     }
 }
 
-/// The currency that four decimal digits name.
+/// Parses a currency number of four decimal digits, such as 0978 for the euro.
 pub fn currency_of(word: &str) -> Option<Currency>
     ensures { result ≡ currency_of word.now }
 {
@@ -46,7 +46,7 @@ pub fn currency_of(word: &str) -> Option<Currency>
     }
 }
 
-/// The currency of these four bytes, where each is a decimal digit.
+/// Parses a currency of four bytes, if each is a decimal digit.
 fn four(a: u8, b: u8, c: u8, d: u8) -> Option<Currency>
     ensures { result ≡ currency_of (a ∷ b ∷ c ∷ d ∷ []) }
 {

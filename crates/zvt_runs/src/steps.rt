@@ -23,27 +23,27 @@ use zvt_io::Sink;
 use zvt_text::{Form, Text};
 use zvt_till::{BookFault, Keeper, OrderRefusal, Outcome, RunFault, Till};
 
-/// A line on which each step of a till is made from end to end.
+/// A line on which a till's steps are made from beginning to end.
 pub(crate) trait StepLine<K: Keeper> {
-    /// The step, made on the line by the till, came to this, and leads to this line and this till.
+    /// The step, made on this line by this till, had this result, and led to that line and that till.
     ghost makes: { Self → K → Step → Result Outcome RunFault → Self → K → Type 0 };
 
-    /// Gives the till the order of the step, and goes on with the line until no order runs. It answers the order's
-    /// outcome. On `RunFault::Line`, the till knows of the fault, and its last outcome is the result of the order. Give
-    /// up the line then.
+    /// Gives the till the order of the step, and works on the line until no order is running. Returns the outcome of
+    /// the order. On `RunFault::Line`, the till was notified of the fault, and its last outcome is the result of the
+    /// order; the line has to be given up.
     fn make(&mut self, alloc: Global, till: &mut K, step: &Step) -> Result<Outcome, RunFault>
         ensures { makes self.old till.old step.now result self.new till.new };
 }
 
-/// Makes the steps one after another, each order with the note that `notes` gives it. Each writes a line when it ends:
-/// its word and its outcome. The last line is the till's total. `steps` has the form of these lines. A step whose order
-/// is unclear or was not sent is reported besides, with what to do.
+/// Makes the steps one after another, each order with the note that `notes` supplies. Each step writes a line when it
+/// ends, with its word and its outcome; the last line is the till's total. `steps` selects the form of these lines. A
+/// step whose order is unclear or was not sent is reported in addition, with what to do.
 ///
-/// After a connection that failed no further step is made, and the fault is `Line`. After a book that could not be kept
-/// none is made either, and the fault is `Book`. A run that checks its steps ends with `Unsuccessful` if one did not
-/// succeed. An order that is not sent is another fault only if memory runs out. The other faults are `Write` and
-/// `Memory`: then no further step is made, and the lines of all steps before the last were written. After `Write` a
-/// prefix of its own line may be written. A failure of `report` is no fault, and nothing more is reported.
+/// If the connection fails, the remaining steps are skipped and the result is `Line`; if the book cannot be kept, it is
+/// `Book`. A run that checks its steps ends with `Unsuccessful` if one did not succeed. An order that is not sent is a
+/// different fault only if memory runs out. After `Write` and `Memory` no further step is made, and the lines of all
+/// steps before the last were written; after `Write`, a prefix of the last line may be written. If `report` fails, this
+/// is not a fault, and nothing more is reported.
 pub(crate) fn run_steps<L: StepLine<K>, K: Keeper, W: Sink, E: Sink, N: NoteSource<K>>(
     alloc: Global,
     line: &mut L,
@@ -81,8 +81,8 @@ pub(crate) fn run_steps<L: StepLine<K>, K: Keeper, W: Sink, E: Sink, N: NoteSour
     Ok(())
 }
 
-/// Returns the line of a step in this form. The only fault is `Memory`, also if its order was not sent because memory
-/// ran out.
+/// Returns the line of a step in this form. The only fault is `Memory`, which is also returned if the order was not
+/// sent because memory ran out.
 fn line_of(
     alloc: Global,
     form: Form,
@@ -104,8 +104,8 @@ fn line_of(
     Ok(text)
 }
 
-/// Whether a step did not succeed: its order was not sent, ended otherwise than it was meant to, or was cut off by its
-/// line. A payment that the terminal is to decline succeeds where it ends with that code.
+/// Returns whether a step did not succeed: its order was not sent, had an outcome other than the intended one, or was
+/// cut off. A payment that the terminal is meant to decline succeeds if it ends with the intended code.
 fn fell_short(step: &Step, made: &Result<Outcome, RunFault>) -> bool
     ensures { result ≡ fell_short step.now made.now }
 {
@@ -115,7 +115,7 @@ fn fell_short(step: &Step, made: &Result<Outcome, RunFault>) -> bool
     }
 }
 
-/// Whether a step succeeded whose order ended so.
+/// Returns whether a step with this outcome succeeded.
 fn succeeded(step: &Step, outcome: &Outcome) -> bool
     ensures { result ≡ succeeded step.now outcome.now }
 {
@@ -130,8 +130,7 @@ fn succeeded(step: &Step, outcome: &Outcome) -> bool
     }
 }
 
-/// Adds the line of a step in this form: its word, and what became of it, where the till says this of the order that
-/// ended last.
+/// Adds the line of a step in this form: its word and its outcome. `last` is the outcome of the till's last order.
 fn say_step(
     alloc: Global,
     text: &mut Text,
@@ -148,7 +147,7 @@ fn say_step(
     }
 }
 
-/// Adds the text of a step: its word, and what became of it.
+/// Adds the text of a step: its word and its outcome.
 fn say_step_text(
     text: &mut Text,
     word: &str,
@@ -163,7 +162,7 @@ fn say_step_text(
     text.push(b'\n')
 }
 
-/// Writes what became of a step, where the till says this of the order that ended last.
+/// Adds the outcome of a step. `last` is the outcome of the till's last order.
 fn say_ending(
     text: &mut Text,
     made: &Result<Outcome, RunFault>,
@@ -183,7 +182,7 @@ fn say_ending(
     }
 }
 
-/// Writes what became of an order that was cut off.
+/// Adds the outcome of an order that was cut off.
 fn say_last(text: &mut Text, last: Option<Outcome>) -> Result<(), AllocError>
     ensures { OnOk result (text.new ≡ text.old ++ broken_text last) }
 {
@@ -193,7 +192,7 @@ fn say_last(text: &mut Text, last: Option<Outcome>) -> Result<(), AllocError>
     }
 }
 
-/// Why no further step is made, if so: the line broke, or the book could not be kept.
+/// Returns why no further step is made, if so: the line broke, or the book could not be kept.
 fn stop_of(made: &Result<Outcome, RunFault>) -> Option<EndFault>
     ensures { result ≡ stop_of made.now }
 {
@@ -205,7 +204,7 @@ fn stop_of(made: &Result<Outcome, RunFault>) -> Option<EndFault>
     }
 }
 
-/// Whether the order was not sent where memory runs out.
+/// Returns whether the order was not sent because memory ran out.
 fn wants_memory(made: &Result<Outcome, RunFault>) -> bool
     ensures { result ≡ wants_memory made.now }
 {
@@ -240,7 +239,7 @@ fn say_total_line(text: &mut Text, form: Form, total: u64) -> Result<(), AllocEr
     }
 }
 
-/// The line of a total.
+/// Adds the text of a total.
 pub(crate) fn say_total(text: &mut Text, total: u64) -> Result<(), AllocError>
     ensures { OnOk result (text.new ≡ text.old ++ total_text total) }
 {

@@ -1,7 +1,7 @@
 //! Runs of a till, of a simulated terminal, and of both ends of a line, over TCP.
 //!
-//! [`run_till`], [`run_terminal`] and [`run_loop`] open sockets with [`connect`] and [`listen`], and run the
-//! ends of a line over them. The till is one alone, or one with a book.
+//! [`run_till`], [`run_terminal`] and [`run_loop`] open sockets with [`connect`] and [`listen`], and run the ends of a
+//! line over them. The till may be alone or have a book.
 mod connection;
 mod ends;
 mod laws;

@@ -17,10 +17,10 @@ use zvt_io::{Sink, Source};
 use zvt_stream::Endpoint;
 use zvt_till::{Keeper, Outcome, RunFault, run_order};
 
-/// The turns of one read each after which an order is given up.
+/// The number of turns, of one read each, before an order is given up.
 const READS_OF_AN_ORDER: u64 = 100_000;
 
-/// What the terminal elsewhere decides of a step is its own.
+/// The terminal elsewhere makes its own decision on each step.
 impl<R: Source, W: Sink, K: Keeper> StepLine<K> for Endpoint<R, W> {
     ghost use Rattle.zvt_runs.specs.LineEnd.{end_state};
     ghost use Rattle.zvt_runs.specs.TillEnd.{MakesThere};
@@ -50,11 +50,11 @@ impl<R: Source, W: Sink, K: Keeper> StepLine<K> for Endpoint<R, W> {
 /// the entries that it had before. `steps` selects the form of these lines. If the connection fails, the remaining
 /// steps are skipped and the result is `Line`. An order that the till declines to send is reported in its line, and is
 /// a fault only if memory ran out. After `Write` and `Memory` no step is repeated, and no step follows the one whose
-/// line is missing. However a run ends that began, `report` gets a line for each of the till's entries whose last
-/// reversal is unclear.
+/// line is missing. Unless the book could not be kept before the first step, `report` gets a line for each of the
+/// till's entries whose last reversal is unclear, however the run ends.
 ///
-/// A book has the record of an order, with the note that `notes` gives it, before its first byte is sent. If the book
-/// cannot be kept, no further step is made, and the fault is `Book`.
+/// A book contains the record of an order, with the note that `notes` gives it, before the order's first byte is sent.
+/// If the book cannot be kept, the remaining steps are skipped and the result is `Book`.
 pub fn run_till_end<R: Source, W: Sink, K: Keeper, T: Sink, E: Sink, N: NoteSource<K>>(
     alloc: Global,
     end: &mut Endpoint<R, W>,

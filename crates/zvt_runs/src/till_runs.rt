@@ -1,4 +1,4 @@
-//! The steps of a till on a new line, from its connection to its report.
+//! The steps of a till on a new line, from connecting to the final report.
 ghost use Rattle.std.specs.Prelude.{◌≡◌, ◌<◌, Err};
 ghost use Rattle.zvt_runs.specs.Reporting.{ReportsNothing, ReportsRun};
 ghost use Rattle.zvt_runs.specs.Runs.{noting};
@@ -13,11 +13,12 @@ use std::alloc::Global;
 use zvt_io::Sink;
 use zvt_till::Keeper;
 
-/// Makes the steps one after another on a new line that is up.
+/// Runs the steps on a new line.
 ///
-/// A book has before the first step that an earlier line was lost. If the book cannot be kept, here or in a step, no
-/// further step is made, and the fault is `Book`. [`run_steps`] says what else is answered. However a run ends that
-/// began, `report` gets a line for each of the till's entries whose last reversal is unclear.
+/// Before the first step, a book contains the record that an earlier line was lost. If the book cannot be kept, then or
+/// during a step, the remaining steps are skipped and the result is `Book`. [`run_steps`] describes the other results.
+/// Unless the book could not be kept before the first step, `report` gets a line for each of the till's entries whose
+/// last reversal is unclear, however the run ends.
 pub(crate) fn run_connected<L: StepLine<K>, K: Keeper, T: Sink, E: Sink, N: NoteSource<K>>(
     alloc: Global,
     line: &mut L,

@@ -1,4 +1,4 @@
--- What a message of the till asks of the terminal.
+-- The request in a till's message.
 use Rattle.std.specs.Prelude.{ℕ, Option, Some, None, List}
 use Rattle.zvt_field.specs.Grammar.{Field}
 use Rattle.zvt_field.specs.Named.{amount_of, receipt_of}
@@ -16,11 +16,11 @@ abbrev pub currency_named : Option (ℕ × List Field) → Option ℕ
 currency_named None = None
 currency_named (Some rest) = Some rest.0
 
--- of an authorisation the amount counts, where it appears exactly once, and the currency
+-- in an authorisation, the amount counts if it appears exactly once, and so does the currency
 abbrev pub authorised : List Field → Asked
 authorised fields = Authorisation (amount_of fields) (currency_fact fields)
 
--- of a reversal the receipt number counts, where it appears exactly once
+-- in a reversal, the receipt number counts if it appears exactly once
 abbrev pub asked_as : Message → Asked
 asked_as (ack payload) = Answer
 asked_as (nack code payload) = Answer

@@ -1,4 +1,4 @@
--- The fields of a terminal, and what is true of them.
+-- The fields of a terminal, and their invariant.
 use Rattle.std.specs.Prelude.{◌≤◌, length}
 use Rattle.zvt_term.specs.Ledger.{NumberedFrom}
 use Rattle.zvt_term.specs.Terminal.{TerminalState, most_rows}

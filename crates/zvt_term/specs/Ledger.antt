@@ -1,4 +1,4 @@
--- The rows of the ledger, and what is asked of them.
+-- The rows of the ledger, and the tests on them.
 use Rattle.std.specs.Prelude.{◌≡◌, ℕ, ◌+◌, ◌==◌, ◌&&◌, Bool, true, false, List, [], ◌∷◌, Option, Some, None}
 use Rattle.std.specs.List.{find, list_any}
 use Rattle.zvt_till.specs.Statuses.{spells}
@@ -8,7 +8,7 @@ use Rattle.zvt_term.specs.declared.ledger.Row.{Row}
 abbrev pub is_approval : Row → Bool
 is_approval row = elim row.reverses [ None ↦ true | Some original ↦ false ]
 
--- it takes back the approval of that number
+-- the row reverses the approval with this number
 abbrev pub takes_back : ℕ → Row → Bool
 takes_back original row = elim row.reverses [ None ↦ false | Some n ↦ n == original ]
 

@@ -1,4 +1,4 @@
--- Moves as over a line that keeps order, and what is accounted for then.
+-- Moves over a line that keeps the order of messages, and the payments that are accounted for then.
 use Rattle.std.specs.Prelude.{ℕ, ◌+◌, ◌≤◌, Bool, true, false, not, cond, ◌&&◌, ◌==◌, nat_lt, List, [], ◌∷◌, length, Option, Some, None, count_by, IsTrue}
 use Rattle.zvt_till.specs.declared.entries.Entry.{Entry}
 use Rattle.zvt_till.specs.declared.orders.Order.{Order}
@@ -13,7 +13,7 @@ use Rattle.zvt_term.specs.declared.world.Move.{Move}
 use Rattle.zvt_term.specs.declared.world.Move.TheVariants.{Connect, Order as Ordered, ToTerminal, ToTill, TillLost, TerminalLost}
 use Rattle.zvt_term.specs.World.{Ends, ends_with, move, world_with, FitMoves, HasCurrency}
 
--- a line: how many messages were delivered each way, and which ends lost it since the last Connect
+-- a line: the number of messages delivered each way, and the ends that lost it since the last Connect
 pub record Line : Type 0 where
   pub to_terminal : ℕ
   pub to_till : ℕ
@@ -33,7 +33,7 @@ is_orderly m n l (ToTill k) = (k == l.to_till) && nat_lt k n && not l.till_lost
 is_orderly m n l TillLost = true
 is_orderly m n l TerminalLost = true
 
--- what was sent before a Connect never arrives
+-- a message that was sent before a Connect never arrives
 abbrev pub line_after : (from_till from_terminal : ℕ) → Line → Move → Line
 line_after m n l Connect = record { to_terminal = m; to_till = n; till_lost = false; terminal_lost = false }
 line_after m n l (Ordered order) = l
@@ -54,7 +54,7 @@ are_orderly_with settings moves = are_orderly_from (ends_with settings) no_line 
 abbrev pub are_orderly : List Move → Bool
 are_orderly moves = are_orderly_with run_settings moves
 
--- a row that approves this amount; a row that takes an approval back is none
+-- a row that approves this amount; a row that reverses an approval does not
 abbrev pub approves_amount : ℕ → Row → Bool
 approves_amount amount row = elim row.reverses [ None ↦ row.amount == amount | Some n ↦ false ]
 

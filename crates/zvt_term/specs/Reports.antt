@@ -9,7 +9,7 @@ use Rattle.zvt_term.specs.declared.messages.Line.TheVariants.{Approved as Approv
 use Rattle.zvt_term.specs.declared.messages.Report.{Report}
 use Rattle.zvt_term.specs.declared.messages.Report.TheVariants.{Ack, Nack, Registered, Approved, Result, TakenBack, Line, Done, Aborted}
 
--- what is printed
+-- the text of a print line
 abbrev pub text_of : printed.Line → List ℕ
 text_of (ApprovedLine amount) = codes "APPROVED " ++ decimal amount
 text_of (ReversedLine amount) = codes "REVERSED " ++ decimal amount

@@ -6,7 +6,7 @@ use Rattle.zvt_term.specs.declared.served.Served.{Served}
 use Rattle.zvt_term.specs.Steps.{Hears}
 use Rattle.zvt_term.specs.Terminal.{lost_terminal}
 
--- it hears each message under its verdict
+-- the terminal processes each message with its decision
 abbrev pub served_hears : Served → Message → Answered → Served → Type 0
 served_hears old message answers new = Hears old.verdict old.terminal message answers new.terminal × (new.verdict ≡ old.verdict)
 

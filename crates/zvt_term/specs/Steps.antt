@@ -1,4 +1,4 @@
--- What a terminal answers on its line, and what becomes of it.
+-- The terminal's replies on its line, and its state after them.
 use Rattle.std.specs.Prelude.{◌≡◌, ℕ, ◌+◌, ◌<◌, ◌≤◌, Option, Some, None, List, [], ◌∷◌, ◌++◌, length, map}
 use Rattle.zvt_apdu.specs.Message.{Message}
 use Rattle.zvt_stream.specs.Apdus.{Spells, Spelled}
@@ -25,26 +25,26 @@ pub record Adds (report : Report) (old new : Answered) : Type 0 where
   pub after : new.bytes ≡ old.bytes ++ bytes
   pub counted : new.count ≡ old.count + 1
 
--- the answers are the reports, one after another
+-- the replies are the reports, one after another
 pub record Says (reports : List Report) (answers : Answered) : Type 0 where
   pub spelled : Spelled answers.bytes (map message_of_report reports) []
   pub counted : answers.count ≡ length reports
 
--- a row has the next number, and a place
+-- a row has the next number, and there is room for it
 abbrev pub IsNext : TerminalState → Option Row → Type 0
 IsNext s None = Unit {0}
 IsNext s (Some row) = (length s.ledger < most_rows) × (row.number ≡ next_number s)
 
--- What is asked is answered.
+-- A request is processed and answered.
 pub record HearsAsked (verdict : Verdict) (old : TerminalState) (asked : Asked) (answers : Answered) (new : TerminalState) : Type 0 where
   pub state : new ≡ state_after old asked verdict
   pub says : Says (reports_to old asked verdict) answers
 
--- A message is heard and answered.
+-- A message is processed and answered.
 abbrev pub Hears : Verdict → TerminalState → Message → Answered → TerminalState → Type 0
 Hears verdict old message = HearsAsked verdict old (asked_as message)
 
--- a broken line is not answered
+-- a broken line gets no reply
 abbrev pub Loses : TerminalState → Answered → TerminalState → Type 0
 Loses old answers new = (new ≡ lost_terminal old) × (answers ≡ record { bytes = []; count = 0 })
 

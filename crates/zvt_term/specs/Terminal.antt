@@ -1,4 +1,4 @@
--- The terminal as a small machine: what each message makes of it, and what it answers.
+-- The terminal as a small state machine: its state after each message, and its replies.
 use Rattle.std.specs.Prelude.{ℕ, ◌+◌, Bool, true, false, cond, ◌&&◌, nat_lt, List, [], ◌∷◌, ◌++◌, length, Option, Some, None, option_to_list}
 use Rattle.zvt_till.specs.declared.messages.CurrencyFact.{CurrencyFact}
 use Rattle.zvt_till.specs.Statuses.{is_in_currency}
@@ -27,7 +27,7 @@ pub record TerminalState : Type 0 where
 abbrev pub new_terminal : ℕ → TerminalState
 new_terminal tid = record { tid = tid; registered = false; currency = None; phase = Idle; ledger = [] }
 
--- the line is down: the order is forgotten, and nobody is registered
+-- the line is down: the order is forgotten, and no till is registered
 abbrev pub lost_terminal : TerminalState → TerminalState
 lost_terminal s = record { tid = s.tid; registered = false; currency = None; phase = Idle; ledger = s.ledger }
 
@@ -48,11 +48,11 @@ is_idle Completing = false
 is_idle (Aborting code) = false
 is_idle Ending = false
 
--- nothing changes but for the answer
+-- nothing changes, and this is the reply
 abbrev pub stays : TerminalState → Response → Turn
 stays s reply = record { registered = s.registered; currency = s.currency; phase = s.phase; row = None; reply = reply }
 
--- the order is taken, with a first report
+-- the order is accepted, with a first report
 abbrev pub runs : TerminalState → Phase → Report → Turn
 runs s phase report = record { registered = s.registered; currency = s.currency; phase = phase; row = None; reply = Two Ack report }
 
@@ -60,7 +60,7 @@ runs s phase report = record { registered = s.registered; currency = s.currency;
 abbrev pub writes : TerminalState → Phase → Row → Report → Turn
 writes s phase row report = record { registered = s.registered; currency = s.currency; phase = phase; row = Some row; reply = Two Ack report }
 
--- the order is taken and given up
+-- the order is accepted and aborted
 abbrev pub aborts : TerminalState → ℕ → Turn
 aborts s code = runs s Ending (Aborted code)
 
@@ -76,7 +76,7 @@ decides s amount Approve =
     writes s (Printing (ApprovedLine amount)) (record { number = next_number s; amount = amount; currency = s.currency; reverses = None }) (Approved amount (next_number s) s.currency)
 decides s amount (Decline code) = runs s (Aborting code) (Result code)
 
--- a payment is taken only in the currency that is stored; where none is, nothing is asked of it
+-- a payment is accepted only in the stored currency; if none is stored, any currency is accepted
 abbrev pub takes_currency : Option ℕ → CurrencyFact → Bool
 takes_currency None named = true
 takes_currency (Some own) named = is_in_currency (Some own) named
@@ -111,7 +111,7 @@ closes s = runs s (Printing DayClosed) (Result 0)
 abbrev pub moves_on : TerminalState → Phase → Response → Turn
 moves_on s phase reply = record { registered = s.registered; currency = s.currency; phase = phase; row = None; reply = reply }
 
--- the till answered what was said last
+-- the till replied to the last report
 abbrev pub goes_on : TerminalState → Phase → Turn
 goes_on s Idle = moves_on s Idle Nothing
 goes_on s (Printing line) = moves_on s Completing (One (Line line))
@@ -119,7 +119,7 @@ goes_on s Completing = moves_on s Ending (One Done)
 goes_on s (Aborting code) = moves_on s Ending (One (Aborted code))
 goes_on s Ending = moves_on s Idle Nothing
 
--- an order is refused while another runs; 131 is 83 in hexadecimal
+-- an order is refused while another one is running; 131 is 83 in hexadecimal
 abbrev pub when : Bool → TerminalState → Turn → Turn
 when ready s turn = cond ready turn (refuses s 131)
 
@@ -144,10 +144,10 @@ reports_of Nothing = []
 reports_of (One report) = report ∷ []
 reports_of (Two first second) = first ∷ second ∷ []
 
--- what a message makes of the terminal
+-- the terminal after a message
 abbrev pub state_after : TerminalState → Asked → Verdict → TerminalState
 state_after s asked v = after s (turn_of s asked v)
 
--- what it answers
+-- its replies to the message
 abbrev pub reports_to : TerminalState → Asked → Verdict → List Report
 reports_to s asked v = reports_of (turn_of s asked v).reply

@@ -1,4 +1,5 @@
--- Both ends of a line, with all that each ever sent: what a list of moves makes of them, and what must match.
+-- Both ends of a line, with all messages that each ever sent: their states after a list of moves, and the match between
+-- book and ledger.
 use Rattle.std.specs.Prelude.{◌≡◌, ℕ, ◌≤◌, true, cond, nat_eq, List, [], ◌∷◌, ◌++◌, Option, Some, None, fold, map, slice_get, option_to_list}
 use Rattle.std.specs.List.{IsDistinct}
 use Rattle.zvt_apdu.specs.Message.{Message}
@@ -37,11 +38,11 @@ ends_with settings = record { till = new_till settings; terminal = new_terminal 
 abbrev pub new_ends : Ends
 new_ends = ends_with run_settings
 
--- what the till sends, if anything
+-- the message that the till sends, if any
 abbrev pub sent_out : Option Outgoing → List Message
 sent_out outgoing = map (λ o. message_of_brief o.brief) (option_to_list outgoing)
 
--- a refused order does nothing
+-- a refused order has no effect
 abbrev pub orders : Ends → Order → Option OrderRefusal → Ends
 orders w order None = record w { till = accept w.till order; from_till = w.from_till ++ sent_out (message_of w.till.settings w.till.book order) }
 orders w order (Some why) = w
@@ -109,11 +110,12 @@ FitMoves (x ∷ moves) = FitMove x × FitMoves moves
 abbrev pub IsApproved : List Row → (currency amount number : ℕ) → Type 0
 IsApproved ledger currency amount number = (k : ℕ) × (slice_get ledger k ≡ Some (record { number = number; amount = amount; currency = Some currency; reverses = None }))
 
--- the ledger holds a row that takes this number back
+-- the ledger contains a row that reverses the approval with this number
 abbrev pub IsTakenBack : List Row → (number : ℕ) → Type 0
 IsTakenBack ledger number = (k : ℕ) × (row : Row) × (slice_get ledger k ≡ Some row) × (row.reverses ≡ Some number)
 
--- an entry of a till of this currency is an approval of the ledger under its trace number, which its receipt number spells too
+-- an entry of a till with this currency is an approval of the ledger with its trace number, which its receipt number
+-- also spells
 pub record EntryMatches (currency : ℕ) (ledger : List Row) (entry : Entry) : Type 0 where
   pub approved : IsApproved ledger currency entry.amount entry.trace
   pub receipt : entry.receipt ≡ Some (digits 2 entry.trace)

@@ -20,7 +20,7 @@ fn add(answers: &mut Answers, report: &Report)
     answers.add(&buffer[..size]);
 }
 
-/// The reports one after another.
+/// Returns the bytes of the reports, one after another.
 pub(crate) fn answers_of(reply: &Response) -> Answers
     requires { AreWritable (reports_of reply.now) }
     ensures { Says (reports_of reply.now) result }

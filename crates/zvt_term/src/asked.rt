@@ -1,4 +1,4 @@
-//! Requests of the till's messages.
+//! What a till's message asks of the terminal.
 ghost use Rattle.std.specs.Prelude.{◌≡◌};
 ghost use Rattle.zvt_term.specs.Asking.{asked_as, authorised, currency_in};
 
@@ -7,7 +7,7 @@ use zvt_apdu::{Apdu, ApduView, Kind, Message};
 use zvt_bcd::Currency;
 use zvt_field::{Fields, FieldsView};
 
-/// The currency of a registration.
+/// Returns the currency of a registration.
 fn currency_in(rest: &Option<(Currency, Fields)>) -> Option<Currency>
     ensures { result ≡ currency_in rest.now }
 {
@@ -17,14 +17,14 @@ fn currency_in(rest: &Option<(Currency, Fields)>) -> Option<Currency>
     }
 }
 
-/// The authorisation that the fields ask for.
+/// Returns the authorisation that the fields request.
 fn authorised(fields: &Fields) -> Asked
     ensures { result ≡ authorised fields.now }
 {
     Asked::Authorisation(zvt_field::amount(fields), zvt_till::currency_in(fields))
 }
 
-/// The authorisation that the fields of a view ask for.
+/// Returns the authorisation that the fields of a view request.
 fn authorised_view(fields: &FieldsView<'_>) -> Asked
     ensures { result ≡ authorised fields.now }
 {
@@ -47,7 +47,7 @@ pub fn asked(apdu: &Apdu) -> Asked
     }
 }
 
-/// Returns the request of a message given as a view, like `asked`.
+/// Returns the request of a message that is given as a view, like [`asked`].
 pub fn asked_view(apdu: &ApduView<'_>) -> Asked
     ensures { result ≡ asked_as apdu.now }
 {

@@ -1,4 +1,4 @@
-//! Laws of both ends together. Each is the contract of an empty function.
+//! Laws of both ends together. Each is stated as the contract of an empty function.
 ghost use Rattle.zvt_term.specs.World.{WorldsMatch};
 ghost use Rattle.zvt_term.specs.Orderly.{OrderlyWorldsAccount};
 ghost use Rattle.zvt_term.specs.Returned.{OrderlyWorldsKeepReversals};
@@ -9,13 +9,13 @@ pub fn worlds_match()
     ensures { WorldsMatch }
 {}
 
-/// Over lines that keep order, each approval of an amount is booked, unclear or still awaited.
+/// Over lines that keep the order of messages, each approval of an amount is booked, unclear or still awaited.
 pub fn orderly_worlds_account()
     ensures { OrderlyWorldsAccount }
 {}
 
-/// Over lines that keep order, each payment that the terminal took back is marked, unclear, known by the terminal's
-/// code B4, or its reversal runs.
+/// Over lines that keep the order of messages, the till knows of each payment that the terminal reversed: it is marked
+/// as reversed, its reversal is unclear or running, or the terminal answered B4.
 pub fn orderly_worlds_keep_reversals()
     ensures { OrderlyWorldsKeepReversals }
 {}

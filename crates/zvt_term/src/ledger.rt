@@ -1,4 +1,4 @@
-//! The rows that the terminal writes down.
+//! The rows of the terminal's ledger.
 ghost use Rattle.std.specs.Prelude.{◌≡◌};
 ghost use Rattle.std.specs.Option.{option_copied};
 ghost use Rattle.zvt_till.specs.Statuses.{spells};
@@ -6,19 +6,19 @@ ghost use Rattle.zvt_term.specs.Ledger.{is_approval, takes_back, approval_by, is
 
 use zvt_bcd::{Amount, Currency, is_digits, number};
 
-/// An approval, or that one was taken back.
+/// A row of the ledger: an approval, or the reversal of one.
 #[derive(Clone, Copy, Debug, PartialEq, Eq)]
 pub struct Row {
-    /// Its place in the ledger, counted from 1.
+    /// The row's number, counted from 1.
     pub number: u16,
     pub amount: Amount,
     /// The currency that the till's registration named, if any.
     pub currency: Option<Currency>,
-    /// The number of the approval that it takes back, if it takes one back.
+    /// The number of the approval that this row reverses, or `None` for an approval.
     pub reverses: Option<u16>,
 }
 
-/// Whether these bytes are digits that spell the number.
+/// Returns whether these digits spell the number.
 fn spells(digits: [u8; 2], row_number: u16) -> bool
     ensures { result ≡ spells digits row_number }
 {
@@ -29,14 +29,14 @@ impl Row {
     ghost use Rattle.std.specs.Prelude.{◌≡◌};
     ghost use Rattle.zvt_term.specs.Ledger.{takes_back, is_approval_named};
 
-    /// Whether it takes back the approval of that number.
+    /// Returns whether this row reverses the approval of that number.
     fn takes_back(&self, original: u16) -> bool
         ensures { result ≡ takes_back original self.now }
     {
         self.reverses == Some(original)
     }
 
-    /// Whether it is an approval of the number that the digits spell.
+    /// Returns whether this row is an approval whose number the digits spell.
     fn is_approval_named(&self, digits: [u8; 2]) -> bool
         ensures { result ≡ is_approval_named digits self.now }
     {
@@ -44,7 +44,7 @@ impl Row {
     }
 }
 
-/// The approval of the number that the digits spell.
+/// Returns the approval whose number the digits spell.
 pub(crate) fn approval_by(rows: &[Row], digits: [u8; 2]) -> Option<Row>
     ensures { result ≡ approval_by digits rows.now }
 {
@@ -53,7 +53,7 @@ pub(crate) fn approval_by(rows: &[Row], digits: [u8; 2]) -> Option<Row>
         .find(|row| row.is_approval_named(digits))
 }
 
-/// Whether the approval of that number was taken back.
+/// Returns whether the approval of that number was reversed.
 pub(crate) fn is_taken_back(rows: &[Row], original: u16) -> bool
     ensures { result ≡ is_taken_back original rows.now }
 {

@@ -2,20 +2,21 @@
 use zvt_bcd::{Amount, Currency};
 use zvt_till::CurrencyFact;
 
-/// A request of a till's message.
+/// The request in a till's message. Each variant gives the message's control bytes in hexadecimal.
 #[derive(Clone, Copy)]
 pub enum Asked {
-    /// 06 00, with the currency that it names, if it names one.
+    /// 06 00 (PA00P015, Registration), with the currency that it names, if any.
     Registration(Option<Currency>),
-    /// 06 01, with the amount (BMP 04), where that appears exactly once and is not zero, and the currency (BMP 49).
+    /// 06 01 (PA00P015, Authorisation), with the amount (BMP 04) if it appears exactly once and is not zero, and the
+    /// currency (BMP 49).
     Authorisation(Option<Amount>, CurrencyFact),
-    /// 06 30, with the receipt number (BMP 87) as it was read, where that appears exactly once.
+    /// 06 30 (PA00P015, Reversal), with the receipt number (BMP 87) as read, if it appears exactly once.
     Reversal(Option<[u8; 2]>),
-    /// 06 50.
+    /// 06 50 (PA00P015, End-of-Day).
     EndOfDay,
-    /// 06 B0.
+    /// 06 B0 (PA00P015, Abort of a command by the ECR).
     AbortOrder,
-    /// 80 00 or 84: what the terminal sent was taken, or refused.
+    /// 80 00 or 84: the till accepted or rejected the terminal's message.
     Answer,
     /// Any other message.
     Unknown,
@@ -26,7 +27,7 @@ pub enum Asked {
 pub enum Line {
     /// `APPROVED` and the amount, in the currency's smallest unit.
     Approved(Amount),
-    /// `REVERSED` and the amount.
+    /// `REVERSED` and the amount, in the currency's smallest unit.
     Reversed(Amount),
     /// `DAY CLOSED`.
     DayClosed,
@@ -37,16 +38,16 @@ pub enum Line {
 pub enum Report {
     /// 80 00: acknowledges the till's message.
     Ack,
-    /// 84 and an error code: rejects it.
+    /// 84 and an error code: rejects the till's message.
     Nack(u8),
-    /// 06 0F: the till is registered with the terminal of this number (BMP 29), in the currency (BMP 49) that it
-    /// named.
+    /// 06 0F (PA00P015, Completion): the till is registered with the terminal of this number (BMP 29), in the currency
+    /// (BMP 49) that it named.
     Registered {
         tid: u32,
         currency: Option<Currency>,
     },
-    /// 04 0F: the amount (BMP 04) was approved, and the terminal keeps it under the number (BMP 0B and 87), in the
-    /// currency (BMP 49) of the registration, if that named one.
+    /// 04 0F (PA00P015, Status-Information): the amount (BMP 04) was approved. The terminal keeps the approval under
+    /// this number (BMP 0B and 87), in the currency (BMP 49) of the registration, if that named one.
     Approved {
         amount: Amount,
         number: u16,
@@ -54,18 +55,18 @@ pub enum Report {
     },
     /// 04 0F: a result code (BMP 27).
     Result(u8),
-    /// 04 0F: the approval numbered `original` (BMP 37) was taken back, and that is stored under the number.
+    /// 04 0F: the approval numbered `original` (BMP 37) was reversed, and the reversal is kept under this number.
     TakenBack {
         amount: Amount,
         number: u16,
         original: u16,
         currency: Option<Currency>,
     },
-    /// 06 D1: a print line.
+    /// 06 D1 (PA00P015, Print Line).
     Line(Line),
     /// 06 0F: the order is done.
     Done,
-    /// 06 1E and a code: the order is aborted.
+    /// 06 1E and a code (PA00P015, Abort): the order is aborted.
     Aborted(u8),
 }
 

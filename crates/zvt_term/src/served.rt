@@ -7,7 +7,7 @@ use std::alloc::{AllocError, Global};
 use zvt_apdu::ApduView;
 use zvt_stream::{Answers, Machine};
 
-/// A terminal with its verdict on the next authorisations. It serves its line for as long as the line lasts.
+/// A terminal, with its decision on the next authorisations. It serves its line for as long as the line lasts.
 #[derive(Drop)]
 pub struct Served {
     pub terminal: Terminal,
@@ -15,7 +15,7 @@ pub struct Served {
 }
 
 impl Served {
-    /// Sets the verdict on the next authorisations.
+    /// Sets the decision on the next authorisations.
     pub fn decide(&mut self, verdict: Verdict)
         ensures terminal { self.new.terminal ≡ self.old.terminal }
         ensures verdict { self.new.verdict ≡ verdict }

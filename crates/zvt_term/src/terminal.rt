@@ -15,22 +15,22 @@ use zvt_bcd::{Amount, Currency};
 use zvt_stream::Answers;
 use zvt_till::CurrencyFact;
 
-/// The largest number of rows in the ledger, since a row's number has four digits.
+/// Maximum number of rows in the ledger. A row's number has four digits.
 pub const MAX_LEDGER_ROWS: usize = 9_999;
 
-/// The code of an order that the terminal does not take now.
+/// Error code: the terminal cannot accept the order now.
 const NOT_POSSIBLE: u8 = 0x83;
 
-/// Result code: the payment is in another currency than the registration.
+/// Result code: the payment's currency differs from the registration's.
 const WRONG_CURRENCY: u8 = 0x6F;
 
-/// The code of an approval that was taken back before.
+/// Result code: the approval was reversed before.
 const ALREADY_REVERSED: u8 = 0xB4;
 
-/// The code of a reversal that names no approval.
+/// Result code: the reversal names no approval.
 const NO_APPROVAL: u8 = 0xB5;
 
-/// The code of all else.
+/// Any other failure.
 const SYSTEM_ERROR: u8 = 0xFF;
 
 /// An event at the terminal.
@@ -38,11 +38,11 @@ const SYSTEM_ERROR: u8 = 0xFF;
 pub enum Input<'a> {
     /// A message of the till.
     Message(&'a Apdu),
-    /// A message of the till, as a view of its bytes.
+    /// A message of the till, given as a view of its bytes.
     View(&'a ApduView<'a>),
     /// The connection was lost.
     Lost,
-    /// The bytes were no message, and the line is given up.
+    /// The bytes were not a message, and the connection is given up.
     Malformed,
 }
 
@@ -100,21 +100,21 @@ impl Terminal {
         self.ledger.as_slice()
     }
 
-    /// Whether no order runs.
+    /// Returns whether no order is running.
     fn is_idle(&self) -> bool
         ensures { result ≡ is_idle self.now.phase }
     {
         matches!(self.phase, Phase::Idle)
     }
 
-    /// Whether orders are taken that need a registration.
+    /// Returns whether the terminal accepts orders that need a registration.
     fn is_ready(&self) -> bool
         ensures { result ≡ is_ready self.now }
     {
         self.registered && self.is_idle()
     }
 
-    /// Nothing changes but for the answer.
+    /// Returns a turn that changes nothing and gives this reply.
     fn stays(&self, reply: Response) -> Turn
         ensures { result ≡ stays self.now reply }
     {
@@ -127,14 +127,14 @@ impl Terminal {
         }
     }
 
-    /// The message is refused.
+    /// Rejects the message.
     fn refuses(&self, code: u8) -> Turn
         ensures { result ≡ refuses self.now code }
     {
         self.stays(Response::One(Report::Nack(code)))
     }
 
-    /// The order is taken, with a first report.
+    /// Accepts the order, with a first report.
     fn runs(&self, phase: Phase, report: Report) -> Turn
         ensures { result ≡ runs self.now phase report }
     {
@@ -147,7 +147,7 @@ impl Terminal {
         }
     }
 
-    /// The order is taken, with a row and a first report.
+    /// Accepts the order, with a row and a first report.
     fn writes(&self, phase: Phase, row: Row, report: Report) -> Turn
         ensures { result ≡ writes self.now phase row report }
     {
@@ -160,14 +160,14 @@ impl Terminal {
         }
     }
 
-    /// The order is taken and given up.
+    /// Accepts the order and aborts it.
     fn aborts(&self, code: u8) -> Turn
         ensures { result ≡ aborts self.now code }
     {
         self.runs(Phase::Ending, Report::Aborted(code))
     }
 
-    /// The number of the next row, if one is free.
+    /// Returns the number of the next row, if one is free.
     fn next_number(&self) -> Option<u16>
         ensures { result ≡ (if has_capacity self.now then Some (next_number self.now) else None) }
     {
@@ -179,7 +179,7 @@ impl Terminal {
         }
     }
 
-    /// The till is registered.
+    /// Registers the till.
     fn registers(&self, currency: &Option<Currency>) -> Turn
         ensures { result ≡ registers self.now currency.now }
     {
@@ -198,14 +198,14 @@ impl Terminal {
         }
     }
 
-    /// Whether a payment that names its currency so is taken: only in the currency that is stored, where one is.
+    /// Returns whether a payment with this currency is accepted: if a currency is stored, only in that one.
     fn takes_currency(&self, named: CurrencyFact) -> bool
         ensures { result ≡ takes_currency self.now.currency named }
     {
         self.currency.is_none() || named.is_in(self.currency)
     }
 
-    /// A payment of this amount, or of none, that names its currency so.
+    /// Processes a payment of this amount, or of none, with this currency.
     fn authorises(&self, amount: Option<Amount>, named: CurrencyFact, verdict: Verdict) -> Turn
         ensures { result ≡ authorises self.now amount named verdict }
     {
@@ -238,7 +238,7 @@ impl Terminal {
         }
     }
 
-    /// An approval is to be taken back.
+    /// Reverses an approval.
     fn takes_back(&self, approval: &Row) -> Turn
         ensures { result ≡ takes_back_row self.now approval.now }
     {
@@ -265,7 +265,7 @@ impl Terminal {
         self.writes(Phase::Printing(Line::Reversed(amount)), row, report)
     }
 
-    /// The approval with this receipt number is to be taken back.
+    /// Reverses the approval with this receipt number.
     fn reverses(&self, receipt: Option<[u8; 2]>) -> Turn
         ensures { result ≡ reverses self.now receipt }
     {
@@ -278,7 +278,7 @@ impl Terminal {
         }
     }
 
-    /// The till answered what was said last.
+    /// Continues the order after the till has acknowledged the last message.
     fn goes_on(&self) -> Turn
         ensures { result ≡ goes_on self.now self.now.phase }
     {
@@ -298,7 +298,7 @@ impl Terminal {
         }
     }
 
-    /// What the message makes of the terminal.
+    /// Returns the turn that the message leads to.
     pub(crate) fn turn_of(&self, asked: &Asked, verdict: Verdict) -> Turn
         ensures { result ≡ turn_of self.now asked.now verdict }
     {
@@ -317,7 +317,7 @@ impl Terminal {
         }
     }
 
-    /// The line is down: the order is forgotten, and nobody is registered.
+    /// Forgets the running order and the registration, because the line is down.
     pub(crate) fn lose(&mut self)
         ensures { self.new ≡ lost_terminal self.old }
     {
@@ -326,7 +326,7 @@ impl Terminal {
         self.phase = Phase::Idle;
     }
 
-    /// Writes a row down, if there is one.
+    /// Adds a row to the ledger, if there is one.
     fn write_down(&mut self, row: &Option<Row>) -> Result<(), AllocError>
         requires { IsNext self.old row.now }
         ensures written { OnOk result (self.new ≡ record
@@ -355,7 +355,7 @@ impl Terminal {
         Ok(())
     }
 
-    /// Takes what a message of the till asks, and answers it.
+    /// Processes the request of a till's message and returns the replies.
     fn hear(&mut self, asked: &Asked, verdict: Verdict) -> Result<Answers, AllocError>
         ensures heard { IfOk result (λ answers. HearsAsked verdict self.old asked.now answers self.new) }
         ensures frugal { (turn_of self.old asked.now verdict).row ≡ None → IsOk result }
@@ -371,7 +371,7 @@ impl Terminal {
     pub fn step(&mut self, input: Input<'_>, verdict: Verdict) -> Result<Answers, AllocError>
         ensures stepped { IfOk result (λ answers. Steps self.old input.entry verdict answers self.new) }
         ensures err { OnErr result (self.new ≡ self.old) }
-        // Where no row is added it always goes well, as on a broken line.
+        // It always succeeds if no row is added, for example on a broken line.
         ensures frugal { row_added self.old input.entry verdict ≡ None → IsOk result }
     {
         match input {

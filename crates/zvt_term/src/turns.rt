@@ -3,11 +3,11 @@ use crate::ledger::Row;
 use crate::messages::{Line, Response};
 use zvt_bcd::Currency;
 
-/// The terminal's decision about an authorisation.
+/// The terminal's decision on an authorisation.
 #[derive(Clone, Copy)]
 pub enum Verdict {
     Approve,
-    /// It declines with this result code.
+    /// Decline it with this result code.
     Decline(u8),
 }
 
@@ -16,13 +16,13 @@ pub enum Verdict {
 pub enum Phase {
     /// No order runs.
     Idle,
-    /// It prints this line next, and then completes the order.
+    /// The terminal prints this line next, and then completes the order.
     Printing(Line),
-    /// It sends the completion next.
+    /// The terminal sends the completion next.
     Completing,
-    /// It sends an abort with this code next.
+    /// The terminal sends an abort with this code next.
     Aborting(u8),
-    /// It has sent everything, and the next answer ends the order.
+    /// The terminal has sent everything, and the till's next reply ends the order.
     Ending,
 }
 
@@ -30,7 +30,7 @@ pub enum Phase {
 #[derive(Clone, Copy)]
 pub(crate) struct Turn {
     pub registered: bool,
-    /// The currency that it stores.
+    /// The currency of the registration that the terminal stores.
     pub currency: Option<Currency>,
     pub phase: Phase,
     /// The row that it adds to the ledger.

@@ -20,15 +20,15 @@ use std::alloc::{AllocError, Global};
 use zvt_apdu::Apdu;
 use zvt_till::{Order, OrderRefusal, Outgoing, Till, heard};
 
-/// An event at either end. A delivery names a message by its number among all that the other end ever sent, counted
-/// from 0: it may arrive late, again, or never.
+/// An event at either end. A delivery names a message by its index among all messages that the other end ever sent,
+/// counted from 0, so a message may arrive late, again, or never.
 #[derive(Clone, Copy)]
 pub enum Move {
-    /// The till has a line.
+    /// The till has a new line.
     Connect,
     /// The till is given an order.
     Order(Order),
-    /// A message of the till reaches the terminal, which decides so where it has to.
+    /// A message of the till reaches the terminal, which decides like this if the message is an authorisation.
     ToTerminal(usize, Verdict),
     /// A message of the terminal reaches the till.
     ToTill(usize),
@@ -38,7 +38,7 @@ pub enum Move {
     TerminalLost,
 }
 
-/// Both ends, and all that each ever sent.
+/// Both ends, and all messages that each ever sent.
 #[derive(Drop)]
 pub struct World {
     pub till: Till,
@@ -64,7 +64,7 @@ fn keep_sent(
     Ok(())
 }
 
-/// Keeps what the terminal says.
+/// Keeps the replies of the terminal.
 fn keep_said(said: &mut Vec<Apdu>, alloc: Global, reply: &Response) -> Result<(), AllocError>
     requires { AreWritable (reports_of reply.now) }
     ensures { OnOk result (said.new.items ≡ said.old.items ++ map message_of_report (reports_of reply.now)) }
@@ -80,7 +80,7 @@ fn keep_said(said: &mut Vec<Apdu>, alloc: Global, reply: &Response) -> Result<()
     Ok(())
 }
 
-/// That the amount is asked for shows that it is one; it does nothing else.
+/// Makes it known to the proof that the amount of an order is valid. Does nothing else.
 fn note_amount(order: &Order)
     ensures { FitOrder order.now }
 {
@@ -101,7 +101,7 @@ impl World {
         }
     }
 
-    /// Gives the till an order. A refused order does nothing.
+    /// Gives the till an order. A refused order has no effect.
     fn order(&mut self, alloc: Global, order: &Order) -> Result<(), AllocError>
         ensures { OnOk result (ends_of self.new ≡ orders (ends_of self.old) order.now
             (refusal (facts_of self.old.till.state) order.now)) }
@@ -113,7 +113,7 @@ impl World {
         }
     }
 
-    /// Delivers a message of the till, if there is one of that number.
+    /// Delivers a message of the till, if there is one with this index.
     fn to_terminal(
         &mut self,
         alloc: Global,
@@ -131,7 +131,7 @@ impl World {
         keep_said(&mut self.from_terminal, alloc, &turn.reply)
     }
 
-    /// Delivers a message of the terminal, if there is one of that number.
+    /// Delivers a message of the terminal, if there is one with this index.
     fn to_till(&mut self, alloc: Global, index: usize) -> Result<(), AllocError>
         ensures { OnOk result (ends_of self.new ≡ reaches_till (ends_of self.old)
             (slice_get self.old.from_terminal.items index)) }
@@ -165,17 +165,18 @@ impl World {
     }
 }
 
-/// Makes the moves with a new till and a new terminal. Delivering a message that was never sent does nothing, nor does
-/// an order that the till refuses. Fails only if memory runs out.
+/// Makes the moves with a new till and a new terminal. A delivery of a message that was never sent has no effect, and
+/// neither has an order that the till refuses. Fails only if memory runs out.
 pub fn run_world(alloc: Global, moves: &[Move]) -> Result<World, AllocError>
     ensures world { IfOk result (λ both. ends_of both ≡ world moves.now) }
-    // Whatever comes late, again or never, each entry of the book is an approval of the ledger of its own, in the
-    // till's currency.
+    // Even if messages arrive late, again or never, each entry of the book corresponds to an approval of its own in the
+    // ledger, in the till's currency.
     ensures matches { IfOk result (λ both. Matches both.till.state both.terminal.ledger) }
-    // Over lines that keep order, each approval of an amount is booked, unclear or still awaited.
+    // Over lines that keep the order of messages, each approval of an amount is booked, unclear or still awaited.
     ensures accounted { IfOk result (λ both. IsTrue (are_orderly moves.now) → IsAccounted both.till.state
         both.terminal.ledger) }
-    // Over such lines, each payment that the terminal took back is marked, unclear, known by B4, or its reversal runs.
+    // Over such lines, each payment that the terminal reversed is marked, unclear or known by B4, or its reversal is
+    // running.
     ensures reversals { IfOk result (λ both. IsTrue (are_orderly moves.now) → KeepsReversals both.till.state
         both.terminal.ledger) }
 {

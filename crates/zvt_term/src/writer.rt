@@ -14,10 +14,10 @@ use zvt_bcd::{Amount, Currency, put};
 use zvt_field::bmp::{AMOUNT, CURRENCY, ORIGINAL, RECEIPT, RESULT, TERMINAL, TRACE};
 use zvt_grammar::Scan;
 
-/// Size of a buffer that holds any report.
+/// Size of a buffer that holds any report, in bytes.
 pub const MAX_REPORT_LEN: usize = 32;
 
-/// The two bytes of digits of a row's number.
+/// Returns a row's number as two bytes of digits.
 fn number_digits(number: u16) -> [u8; 2]
     requires { number ≤ 9999 }
     ensures { result ≡ digits 2 number }
@@ -27,7 +27,7 @@ fn number_digits(number: u16) -> [u8; 2]
     two
 }
 
-/// The four bytes of digits of the terminal's number.
+/// Returns the terminal's number as four bytes of digits.
 fn tid_digits(tid: u32) -> [u8; 4]
     requires { tid ≤ 99999999 }
     ensures { result ≡ digits 4 tid }
@@ -37,7 +37,7 @@ fn tid_digits(tid: u32) -> [u8; 4]
     four
 }
 
-/// Puts a registration's completion at the start, and says its size.
+/// Writes the completion of a registration to the start, and returns its size.
 fn put_registration(tid: u32, currency: Option<Currency>, out: &mut [u8; MAX_REPORT_LEN]) -> usize
     requires { tid ≤ 99999999 }
     ensures written { PutsMessage (message_of_report (Report.Registered tid currency)) out.old out.new result }
@@ -57,7 +57,7 @@ fn put_registration(tid: u32, currency: Option<Currency>, out: &mut [u8; MAX_REP
     }
 }
 
-/// Puts the status of an approval at the start, and says its size.
+/// Writes the status of an approval to the start, and returns its size.
 fn put_approval(
     amount: Amount,
     number: u16,
@@ -88,7 +88,7 @@ fn put_approval(
     }
 }
 
-/// Puts the status of a reversal at the start, and says its size.
+/// Writes the status of a reversal to the start, and returns its size.
 fn put_reversal(
     amount: Amount,
     number: u16,
@@ -124,7 +124,7 @@ fn put_reversal(
     }
 }
 
-/// Puts a line to print at the start, and says its size.
+/// Writes a print line of this text to the start, and returns its size.
 fn put_text(words: &[u8], more: &[u8], out: &mut [u8]) -> usize
     requires short { length words.now + length more.now ≤ 28 }
     requires room { 32 ≤ length out.old }
@@ -137,7 +137,7 @@ fn put_text(words: &[u8], more: &[u8], out: &mut [u8]) -> usize
     at + put_bytes(more, &mut out[at..])
 }
 
-/// Puts a line of words and an amount at the start, and says its size.
+/// Writes a print line of words and an amount to the start, and returns its size.
 fn put_amount(words: &[u8], amount: Amount, out: &mut [u8; MAX_REPORT_LEN]) -> usize
     requires { length words.now ≤ 16 }
     ensures written { PutsMessage (print_line 0 (words.now ++ decimal amount)) out.old out.new result }
@@ -147,7 +147,7 @@ fn put_amount(words: &[u8], amount: Amount, out: &mut [u8; MAX_REPORT_LEN]) -> u
     put_text(words, buffer.format(amount.get()).as_bytes(), out)
 }
 
-/// Puts the line at the start, and says its size.
+/// Writes the print line to the start, and returns its size.
 fn put_line(line: &Line, out: &mut [u8; MAX_REPORT_LEN]) -> usize
     ensures written { PutsMessage (message_of_report (Report.Line line.now)) out.old out.new result }
     ensures fits { result ≤ 32 }
@@ -188,7 +188,7 @@ pub fn put_report(report: &Report, buffer: &mut [u8; MAX_REPORT_LEN]) -> usize
     }
 }
 
-/// Returns the message of the report.
+/// Returns the report as a message.
 pub fn report_message(alloc: Global, report: &Report) -> Result<Apdu, AllocError>
     requires { IsWritable report.now }
     ensures { IfOk result (λ apdu. apdu ≡ message_of_report report.now) }

@@ -44,7 +44,7 @@ pub(crate) fn escape_all(buffer: &mut [u8], at: usize, bytes: &[u8]) -> Result<u
     }
 }
 
-/// How many of the first bytes of a text have no escape.
+/// Returns the number of bytes at the beginning of a text that need no escape.
 #[inline(always)]
 pub fn plain_first(bytes: &[u8]) -> usize
     ensures few { result ≤ length bytes.now }
@@ -68,7 +68,7 @@ fn escape(buffer: &mut [u8], at: usize, character: u8) -> Result<usize, Full>
     byte(buffer, at, character)
 }
 
-/// Whether a byte of a text has no escape.
+/// Returns whether a byte of a text needs no escape.
 pub fn is_plain(character: u8) -> bool
     ensures { result ≡ is_plain character }
 {

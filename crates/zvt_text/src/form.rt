@@ -1,6 +1,6 @@
-//! The forms of an answer.
+//! The forms of a command's output.
 
-/// How a command writes its answer.
+/// The form in which a command writes its output.
 #[derive(Clone, Copy, Debug, PartialEq, Eq)]
 pub enum Form {
     /// Lines of text, for people.

@@ -2,8 +2,8 @@
 
 ghost use Rattle.zvt_text.specs.Laws.{PasswordsStayHidden, SecretsStayHidden};
 
-/// No text depends on the password of a message, and of a field that the table of BMPs hides it says the size alone.
-/// [`zvt_field::laws::secrets_are_hidden`] lists what that is.
+/// The text does not depend on the password of a message, and shows only the size of a field that the table of BMPs
+/// hides. [`zvt_field::laws::secrets_are_hidden`] lists these fields.
 pub fn secrets_stay_hidden()
     ensures passwords { PasswordsStayHidden }
     ensures fields { SecretsStayHidden }

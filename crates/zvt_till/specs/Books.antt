@@ -1,4 +1,4 @@
--- What a log books: each payment judged by its whole segment.
+-- The books of a log: each payment is judged by its whole segment.
 use Rattle.std.specs.Prelude.{ℕ, Bool, true, false, not, cond, ◌&&◌, nat_eq, List, [], ◌∷◌, ◌++◌, Option, Some, None, map, fold, filter}
 use Rattle.std.specs.List.{list_all, list_any}
 use Rattle.zvt_till.specs.declared.happenings.Happening.{Happening}
@@ -18,14 +18,15 @@ pub record Booked : Type 0 where
   pub trace : ℕ
   pub receipt : Option (List ℕ)
 
--- what the statuses of a payment have to name as charged
+-- the amount and currency that the statuses of a payment must confirm
 abbrev pub charge_of : Opening → ℕ → Charge
 charge_of opening amount = record { amount = amount; currency = opening.currency }
 
 abbrev pub booked_as : ℕ → ℕ → Option (List ℕ) → Booked
 booked_as amount trace receipt = record { amount = amount; trace = trace; receipt = receipt }
 
--- an entry is earned where all statuses, one at least, approve the charge under one trace number that was not booked before
+-- an entry is earned if all statuses, and at least one, approve the charge under one trace number that was not booked
+-- before
 abbrev pub earned : Charge → List ℕ → List StatusFacts → Option Booked
 earned charge used [] = None
 earned charge used (s ∷ more) =
@@ -59,11 +60,11 @@ abbrev pub completed : Charge → List ℕ → List StatusFacts → Verdict
 completed charge used ss =
     elim (earned charge used ss) [ None ↦ unearned (map (class_of (Payment charge)) ss) | Some row ↦ Entered row ]
 
--- a payment that was aborted or refused: known not to have happened where nothing but declines were heard
+-- a payment that was aborted or refused: it certainly did not happen if all statuses were declines
 abbrev pub broken_off : Charge → List StatusFacts → Verdict
 broken_off charge ss = cond (is_declined (map (class_of (Payment charge)) ss)) Refused (Unclear AbortAfterApproval)
 
--- the verdict by what ended the payment
+-- the verdict, by the event that ended the payment
 abbrev pub verdict_by : Charge → List ℕ → List StatusFacts → Happening → Verdict
 verdict_by charge used ss (HeardIn Completion) = completed charge used ss
 verdict_by charge used ss (HeardIn (Abort c)) = broken_off charge ss
@@ -106,7 +107,7 @@ judge_as Foreign b opening end = b
 abbrev pub judge_end : Books → Opening → Option Ended → Books
 judge_end b opening end = judge_as opening.order b opening end
 
--- what a segment adds: payments alone add
+-- the rows that a segment adds; only payments add rows
 abbrev pub judge : Books → Segment → Books
 judge b s = judge_end b s.opening (end_of s.answers)
 

@@ -1,4 +1,4 @@
--- The log of events is one, and knows nothing of where the bytes of a line were cut.
+-- Events have exactly one log, which does not depend on where the bytes of a line were cut.
 use Rattle.std.specs.Prelude.{◌≡◌, ℕ, List, ◌∷◌, ◌++◌}
 use Rattle.zvt_till.specs.declared.happenings.Happening.{Happening}
 use Rattle.zvt_till.specs.declared.events.Event.{Event}

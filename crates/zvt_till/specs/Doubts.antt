@@ -1,4 +1,4 @@
--- What the reversals of a log leave open: whether a payment of the book was taken back.
+-- The doubts that the reversals of a log leave: whether a payment of the book was reversed.
 use Rattle.std.specs.Prelude.{ℕ, ◌+◌, ◌==◌, Bool, true, false, cond, List, [], ◌∷◌, Option, Some, None, map, fold}
 use Rattle.zvt_till.specs.declared.happenings.Happening.{Happening}
 use Rattle.zvt_till.specs.declared.happenings.Happening.TheVariants.{Connected, Sent as SentOut, Heard as HeardIn, Malformed, Lost}
@@ -14,7 +14,7 @@ use Rattle.zvt_till.specs.Statuses.{Demand, Reversal, Class, Good, Declining, Do
 use Rattle.zvt_till.specs.Segments.{Opening, Segment, Ended, end_of, statuses}
 use Rattle.zvt_till.specs.Books.{Booked, charge_of}
 
--- B4: the terminal took the payment back before
+-- B4: the terminal had reversed the payment before
 abbrev pub already_reversed : ℕ
 already_reversed = 0xB4
 
@@ -27,11 +27,12 @@ doubt_completed before (c ∷ cs) =
       | Some d ↦ Unclear (objection d)
     ]
 
--- a refused or aborted reversal: nothing changed where nothing but declines were heard, but that B4 tells
+-- a refused or aborted reversal: nothing changed if all statuses were declines, except that B4 reports an earlier
+-- reversal
 abbrev pub doubt_broken : Doubt → List Class → ℕ → Doubt
 doubt_broken before cs code = cond (is_declined cs) (cond (code == already_reversed) TakenBack before) (Unclear AbortAfterApproval)
 
--- by what ended the reversal
+-- the doubt, by the event that ended the reversal
 abbrev pub doubt_by : Doubt → List Class → Happening → Doubt
 doubt_by before cs (HeardIn Completion) = doubt_completed before cs
 doubt_by before cs (HeardIn (Abort c)) = doubt_broken before cs c
@@ -51,7 +52,7 @@ abbrev pub doubt_at : Demand → Doubt → Option Ended → Doubt
 doubt_at demand before None = before
 doubt_at demand before (Some e) = doubt_by before (map (class_of demand) (statuses e.before)) e.by
 
--- what the statuses of a reversal of this row are measured against
+-- the values with which the statuses of a reversal of this row must agree
 abbrev pub reversing : Opening → Booked → Demand
 reversing opening row = Reversal (charge_of opening row.amount) row.trace
 
@@ -66,18 +67,18 @@ doubt_as Foreign place row before opening end = before
 abbrev pub doubt_end : ℕ → Booked → Doubt → Opening → Option Ended → Doubt
 doubt_end place row before opening end = doubt_as opening.order place row before opening end
 
--- what one more segment leaves open of the row at this place of the book
+-- the doubt about the row at this index of the book after one more segment
 abbrev pub doubt_after : ℕ → Booked → Doubt → Segment → Doubt
 doubt_after place row before s = doubt_end place row before s.opening (end_of s.answers)
 
--- what all segments leave open of it: the last reversal that changed anything counts
+-- the doubt about it after all segments: the last reversal that changed anything counts
 abbrev pub doubt_of : ℕ → Booked → List Segment → Doubt
 doubt_of place row ss = fold (doubt_after place row) No ss
 
 abbrev pub is_unclear : Entry → Bool
 is_unclear entry = elim entry.doubt [ No ↦ false | Unclear cause ↦ true | TakenBack ↦ false ]
 
--- the entries whose last reversal is unclear, each by its place in the book and with the cause
+-- the entries whose last reversal is unclear, each by its index in the book and with the cause
 abbrev pub unclear_reversals_from : ℕ → List Entry → List (ℕ × Cause)
 unclear_reversals_from place [] = []
 unclear_reversals_from place (entry ∷ book) =

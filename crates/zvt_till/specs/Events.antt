@@ -1,4 +1,4 @@
--- The log of a list of events, and what a till sends over it.
+-- The log of a list of events, and the bytes that a till sends during it.
 use Rattle.std.specs.Prelude.{◌≡◌, ◌⊎◌, ℕ, Bool, true, false, cond, List, [], ◌∷◌, ◌++◌, Option, Some, None, map, option_to_list}
 use Rattle.zvt_grammar.specs.Reading.{shortest}
 use Rattle.zvt_apdu.specs.Message.{Message}
@@ -23,19 +23,19 @@ use Rattle.zvt_till.specs.Log.{IsLog, facts_in, line_up}
 abbrev pub run_settings : Settings
 run_settings = record { password = 0 ∷ 0 ∷ 0 ∷ []; config = 190; currency = 978 }
 
--- an order is sent where the log so far refuses it for no reason; else it leaves nothing
+-- an order is sent if nothing in the log so far refuses it; otherwise it has no effect
 abbrev pub log_after_order : List Happening → Order → Option OrderRefusal → List Happening
 log_after_order log order None = log ++ SentOut (sent_as run_settings.currency order) ∷ []
 log_after_order log order (Some why) = log
 
--- where no message begins with the rest of a line, the line is malformed
+-- if no message begins with the rest of a line, the line is malformed
 abbrev pub EndsLine : List ℕ → List Happening → Type 0
 EndsLine rest end = (Alive rest × (end ≡ [])) ⊎ ((Alive rest → ⊥) × (end ≡ Malformed ∷ []))
 
 abbrev pub hears : Message → Happening
 hears message = HeardIn (heard_as message)
 
--- what a piece adds on a line with these bytes: the messages by which the cut of all its bytes grows, and how the line ends
+-- the effect of a piece on a line with these bytes: the new messages in all its bytes, and how the line ends
 pub record HearsPiece (bytes piece : List ℕ) (added : List Happening) : Type 0 where
   pub earlier : List Message
   pub more : List Message
@@ -52,7 +52,7 @@ abbrev pub FollowsPiece : (up : Bool) → List Happening → (bytes piece : List
 FollowsPiece false log bytes piece next later = (next ≡ log) × (later ≡ bytes)
 FollowsPiece true log bytes piece next later = (added : List Happening) × HearsPiece bytes piece added × (next ≡ log ++ added) × (later ≡ bytes ++ piece)
 
--- From a log, and the bytes of its line so far, the event leads to these.
+-- From a log, and the bytes of its line so far, the event leads to this log and these bytes.
 abbrev pub Follows : List Happening → List ℕ → Event → List Happening → List ℕ → Type 0
 Follows log bytes ConnectedEvent next later = (next ≡ log ++ Connected ∷ []) × (later ≡ cond (line_up log) bytes [])
 Follows log bytes (OrderEvent order) next later = (next ≡ log_after_order log order (refusal (facts_in log) order)) × (later ≡ bytes)
@@ -68,7 +68,8 @@ Leads log bytes (event ∷ events) last later = (next : List Happening) × (more
 abbrev pub IsLogOf : List Event → List Happening → Type 0
 IsLogOf events log = (bytes : List ℕ) × Leads [] [] events log bytes
 
--- what the till sends by one more happening: the message of an order by the book so far, or the answer to a message
+-- the bytes that the till sends for one more event: the message of an order, given the book so far, or the reply to a
+-- message
 abbrev pub sends : List Happening → Happening → List Outgoing
 sends log Connected = []
 sends log (SentOut o) = elim (order_in o) [ None ↦ [] | Some order ↦ option_to_list (message_of run_settings (entries log) order) ]
@@ -87,17 +88,18 @@ message_out outgoing = message_of_brief outgoing.brief
 abbrev pub sent_over : List Happening → List Message
 sent_over log = map message_out (sent_from [] log)
 
--- a till that took this log, and the bytes that it sent
+-- a till with this log, and the bytes that it sent
 pub record IsTied (log : List Happening) (state : TillState) (sent : List ℕ) : Type 0 where
   pub allowed : IsLog run_settings log
   pub reached : state ≡ state_after run_settings log
   pub spelled : Spelled sent (sent_over log) []
 
--- while the line is up the stream holds what the cut of its bytes leaves, by the shortest lengths
+-- while the line is up, the stream holds the incomplete message at the end of its bytes, read with the shortest lengths
 abbrev pub HoldsLine : List Happening → List ℕ → StreamState → Type 0
 HoldsLine log bytes stream = line_up log ≡ true → (stream.stopped ≡ false) × ((messages : List Message) × Cut bytes messages stream.held) × (stream.reading ≡ shortest)
 
--- A piece after what the stream of a line holds: its messages, and how the line ends. Where the line goes on the stream holds the rest.
+-- A piece after the bytes that the stream of a line holds: its messages, and how the line ends. If the line continues,
+-- the stream holds the rest.
 pub record ReadsPiece (log : List Happening) (held piece : List ℕ) (next : List Happening) (stream : StreamState) : Type 0 where
   pub messages : List Message
   pub rest : List ℕ

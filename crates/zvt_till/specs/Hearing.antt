@@ -1,4 +1,4 @@
--- What a message of the terminal is to a till.
+-- The content of a terminal's message that matters to a till.
 use Rattle.std.specs.Prelude.{◌==◌, cond, Some, None, List}
 use Rattle.zvt_field.specs.Grammar.{Field}
 use Rattle.zvt_field.specs.Named.{count_of, amount_of, trace_of, result_of, receipt_of, currency_of, original_of}
@@ -11,15 +11,15 @@ use Rattle.zvt_till.specs.declared.messages.CurrencyFact.{CurrencyFact}
 use Rattle.zvt_till.specs.declared.messages.CurrencyFact.TheVariants.{Absent as NoCurrency, Once as OneCurrency, Many as ManyCurrencies}
 use Rattle.zvt_till.specs.declared.messages.StatusFacts.{StatusFacts}
 
--- BMP 37 where it appears once; else whether it appears at all
+-- BMP 37 if it appears exactly once; otherwise, whether it appears at all
 abbrev pub original_in : List Field → Original
 original_in fields = elim (original_of fields) [ None ↦ cond (count_of 0x37 fields == 0) Absent Many | Some bytes ↦ Once bytes ]
 
--- BMP 49 where it appears once; else whether it appears at all
+-- BMP 49 if it appears exactly once; otherwise, whether it appears at all
 abbrev pub currency_in : List Field → CurrencyFact
 currency_in fields = elim (currency_of fields) [ None ↦ cond (count_of 0x49 fields == 0) NoCurrency ManyCurrencies | Some currency ↦ OneCurrency currency ]
 
--- what the fields of a status information say, each where it appears exactly once
+-- the values in the fields of a status information, each if it appears exactly once
 abbrev pub facts_in_fields : List Field → StatusFacts
 facts_in_fields fields =
     record {

@@ -1,4 +1,4 @@
--- The fields of a till, and what is true of them.
+-- The fields of a till, and their invariant.
 use Rattle.std.specs.Prelude.{◌≡◌, ℕ, cond, ◌-◌, ◌≤◌, min, length, vec_len, vec_capacity}
 use Rattle.zvt_till.specs.Refusals.{most_rows}
 use Rattle.zvt_till.specs.Restoring.{OnceBelow}
@@ -6,7 +6,7 @@ use Rattle.zvt_till.specs.UsedTraces.{has_capacity, AreTracesOf}
 use Rattle.zvt_till.specs.View.{TillValue, CanEndRunning}
 use Rattle.zvt_till.specs.declared.till.Till.TheInside.{Inside}
 
--- the rows for which there is a place in each list
+-- the number of rows for which each list has room
 abbrev pub rows_of : Inside → ℕ
 rows_of t =
     min (vec_capacity t.book - vec_len t.book)

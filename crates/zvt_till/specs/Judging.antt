@@ -1,4 +1,4 @@
--- What is known of a log that is judged from the left.
+-- The knowledge about a log that is judged from the left.
 use Rattle.std.specs.Prelude.{◌≡◌, ℕ, Bool, true, false, List, [], ◌∷◌, ◌++◌, Option, Some, None, map, fold}
 use Rattle.std.specs.List.{list_any}
 use Rattle.zvt_till.specs.declared.happenings.Happening.{Happening}
@@ -30,15 +30,15 @@ rows_value rows = map row_value rows
 abbrev pub books_value : BooksFound → Books
 books_value found = record { booked = rows_value found.booked.items; unclear = found.unclear.items }
 
--- rows as a book of which nothing was taken back
+-- rows as a book without reversals
 abbrev pub as_book : List Booked → List Entry
 as_book rows = map (entry_of false No) rows
 
--- the trace numbers that are used are those of the rows
+-- the used trace numbers are those of the rows
 abbrev pub KnowsTraces : BooksFound → Type 0
 KnowsTraces found = AreTracesOf found.used (as_book (rows_value found.booked.items))
 
--- what a payment with this outcome adds
+-- the rows that a payment with this outcome adds
 abbrev pub written : Books → ℕ → Outcome → Books
 written b amount Registered = b
 written b amount (Paid trace receipt) = record { booked = b.booked ++ booked_as amount trace receipt ∷ []; unclear = b.unclear }
@@ -49,7 +49,7 @@ written b amount (Unclear cause) = record { booked = b.booked; unclear = b.uncle
 written b amount Reversed = b
 written b amount DayClosed = b
 
--- what the statuses of a payment are measured against
+-- the values with which the statuses of a payment must agree
 abbrev pub paying : Option ℕ → ℕ → Option Demand
 paying currency amount = Some (Payment (charged currency amount))
 
@@ -70,7 +70,7 @@ open_after before s = is_open_as s.opening.order (end_of s.answers)
 abbrev pub ends_open : List Segment → Bool
 ends_open ss = fold open_after false ss
 
--- the last segment is this payment, and what came before it is in the books
+-- the last segment is this payment, and everything before it is in the books
 pub record Runs (ss : List Segment) (b : Books) (p : OpenPayment) : Type 0 where
   pub closed : List Segment
   pub answers : List Happening
@@ -80,12 +80,12 @@ pub record Runs (ss : List Segment) (b : Books) (p : OpenPayment) : Type 0 where
   pub positive : p.positive ≡ list_any is_positive answers
   pub noted : p.statuses ≡ fold (note (paying p.currency p.amount)) Nothing (statuses answers)
 
--- no payment runs, and the books are those of all segments
+-- no payment is running, and the books contain all segments
 pub record Rests (ss : List Segment) (b : Books) : Type 0 where
   pub all : b ≡ books_of ss
   pub ended : ends_open ss ≡ false
 
--- the books of a log but for the payment that runs at its end
+-- the books of a log without the payment that is running at its end
 abbrev pub IsJudged : List Happening → Books → Option OpenPayment → Type 0
 IsJudged log b None = Rests (segments log) b
 IsJudged log b (Some p) = Runs (segments log) b p
@@ -96,7 +96,7 @@ pub record BooksSoFar : Type 0 where
   pub running : Option OpenPayment
   pub currency : Option ℕ
 
--- they are those of this log, but for the payment that runs at its end
+-- these are the books of this log, without the payment that is running at its end
 abbrev pub HasJudged : List Happening → BooksSoFar → Type 0
 HasJudged log b = IsJudged log b.books b.running × (b.currency ≡ in_force log)
 

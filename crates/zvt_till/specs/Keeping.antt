@@ -33,7 +33,7 @@ pub record Accepts (order : Order) (outgoing : Outgoing) (old new : TillValue) :
   pub heard : new.heard ≡ old.heard
   pub message : message_of old.state.settings old.state.book order ≡ Some outgoing
 
--- the order was accepted and not sent, and the till lost its line: a payment took one place then
+-- the order was accepted and not sent, and the till lost its line; a payment used the capacity for one
 pub record LosesOrder (order : Order) (old new : TillValue) : Type 0 where
   pub taken : refusal (facts_of old.state) order ≡ None
   pub lost : new.state ≡ step (accept old.state order) Lost
@@ -41,7 +41,8 @@ pub record LosesOrder (order : Order) (old new : TillValue) : Type 0 where
   pub numbers : new.numbers ≡ numbers_begun old.numbers order
   pub heard : KeepsHeard old new
 
--- the order would be accepted, and for want of room in the book the till is as it was, but for places that it may have gained
+-- the order would be accepted, but the book has no room; the till is as before, apart from capacity that it may have
+-- gained
 pub record LacksSpace (order : Order) (old new : TillValue) : Type 0 where
   pub taken : refusal (facts_of old.state) order ≡ None
   pub state : new.state ≡ old.state
@@ -57,7 +58,7 @@ itself till = till
 abbrev pub never_failed : TillValue → Bool
 never_failed till = false
 
--- an order is accepted or refused, and there is no book that could fail
+-- an order is accepted or refused; there is no book that could fail
 abbrev pub till_orders : TillValue → Order → Result Outgoing Untaken → TillValue → Type 0
 till_orders old order (Ok outgoing) new = Accepts order outgoing old new
 till_orders old order (Err (Refused why)) new = IsRefusedAs (facts_of old.state) old.spare order why × (new ≡ old)
@@ -88,7 +89,7 @@ FailsAlone fault order before after old new coming left first last turns reads_b
 
 -- ---- what happens to a keeper happens to its till
 
--- A message changes nothing, or the till hears it, or the book fails and the till loses its line.
+-- A message changes nothing, or the till processes it, or the book fails and the till loses its line.
 abbrev pub HearsAs : (old : TillValue) (was_failed : Bool) → Message → Answered → (new : TillValue) (is_failed : Bool) → Type 0
 HearsAs old was_failed message answered new is_failed =
     ((new ≡ old) × (is_failed ≡ was_failed)) ⊎ (till_hears old message answered new × (is_failed ≡ was_failed)) ⊎ till_loses old new

@@ -1,4 +1,4 @@
--- What holds of every payment, of every reversal and of every book.
+-- The laws of every payment, every reversal and every book.
 use Rattle.std.specs.Prelude.{◌≡◌, ℕ, ◌⊎◌, true, IsTrue, nat_eq, List, [], ◌∷◌, ◌++◌, Some, None, map}
 use Rattle.std.specs.List.{list_any, IsDistinct}
 use Rattle.zvt_till.specs.declared.happenings.Happening.{Happening}
@@ -21,15 +21,15 @@ AddsPayment amount b c =
     ((row : Booked) × (row.amount ≡ amount) × (c ≡ record { booked = b.booked ++ row ∷ []; unclear = b.unclear }))
     ⊎ ((cause : Cause) × IsTrue (is_finished cause) × (c ≡ record { booked = b.booked; unclear = b.unclear ++ (amount, cause) ∷ [] }))
 
--- a payment with an end, before which some status approved it, leaves an entry or an unclear row
+-- a payment that has ended, and that some status approved before its end, leaves an entry or an unclear row
 abbrev pub NoApprovalDropped : Type 0
 NoApprovalDropped =
     (b : Books) (s : Segment) (amount trace : ℕ) (e : Ended)
     → s.opening.order ≡ Pay amount → end_of s.answers ≡ Some e → IsTrue (list_any (approves (charge_of s.opening amount) trace) (statuses e.before))
     → AddsPayment amount b (judge b s)
 
--- What a reversal with an end leaves: its row is marked; or nothing but declines were heard, and what was open stays so
--- or the terminal said by B4 that it took the payment back before; or it is unclear for good.
+-- The effect of a reversal that has ended: its row is marked; or all statuses were declines, and the doubt stays or the
+-- terminal reported with B4 that it had reversed the payment before; or it is unclear for good.
 abbrev pub SettlesReversal : ℕ → Booked → Doubt → Segment → Ended → Type 0
 SettlesReversal place row before s e =
     ((reverses place row s ≡ true) × (doubt_after place row before s ≡ No))
@@ -42,7 +42,7 @@ NoReversalDropped =
     (place : ℕ) (row : Booked) (before : Doubt) (s : Segment) (e : Ended)
     → s.opening.order ≡ Reverse place → end_of s.answers ≡ Some e → SettlesReversal place row before s e
 
--- what is open of an entry stays so until a reversal of that entry ends
+-- the doubt about an entry does not change until a reversal of that entry ends
 abbrev pub DoubtsStay : Type 0
 DoubtsStay =
     (place : ℕ) (row : Booked) (before : Doubt) (s : Segment)
@@ -62,7 +62,7 @@ row_of entry = booked_as entry.amount entry.trace entry.receipt
 abbrev pub Grows : List Booked → List Booked → Type 0
 Grows before after = (more : List Booked) × (after ≡ before ++ more)
 
--- whatever happens next, each entry keeps its place, its amount, its trace number and its receipt
+-- whatever happens next, each entry keeps its index, its amount, its trace number and its receipt number
 abbrev pub EntriesStay : Type 0
 EntriesStay =
     (settings : Settings) (log more : List Happening)

@@ -1,4 +1,4 @@
--- A till on a line: what it answers to a message, and one order from end to end.
+-- A till on a line: its reply to a message, and one order from start to end.
 use Rattle.std.specs.Prelude.{◌≡◌, ◌⊎◌, ℕ, ◌+◌, ◌≤◌, Bool, true, false, cond, List, [], Option, Some, None, IsSome, Result, Ok, Err}
 use Rattle.std.specs.Io.KnownBytes.{Appends}
 use Rattle.zvt_apdu.specs.Message.{Message}
@@ -32,7 +32,7 @@ abbrev pub Answers : Option Outgoing → Answered → Type 0
 Answers None answered = answered ≡ record { bytes = []; count = 0 }
 Answers (Some outgoing) answered = Spells (message_out outgoing) answered.bytes × (answered.count ≡ 1)
 
--- a message is heard while the line is up, and answered at once
+-- a message is processed while the line is up, and gets its reply at once
 abbrev pub till_hears : TillValue → Message → Answered → TillValue → Type 0
 till_hears old message answered new =
     (new.state ≡ step old.state (HeardIn (heard_as message))) × Answers (cond old.state.line_up (reply_to (heard_as message)) None) answered × KeepsRoom old new
@@ -49,14 +49,14 @@ abbrev pub is_idle : Option Running → Bool
 is_idle None = true
 is_idle (Some running) = false
 
--- a till rests where no order runs
+-- a till is at rest while no order is running
 abbrev pub till_rests : TillValue → Bool
 till_rests till = is_idle till.state.running
 
 -- ---- one order of a till, alone or with a book
 
 module _ {K : Type 0} (orders : K → Order → Result Outgoing Untaken → K → Type 0) where
-  -- An order was taken, and its message written.
+  -- An order was accepted, and its message was written.
   pub record Sends (order : Order) (old new : K) (first last : Option (List ℕ)) : Type 0 where
     pub outgoing : Outgoing
     pub bytes : List ℕ
@@ -65,8 +65,8 @@ module _ {K : Type 0} (orders : K → Order → Result Outgoing Untaken → K �
     pub appended : Appends first last bytes
 
   module _ (loses : K → K → Type 0) where
-    -- An order was refused, or its book could not be kept; or it was taken and could not be written, and the till lost its
-    -- line.
+    -- An order was refused, or its book could not be kept; or it was accepted and could not be written, and the till
+    -- lost its line.
     abbrev pub NotSent : RunFault → Order → (old new : K) → (first last : Option (List ℕ)) → Type 0
     NotSent (OrderFault why) order old new first last = orders old order (Err (Refused why)) new × (last ≡ first)
     NotSent (BookBroke why) order old new first last = orders old order (Err (Unkept why)) new × (last ≡ first)
@@ -90,7 +90,7 @@ module _ {K : Type 0} (orders : K → Order → Result Outgoing Untaken → K �
       pub whole : failed new ≡ false
 
     module _ (loses malforms : K → K → Type 0) where
-      -- An order was sent, and then the line broke, which was reported to the till.
+      -- An order was sent, and then the line broke, and the till was notified.
       pub record BreaksOff (fault : LineFault) (order : Order) (before after : StreamState) (old new : K) (coming left first last : Option (List ℕ)) (turns reads_before reads_after : ℕ) : Type 0 where
         pub sent_till : K
         pub between : Option (List ℕ)
@@ -100,19 +100,20 @@ module _ {K : Type 0} (orders : K → Order → Result Outgoing Untaken → K �
         pub falters : Falters hears is_resting Rest fault turns reads_before reads_after (line_state before sent_till coming between) (line_ends after middle left last)
         pub reported : Reported loses malforms fault middle new
 
-      -- An order was not sent, and nothing was read; or the line broke, or the book failed while the answers were heard.
+      -- An order was not sent, and nothing was read; or the line broke, or the book failed while the replies were
+      -- processed.
       abbrev pub Fails : RunFault → Order → (before after : StreamState) → (old new : K) → (coming left first last : Option (List ℕ)) → (turns reads_before reads_after : ℕ) → Type 0
       Fails fault order before after old new coming left first last turns reads_before reads_after =
           (NotSent loses fault order old new first last × (after ≡ before) × (left ≡ coming) × (reads_after ≡ reads_before))
           ⊎ ((broken : LineFault) × (fault ≡ Line broken) × BreaksOff broken order before after old new coming left first last turns reads_before reads_after)
           ⊎ ((fault ≡ BookBroke Failed) × (failed new ≡ true) × Comes order before after old new coming left first last turns reads_before reads_after)
 
--- the fault of an order that was not taken
+-- the fault of an order that was not accepted
 abbrev pub fault_of : Untaken → RunFault
 fault_of (Refused why) = OrderFault why
 fault_of (Unkept why) = BookBroke why
 
--- how many reads and writes of the line failed
+-- the numbers of failed reads and writes of the line
 abbrev pub reads_failed : RunFault → ℕ
 reads_failed (OrderFault why) = 0
 reads_failed (Line fault) = failed_reads fault
@@ -123,11 +124,11 @@ writes_failed (OrderFault why) = 0
 writes_failed (Line fault) = failed_writes fault
 writes_failed (BookBroke why) = 0
 
--- no order runs, the line is down, and how the order ended is known
+-- no order is running, the line is down, and the outcome of the order is known
 abbrev pub IsEnded : TillState → Type 0
 IsEnded state = (state.running ≡ None) × (state.line_up ≡ false) × IsSome state.last_outcome
 
--- so it is after a broken line and after a book that failed
+-- this holds after a broken line and after a book that failed
 abbrev pub IsOver : RunFault → TillState → Type 0
 IsOver (OrderFault why) state = Unit {0}
 IsOver (Line fault) state = IsEnded state

@@ -1,4 +1,4 @@
--- Which logs a till can have, by what the log itself says.
+-- The logs that a till can have, in terms of the log itself.
 use Rattle.std.specs.Prelude.{◌≡◌, Bool, true, false, cond, List, [], ◌∷◌, ◌++◌, Option, Some, None, fold}
 use Rattle.std.specs.List.{list_any}
 use Rattle.zvt_till.specs.declared.happenings.Happening.{Happening}
@@ -12,7 +12,7 @@ use Rattle.zvt_till.specs.Refusals.{Facts, Awaited, refusal, sent_as, order_in}
 use Rattle.zvt_till.specs.Sending.{Settings}
 use Rattle.zvt_till.specs.Till.{facts_of, state_after}
 
--- whether the last of these was Connected
+-- whether the last of these events was Connected
 abbrev pub line_after : Bool → Happening → Bool
 line_after up Connected = true
 line_after up (SentOut o) = up
@@ -41,14 +41,14 @@ registered_as Foreign before end = before
 abbrev pub registered_by : Bool → Opening → Option Ended → Bool
 registered_by before opening end = registered_as opening.order before end
 
--- registered by the last registration, where its end is a completion and the line stood since
+-- registered by the last registration, if that was completed and the line has been up since
 abbrev pub registered_after : Bool → Segment → Bool
 registered_after before s = cond (list_any is_break s.answers) false (registered_by before s.opening (end_of s.answers))
 
 abbrev pub registered_of : List Segment → Bool
 registered_of ss = fold registered_after false ss
 
--- the last order, where it has no end yet
+-- the last order, if it has not ended yet
 abbrev pub awaited_by_end : Segment → Option Ended → Option Awaited
 awaited_by_end s None = Some (record { order = s.opening.order; positive = list_any is_positive s.answers })
 awaited_by_end s (Some e) = None
@@ -69,11 +69,11 @@ facts_in_segments up ss =
       unclear = settled (books_of ss).unclear;
     }
 
--- what a log says of the till that has it
+-- the state of a till, in terms of its log
 abbrev pub facts_in : List Happening → Facts
 facts_in log = facts_in_segments (line_up log) (segments log)
 
--- nothing is heard on a line that is down, and an order is sent as the till's own, only where nothing refuses it
+-- no message arrives on a line that is down, and the till sends an order, one of its own, only if nothing refuses it
 abbrev pub CanFollow : Settings → Facts → Happening → Type 0
 CanFollow settings f Connected = Unit {0}
 CanFollow settings f (SentOut o) = elim (order_in o) [ None ↦ ⊥ | Some order ↦ (o ≡ sent_as settings.currency order) × (refusal f order ≡ None) ]
@@ -89,6 +89,6 @@ IsLogFrom settings log (h ∷ more) = CanFollow settings (facts_in log) h × IsL
 abbrev pub IsLog : Settings → List Happening → Type 0
 IsLog settings log = IsLogFrom settings [] log
 
--- the state that the steps reach has the book, the marks and the unclear payments of the log, and takes the same orders
+-- the state after the steps has the book, the marks and the unclear payments of the log, and accepts the same orders
 abbrev pub StepsMeetLog : Type 0
 StepsMeetLog = (settings : Settings) (log : List Happening) → IsLog settings log → facts_of (state_after settings log) ≡ facts_in log

@@ -1,4 +1,4 @@
--- Which entries of the book were taken back, what is open of them, and what is left of the book.
+-- The entries of the book that were reversed, the doubts about them, and the total of the others.
 use Rattle.std.specs.Prelude.{ℕ, ◌+◌, Bool, false, cond, ◌&&◌, ◌==◌, List, [], ◌∷◌, Option, map, sum_by}
 use Rattle.std.specs.List.{list_any}
 use Rattle.zvt_till.specs.declared.happenings.Happening.{Happening}
@@ -28,14 +28,14 @@ reverses_as Foreign place row opening end = false
 abbrev pub reverses_end : ℕ → Booked → Opening → Option Ended → Bool
 reverses_end place row opening end = reverses_as opening.order place row opening end
 
--- whether the segment takes back the row at this place of the book
+-- whether the segment reverses the row at this index of the book
 abbrev pub reverses : ℕ → Booked → Segment → Bool
 reverses place row s = reverses_end place row s.opening (end_of s.answers)
 
 abbrev pub entry_of : Bool → Doubt → Booked → Entry
 entry_of reversed doubt row = record { amount = row.amount; trace = row.trace; receipt = row.receipt; reversed = reversed; doubt = doubt }
 
--- each row, marked where some segment takes it back, and what the reversals leave open of it
+-- each row, marked if some segment reverses it, with the doubt that the reversals leave
 abbrev pub mark : List Segment → ℕ → List Booked → List Entry
 mark ss place [] = []
 mark ss place (row ∷ rows) = entry_of (list_any (reverses place row) ss) (doubt_of place row ss) row ∷ mark ss (place + 1) rows
@@ -47,11 +47,11 @@ entries_of ss = mark ss 0 (books_of ss).booked
 abbrev pub entries : List Happening → List Entry
 entries log = entries_of (segments log)
 
--- the reversals of a log of which it is not known whether they happened: the place of the entry, and the cause
+-- the unclear reversals of a log: the index of the entry, and the cause
 abbrev pub reversals_left : List Happening → List (ℕ × Cause)
 reversals_left log = unclear_reversals (entries log)
 
--- the sum of what stands
+-- the sum of the entries that were not reversed
 abbrev pub standing : Entry → ℕ
 standing e = cond e.reversed 0 e.amount
 

@@ -1,4 +1,4 @@
--- The names of causes and refusals, as every output writes them, and what they mean.
+-- The names of causes and refusals, as every output writes them, and their meanings.
 use Rattle.std.specs.Prelude.{ℕ, List, codes}
 use Rattle.zvt_till.specs.declared.outcomes.Cause.{Cause}
 use Rattle.zvt_till.specs.declared.outcomes.Cause.TheVariants.{NoStatus, Conflict, AmountDiffers, NoTrace, TraceUsed, AbortAfterApproval, Line, Malformed, Unfinished, WrongCurrency}

@@ -14,12 +14,12 @@ use Rattle.zvt_till.specs.Till.{TillState}
 abbrev pub no_numbers : Numbers
 no_numbers = record { trace = None; receipt = None }
 
--- what was named last
+-- the number named last
 abbrev pub last_named : {A : Type 0} → Option A → Option A → Option A
 last_named before None = before
 last_named before (Some named) = Some named
 
--- with those of one more status, if this is one
+-- the numbers, updated by one more status if the event is one
 abbrev pub with_status : Numbers → Option StatusFacts → Numbers
 with_status numbers None = numbers
 with_status numbers (Some s) = record { trace = last_named numbers.trace s.trace; receipt = last_named numbers.receipt s.receipt }

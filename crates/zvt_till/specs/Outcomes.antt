@@ -1,4 +1,4 @@
--- What a till makes of the statuses of its running order, and how the order ends.
+-- The combined meaning of the running order's statuses, and the outcome of the order.
 use Rattle.std.specs.Prelude.{ℕ, Bool, cond, ◌||◌, nat_eq, List, Option, Some, None, slice_get, option_map}
 use Rattle.std.specs.List.{list_any}
 use Rattle.zvt_till.specs.declared.happenings.Happening.{Happening}
@@ -17,11 +17,11 @@ use Rattle.zvt_till.specs.declared.outcomes.Outcome.TheVariants.{Registered, Pai
 use Rattle.zvt_till.specs.Statuses.{Charge, Demand, Payment, Reversal, Closing, Class, Good, Declining, Doubtful, class_of, same_trace}
 use Rattle.zvt_till.specs.Segments.{is_positive, status_of}
 
--- what the statuses of an order have to name as charged under a currency in force
+-- the amount and currency that the statuses of an order must confirm, given the currency in force
 abbrev pub charged : Option ℕ → ℕ → Charge
 charged currency amount = record { amount = amount; currency = currency }
 
--- what the statuses of an order are measured against; those of a registration say nothing
+-- the values with which the statuses of an order must agree; a registration has none
 abbrev pub demand_of : Option ℕ → List Entry → Order → Option Demand
 demand_of currency book RegisterOrder = None
 demand_of currency book (PayOrder a) = Some (Payment (charged currency a))
@@ -87,14 +87,14 @@ completion_outcome book CloseDayOrder so_far = closing_outcome so_far
 -- Cancel never runs
 completion_outcome book CancelOrder so_far = closing_outcome so_far
 
--- an order broken off: known not to have happened where nothing but declines were heard
+-- an order that was broken off: it certainly did not happen if all statuses were declines
 abbrev pub broken_outcome : Statuses → Outcome → Outcome
 broken_outcome Nothing outcome = outcome
 broken_outcome (AllGood t receipt) outcome = Unclear AbortAfterApproval
 broken_outcome (AllDeclining c) outcome = outcome
 broken_outcome (Fault cause) outcome = Unclear AbortAfterApproval
 
--- the outcome of an order by what ended it
+-- the outcome of an order, by the event that ended it
 abbrev pub outcome_by : List Entry → Order → Statuses → Happening → Outcome
 outcome_by book order so_far (HeardIn Completion) = completion_outcome book order so_far
 outcome_by book order so_far (HeardIn (Abort c)) = broken_outcome so_far (Aborted c)
@@ -109,7 +109,7 @@ outcome_by book order so_far (HeardIn (Status s)) = Unclear Unfinished
 outcome_by book order so_far (HeardIn Passing) = Unclear Unfinished
 outcome_by book order so_far (HeardIn Strange) = Unclear Unfinished
 
--- the running order after what does not end it
+-- the running order after an event that does not end it
 abbrev pub listened : Option Demand → Running → Happening → Running
 listened d r h =
     record {

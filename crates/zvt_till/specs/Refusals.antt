@@ -1,4 +1,4 @@
--- Which orders a till takes, by what can be known of it from outside.
+-- The orders that a till accepts, in terms of what is known of it from outside.
 use Rattle.std.specs.Prelude.{ℕ, Bool, cond, ◌&&◌, nat_lt, List, length, Option, Some, None, slice_get}
 use Rattle.zvt_till.specs.declared.happenings.Sent.{Sent}
 use Rattle.zvt_till.specs.declared.happenings.Sent.TheVariants.{Register, Pay, Reverse, CloseDay, Cancel, Foreign}
@@ -9,7 +9,7 @@ use Rattle.zvt_till.specs.declared.orders.OrderRefusal.TheVariants.{Offline, Not
 use Rattle.zvt_till.specs.declared.entries.Entry.{Entry}
 use Rattle.zvt_till.specs.declared.outcomes.Cause.{Cause}
 
--- the order that runs, and whether the terminal has taken it up
+-- the running order, and whether the terminal has accepted it
 pub record Awaited : Type 0 where
   pub order : Sent
   pub positive : Bool
@@ -42,7 +42,7 @@ abbrev pub busy_refusal : Option Awaited → Option OrderRefusal
 busy_refusal None = None
 busy_refusal (Some a) = Some Busy
 
--- nothing that the terminal has taken up is there to cancel
+-- there is no order to cancel that the terminal has accepted
 abbrev pub cancel_refusal : Option Awaited → Option OrderRefusal
 cancel_refusal None = Some NothingToCancel
 cancel_refusal (Some a) = cond a.positive None (Some NothingToCancel)
@@ -68,12 +68,12 @@ most_rows = 10000
 abbrev pub capacity_refusal : Facts → Option OrderRefusal
 capacity_refusal f = cond (nat_lt (length f.book) most_rows && nat_lt (length f.unclear) most_rows) None (Some BookFull)
 
--- the entry is not there, was taken back, or has no receipt number
+-- the entry does not exist, was reversed, or has no receipt number
 abbrev pub row_refusal : Option Entry → Option OrderRefusal
 row_refusal None = Some UnknownEntry
 row_refusal (Some row) = cond row.reversed (Some AlreadyReversed) (elim row.receipt [ None ↦ Some NoReceipt | Some r ↦ None ])
 
--- by what the order asks for
+-- the refusal, by the kind of the order
 abbrev pub asked_refusal : Facts → Order → Option OrderRefusal
 asked_refusal f RegisterOrder = None
 asked_refusal f (PayOrder a) = capacity_refusal f
@@ -85,6 +85,6 @@ abbrev pub or_else : Option OrderRefusal → Option OrderRefusal → Option Orde
 or_else None next = next
 or_else (Some why) next = Some why
 
--- the first refusal that holds, out of memory left aside
+-- the first refusal that applies, apart from running out of memory
 abbrev pub refusal : Facts → Order → Option OrderRefusal
 refusal f order = or_else (line_refusal f order) (asked_refusal f order)

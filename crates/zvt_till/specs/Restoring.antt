@@ -20,7 +20,7 @@ pub record CanStand (book : List Entry) (unclear : List (ℕ × Cause)) : Type 0
   pub few_unclear : length unclear ≤ most_rows
   pub once : OnceBelow (length book) book
 
--- the line down, nobody registered, no order running
+-- the line is down, the till is not registered, and no order is running
 abbrev pub at_rest : Settings → List Entry → List (ℕ × Cause) → Option Outcome → TillState
 at_rest settings book unclear last =
     record { settings = settings; line_up = false; registered = false; running = None; book = book; unclear = unclear; last_outcome = last }

@@ -1,4 +1,4 @@
--- The segments of a log: an order, what was heard after it, and its end.
+-- The segments of a log: an order, the events after it, and its end.
 use Rattle.std.specs.Prelude.{ℕ, Bool, true, false, not, cond, ◌&&◌, List, [], ◌∷◌, ◌++◌, Option, Some, None, filter_map, fold}
 use Rattle.std.specs.List.{list_any}
 use Rattle.zvt_till.specs.declared.happenings.Happening.{Happening}
@@ -37,26 +37,26 @@ force_after force (HeardIn m) = force
 force_after force Malformed = force
 force_after force Lost = force
 
--- the currency in force after a log: that of its last registration
+-- the currency in force after a log, which is the one of its last registration
 abbrev pub in_force : List Happening → Option ℕ
 in_force log = fold force_after None log
 
--- what holds as an order is sent: the order, and the currency in force before it
+-- an order as it is sent, and the currency in force before it
 pub record Opening : Type 0 where
   pub order : Sent
   pub currency : Option ℕ
 
--- an order, and what followed up to the next one
+-- an order, and the events up to the next one
 pub record Segment : Type 0 where
   pub opening : Opening
   pub answers : List Happening
 
--- what happened up to the next order
+-- the events up to the next order
 abbrev pub up_to_order : List Happening → List Happening
 up_to_order [] = []
 up_to_order (h ∷ rest) = elim (begun h) [ None ↦ h ∷ up_to_order rest | Some o ↦ [] ]
 
--- the segments of what happens from a currency in force on
+-- the segments of events that begin with this currency in force
 abbrev pub segments_from : Option ℕ → List Happening → List Segment
 segments_from force [] = []
 segments_from force (h ∷ rest) =
@@ -65,16 +65,16 @@ segments_from force (h ∷ rest) =
       | Some o ↦ record { opening = record { order = o; currency = force }; answers = up_to_order rest } ∷ segments_from (force_after force h) rest
     ]
 
--- each order but Cancel begins one; what came before the first belongs to none
+-- each order except Cancel begins a segment; the events before the first belong to none
 abbrev pub segments : List Happening → List Segment
 segments log = segments_from None log
 
--- an end: what ended the order, and what was heard before that
+-- an end: the event that ended the order, and the events before it
 pub record Ended : Type 0 where
   pub before : List Happening
   pub by : Happening
 
--- a positive answer: the terminal has taken the order up
+-- a positive answer: the terminal has accepted the order
 abbrev pub is_positive : Happening → Bool
 is_positive Connected = false
 is_positive (SentOut o) = false
@@ -88,7 +88,7 @@ is_positive (HeardIn Strange) = false
 is_positive Malformed = false
 is_positive Lost = false
 
--- a negative answer ends an order only where no positive one came before it
+-- a negative answer ends an order only if no positive one came before it
 abbrev pub ends : Bool → Happening → Bool
 ends positive Connected = false
 ends positive (SentOut o) = false
@@ -111,7 +111,7 @@ end_after before (h ∷ rest) =
 abbrev pub end_of : List Happening → Option Ended
 end_of answers = end_after [] answers
 
--- what a status information says
+-- the values of a status information
 abbrev pub status_of : Happening → Option StatusFacts
 status_of Connected = None
 status_of (SentOut o) = None
@@ -142,7 +142,7 @@ is_completion (HeardIn Strange) = false
 is_completion Malformed = false
 is_completion Lost = false
 
--- ended by a completion after such statuses
+-- ended by a completion after these statuses
 abbrev pub completes : (List StatusFacts → Bool) → Option Ended → Bool
 completes test None = false
 completes test (Some e) = is_completion e.by && test (statuses e.before)

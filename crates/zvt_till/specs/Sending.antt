@@ -1,4 +1,4 @@
--- What a till sends: the message of each order, and what it answers to a message.
+-- The messages that a till sends: one for each order, and a reply to each message.
 use Rattle.std.specs.Prelude.{ℕ, List, Option, Some, None, slice_get, option_map}
 use Rattle.zvt_till.specs.declared.orders.Order.{Order}
 use Rattle.zvt_till.specs.declared.orders.Order.TheVariants.{Register as RegisterOrder, Pay as PayOrder, Reverse as ReverseOrder, CloseDay as CloseDayOrder, Cancel as CancelOrder}
@@ -9,13 +9,13 @@ use Rattle.zvt_till.specs.declared.messages.Heard.{Heard}
 use Rattle.zvt_till.specs.declared.messages.Heard.TheVariants.{Positive, Negative, Status, Passing, Completion, Abort, Strange}
 use Rattle.zvt_till.specs.declared.entries.Entry.{Entry}
 
--- what a till was made with
+-- the settings of a till
 pub record Settings : Type 0 where
   pub password : List ℕ
   pub config : ℕ
   pub currency : ℕ
 
--- the receipt number by which an entry is taken back
+-- the receipt number for reversing an entry
 abbrev pub receipt_at : Option Entry → Option (List ℕ)
 receipt_at None = None
 receipt_at (Some row) = row.receipt
@@ -31,7 +31,7 @@ message_of s book (ReverseOrder e) = option_map (λ receipt. outgoing (Reverse s
 message_of s book CloseDayOrder = Some (outgoing (CloseDay s.password))
 message_of s book CancelOrder = Some (outgoing AbortOrder)
 
--- what is answered to a message while the line is up; 131 is 83 in hexadecimal
+-- the reply to a message while the line is up; 131 is 83 in hexadecimal
 abbrev pub reply_to : Heard → Option Outgoing
 reply_to Positive = None
 reply_to (Negative c) = None

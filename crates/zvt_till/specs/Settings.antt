@@ -1,4 +1,4 @@
--- What a till is set to.
+-- The settings of a till.
 use Rattle.zvt_till.specs.Sending.{Settings}
 use Rattle.zvt_till.specs.declared.settings.TillSettings.{TillSettings}
 

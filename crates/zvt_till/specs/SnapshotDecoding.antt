@@ -1,4 +1,4 @@
--- What saved bytes lead to.
+-- The result of loading saved bytes.
 use Rattle.std.specs.Prelude.{◌≡◌, ℕ, List, Option, Some, Result, IfOk, MatchResult}
 use Rattle.zvt_till.specs.declared.entries.Entry.{Entry}
 use Rattle.zvt_till.specs.declared.happenings.Happening.TheVariants.{Lost}
@@ -23,7 +23,7 @@ settings_of made = record { password = made.password; config = made.config; curr
 abbrev pub IsMade : Option Made → Settings → Option Outcome → Type 0
 IsMade found settings last = found ≡ Some (made_of settings last)
 
--- a till of this state, or out of memory
+-- a till with this state, or out of memory
 abbrev pub LeadsTo : Result TillValue LoadError → TillState → Type 0
 LeadsTo result s = MatchResult result (λ till. till.state ≡ s) (λ why. why ≡ Memory)
 

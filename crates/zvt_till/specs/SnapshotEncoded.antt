@@ -16,7 +16,7 @@ use Rattle.zvt_till.specs.declared.snapshot.layouts.Layout.{Layout}
 use Rattle.zvt_till.specs.declared.snapshot.layouts.Layout.TheVariants.{First, Second}
 use Rattle.zvt_till.specs.SnapshotSums.{sums_of}
 
--- the number of a cause, in what is saved and for C
+-- the number of a cause, in saved bytes and for C
 abbrev pub cause_code : Cause → ℕ
 cause_code NoStatus = 1
 cause_code Conflict = 2
@@ -39,7 +39,7 @@ abbrev pub version : Layout → ℕ
 version First = 0x01
 version Second = 0x02
 
--- the number of what the reversals of an entry leave open
+-- the number of an entry's doubt
 abbrev pub doubt_code : Doubt → ℕ
 doubt_code No = 0
 doubt_code (UnclearReversal cause) = cause_code cause
@@ -50,7 +50,7 @@ abbrev pub doubt_bytes : Layout → Doubt → List ℕ
 doubt_bytes First doubt = []
 doubt_bytes Second doubt = doubt_code doubt ∷ []
 
--- how many bytes an entry has
+-- the number of bytes of an entry
 abbrev pub entry_size : Layout → ℕ
 entry_size First = 13
 entry_size Second = 14
@@ -69,12 +69,12 @@ abbrev pub open_rows : Option ℕ → List (ℕ × Cause)
 open_rows None = []
 open_rows (Some amount) = (amount, Line) ∷ []
 
--- the book, where a reversal of this entry is open when the connection is lost
+-- the book, if a reversal of this entry is open at the loss of the connection
 abbrev pub left_book : List Entry → Option ℕ → List Entry
 left_book book None = book
 left_book book (Some place) = reversal_ended book place (Unclear Line)
 
--- 8 bytes: the kind, a code, a trace number and a receipt number; what a kind has not is 0
+-- 8 bytes: the kind, a code, a trace number and a receipt number; a value that the kind does not have is 0
 abbrev pub outcome_row : (kind code trace : ℕ) → Option (List ℕ) → List ℕ
 outcome_row kind code trace receipt = kind ∷ code ∷ (digits 3 trace ++ receipt_bytes receipt)
 
@@ -113,11 +113,11 @@ summed body = body ++ (digits 4 (sums_of body).0 ++ digits 4 (sums_of body).1)
 abbrev pub saved_in : Layout → TillState → List ℕ
 saved_in layout s = summed (body_bytes layout s)
 
--- what a till is saved in
+-- the bytes that a till is saved in
 abbrev pub saved : TillState → List ℕ
 saved s = saved_in Second s
 
--- what a till was saved in before entries had doubts
+-- the bytes that a till was saved in before entries had doubts
 abbrev pub saved_first : TillState → List ℕ
 saved_first s = saved_in First s
 

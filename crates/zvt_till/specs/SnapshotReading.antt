@@ -1,4 +1,4 @@
--- What codes represent.
+-- The meaning of codes.
 use Rattle.std.specs.Prelude.{◌≡◌, ℕ, ◌==◌, cond, List, [], ◌∷◌, Option, Some, None, find, option_map}
 use Rattle.zvt_till.specs.declared.entries.Doubt.{Doubt}
 use Rattle.zvt_till.specs.declared.entries.Doubt.TheVariants.{No, Unclear as UnclearReversal, TakenBack}
@@ -38,7 +38,7 @@ abbrev pub IsOfLayout : Layout → TillState → Type 0
 IsOfLayout First s = HasNoDoubts s
 IsOfLayout Second s = Unit {0}
 
--- the outcomes by their kinds, with what they have; where the code is no cause's, none is unclear
+-- the outcomes by their kinds, with their values; there is no unclear outcome if the code is not a cause's
 abbrev pub outcomes : (code trace : ℕ) → Option (List ℕ) → List (ℕ × Option (Option Outcome))
 outcomes code trace receipt =
     (0, Some None) ∷ (1, Some (Some Registered)) ∷ (2, Some (Some (Paid trace receipt))) ∷ (3, Some (Some (Declined code)))

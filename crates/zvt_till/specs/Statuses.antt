@@ -1,4 +1,4 @@
--- What one status says under an order, and what the statuses of an order say together.
+-- The meaning of one status under an order, and the combined meaning of an order's statuses.
 use Rattle.std.specs.Prelude.{ℕ, Bool, true, false, not, cond, ◌&&◌, ◌==◌, List, [], ◌∷◌, Option, Some, None}
 use Rattle.std.specs.List.{list_all, find}
 use Rattle.zvt_bcd.specs.Digits.{is_digit_pair, number_of}
@@ -36,7 +36,7 @@ names Absent trace = false
 names (Once bytes) trace = spells bytes trace
 names Many trace = false
 
--- no currency is named, or one alone: that in force, where there is one
+-- no currency is named, or exactly one, which is the currency in force if there is one
 abbrev pub is_in_currency : Option ℕ → CurrencyFact → Bool
 is_in_currency force NoCurrency = true
 is_in_currency force (OneCurrency named) = elim force [ None ↦ true | Some own ↦ named == own ]
@@ -63,7 +63,7 @@ class_undeclined (Reversal charge trace) s =
     (Doubtful WrongCurrency)
 class_undeclined Closing s = Good None
 
--- one result that is not 0 declines, whatever else is said
+-- one result other than 0 declines, whatever else the status contains
 abbrev pub class_by : Option ℕ → Demand → StatusFacts → Class
 class_by None d s = Doubtful Conflict
 class_by (Some code) d s = cond (code == 0) (class_undeclined d s) (Declining code)
@@ -88,12 +88,12 @@ agrees (Declining c) (Good t) = false
 agrees (Declining c) (Doubtful d) = false
 agrees (Doubtful c) other = false
 
--- the first that does not agree with the first of all, which may be that one itself
+-- the first status that does not agree with the very first one, which may be that one itself
 abbrev pub dissenter : List Class → Option Class
 dissenter [] = None
 dissenter (c ∷ cs) = find (λ d. not (agrees c d)) (c ∷ cs)
 
--- what a dissenter is blamed for
+-- the cause that a disagreeing status leads to
 abbrev pub objection : Class → Cause
 objection (Good t) = Conflict
 objection (Declining c) = Conflict

@@ -1,4 +1,4 @@
--- The till as a small machine: what each thing that happens on its line does to it.
+-- The till as a small state machine: its state after each event on its line.
 use Rattle.std.specs.Prelude.{ℕ, ◌==◌, Bool, true, false, cond, List, [], ◌∷◌, ◌++◌, Option, Some, None, fold, slice_get, slice_set, option_map}
 use Rattle.zvt_till.specs.declared.happenings.Happening.{Happening}
 use Rattle.zvt_till.specs.declared.happenings.Happening.TheVariants.{Connected, Sent as SentOut, Heard as HeardIn, Malformed, Lost}
@@ -28,15 +28,15 @@ pub record TillState : Type 0 where
   pub unclear : List (ℕ × Cause)
   pub last_outcome : Option Outcome
 
--- the line down, nobody registered, an empty book
+-- the line is down, the till is not registered, and the book is empty
 abbrev pub new_till : Settings → TillState
 new_till settings = record { settings = settings; line_up = false; registered = false; running = None; book = []; unclear = []; last_outcome = None }
 
--- what a refusal or an abort with this code leaves open
+-- the doubt that a refusal or an abort with this code leaves
 abbrev pub told_by : ℕ → Doubt → Doubt
 told_by code before = cond (code == already_reversed) TakenBack before
 
--- the entry after a reversal of it ended so
+-- the entry after a reversal of it with this outcome
 abbrev pub entry_after : Entry → Outcome → Entry
 entry_after row Registered = row
 entry_after row (Paid t receipt) = row
@@ -47,11 +47,11 @@ entry_after row (Unclear cause) = record row { doubt = UnclearReversal cause }
 entry_after row Reversed = record row { reversed = true; doubt = No }
 entry_after row DayClosed = row
 
--- a reversal of the entry at this place ended so
+-- a reversal of the entry at this index had this outcome
 abbrev pub reversal_ended : List Entry → ℕ → Outcome → List Entry
 reversal_ended book e outcome = elim (slice_get book e) [ None ↦ book | Some row ↦ slice_set book e (entry_after row outcome) ]
 
--- the book after an order ended so
+-- the book after an order with this outcome
 abbrev pub book_after : List Entry → Order → Outcome → List Entry
 book_after book (PayOrder a) (Paid t receipt) = book ++ record { amount = a; trace = t; receipt = receipt; reversed = false; doubt = No } ∷ []
 book_after book (ReverseOrder e) outcome = reversal_ended book e outcome
@@ -62,7 +62,7 @@ abbrev pub unclear_after : List (ℕ × Cause) → Order → Outcome → List (�
 unclear_after rows (PayOrder a) (Unclear cause) = rows ++ (a, cause) ∷ []
 unclear_after rows _ _ = rows
 
--- a payment of this amount ended so
+-- a payment of this amount had this outcome
 abbrev pub payment_ended : TillState → ℕ → Outcome → TillState
 payment_ended s amount outcome = record s { book = book_after s.book (PayOrder amount) outcome; unclear = unclear_after s.unclear (PayOrder amount) outcome }
 
@@ -89,11 +89,11 @@ meet_running s r h =
     (finish s r.order (outcome_by s.book r.order r.statuses h))
     (record s { running = Some (listened (demand_of (Some s.settings.currency) s.book r.order) r h) })
 
--- what the running order makes of it: it ends, or it listens
+-- the effect of an event on the running order: it ends, or it continues
 abbrev pub meet : TillState → Happening → TillState
 meet s h = elim s.running [ None ↦ s | Some r ↦ meet_running s r h ]
 
--- nobody is registered on a line that is down
+-- no till is registered on a line that is down
 abbrev pub line_down : TillState → TillState
 line_down s = record s { line_up = false; registered = false }
 
@@ -111,7 +111,7 @@ accept s CancelOrder = s
 abbrev pub heard_step : TillState → Heard → TillState
 heard_step s m = cond s.line_up (meet s (HeardIn m)) s
 
--- one thing that happens on the line; a till never sends what is not its own
+-- one event on the line; a till never sends an order that is not its own
 abbrev pub step : TillState → Happening → TillState
 step s Connected = record s { line_up = true }
 step s (SentOut o) = elim (order_in o) [ None ↦ s | Some order ↦ accept s order ]
@@ -122,7 +122,7 @@ step s Lost = line_down (meet s Lost)
 abbrev pub state_after : Settings → List Happening → TillState
 state_after settings log = fold step (new_till settings) log
 
--- how the running order ended by this, if it did
+-- the outcome of the running order, if this event ends it
 abbrev pub outcome_at : TillState → Happening → Option Outcome
 outcome_at s h =
     elim s.running [

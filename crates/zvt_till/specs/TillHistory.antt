@@ -1,4 +1,4 @@
--- What orders on a line do to the log of the till that has it.
+-- The effect of orders on a line on the till's log.
 use Rattle.std.specs.Prelude.{◌≡◌, ◌⊎◌, ℕ, List, [], ◌∷◌, ◌++◌, Option, map, Result, Ok, Err, MatchResult}
 use Rattle.zvt_apdu.specs.Message.{Message}
 use Rattle.zvt_stream.specs.Apdus.{SpelledIn}
@@ -32,7 +32,7 @@ RunsAreLogged =
     → (runs : RunsAlone order outcome before after old new coming left first last turns reads_before reads_after)
     → Stands settings (log ++ SentOut (sent_as settings.currency order) ∷ map hears runs.comes.pumped.course.heard.messages) new.state
 
--- what a report of a fault is in a till's log
+-- the event that a fault is in a till's log
 abbrev pub reported_as : LineFault → Happening
 reported_as (faults.Malformed place why) = Malformed
 reported_as faults.Stopped = Malformed
@@ -59,7 +59,7 @@ UnsentAreLogged =
     → NotSentAlone (Line fault) order old new first last
     → Stands settings (log ++ SentOut (sent_as settings.currency order) ∷ Lost ∷ []) new.state
 
--- An order on a line, by what was answered.
+-- The effect of an order on a line, by its result.
 pub record Takes (order : Order) (answer : Result Outcome RunFault) (old new : TillValue) : Type 0 where
   pub before : StreamState
   pub after : StreamState
@@ -79,7 +79,7 @@ pub record Takes (order : Order) (answer : Result Outcome RunFault) (old new : T
 abbrev pub Readies : TillValue → TillValue → Type 0
 Readies old new = (new ≡ old) ⊎ (new.state ≡ step old.state Connected)
 
--- orders one after another, each with its answer, on the line of the one before or on a new one
+-- orders one after another, each with its result, on the line of the one before or on a new one
 abbrev pub TakesAll : TillValue → List (Order × Result Outcome RunFault) → TillValue → Type 0
 TakesAll old [] new = old ≡ new
 TakesAll old (taken ∷ more) new = (ready : TillValue) × (next : TillValue) × Readies old ready × Takes taken.0 taken.1 ready next × TakesAll next more new
@@ -105,8 +105,8 @@ sent_in (HeardIn m ∷ log) = sent_in log
 sent_in (Malformed ∷ log) = sent_in log
 sent_in (Lost ∷ log) = sent_in log
 
--- However its orders went, a till that takes them one after another has the book, the marks and the unclear payments of
--- a log that goes on from its own, and the orders of that log are those that were not refused.
+-- However its orders end, a till that runs them one after another has the book, the marks and the unclear payments of a
+-- log that continues its own, and the orders in that log are exactly the orders that were not refused.
 abbrev pub OrdersAreLogged : Type 0
 OrdersAreLogged =
     (settings : Settings) (log : List Happening) (taken : List (Order × Result Outcome RunFault)) (old new : TillValue)

@@ -1,4 +1,4 @@
--- The trace numbers that are used, one bit a number: the words are what contracts see of them.
+-- The used trace numbers, one bit per number, as words that contracts see.
 use Rattle.std.specs.Prelude.{◌≡◌, ℕ, ◌/◌, ◌%◌, Bool, nat_eq, nat_le, List, length, slice_index}
 use Rattle.std.specs.Int.{bit_at}
 use Rattle.zvt_till.specs.declared.entries.Entry.{Entry}

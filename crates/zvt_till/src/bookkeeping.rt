@@ -1,4 +1,4 @@
-//! The books of a whole log.
+//! Keeps the books of a log that is still growing.
 //!
 //! Functions that an audit calls for every message are `#[inline(always)]`. Functions that few messages need are
 //! `#[inline(never)]`, to keep that path short.
@@ -58,7 +58,7 @@ impl Bookkeeping {
         ensures { OnOk result ((log : List Happening) → HasJudged log self.old → HasJudged (log ++ happening.now ∷ [])
             self.new) }
     {
-        // Names the types that a running payment is made of, which the proof asks for.
+        // Names the types in a running payment, which the proof asks for.
         let _statuses: Option<Statuses> = None;
         let _trace: Option<Trace> = None;
         self.found
@@ -104,7 +104,7 @@ impl Bookkeeping {
         }
     }
 
-    /// The terminal completes the running order.
+    /// Completes the running order.
     #[inline(never)]
     fn complete(&mut self) -> Result<(), AllocError>
         ensures { OnOk result ((log : List Happening) → HasJudged log self.old

@@ -1,21 +1,22 @@
-//! The rows of the book.
+//! The entries of the book.
 ghost use Rattle.std.specs.Prelude.{◌≡◌};
 ghost use Rattle.zvt_till.specs.Till.{entry_after};
 
 use crate::outcomes::{Cause, Outcome};
 use zvt_bcd::{Amount, Trace};
 
-/// The result code by which a terminal says that it took a payment back before.
+/// Result code: the terminal had reversed the payment before.
 const ALREADY_REVERSED: u8 = 0xB4;
 
-/// What is doubtful about the reversal of a payment.
+/// The doubt about the reversal of a payment.
 #[derive(Clone, Copy, Debug, PartialEq, Eq)]
 pub enum Doubt {
-    /// Nothing.
+    /// There is no doubt.
     No,
     /// It is unknown whether the last reversal succeeded.
     Unclear(Cause),
-    /// No reversal was completed, but the terminal refused or aborted one with B4: it took the payment back before.
+    /// No reversal was completed, but the terminal refused or aborted one with B4, because it had reversed the payment
+    /// before.
     TakenBack,
 }
 
@@ -23,13 +24,13 @@ pub enum Doubt {
 #[derive(Clone, Copy, Debug, PartialEq, Eq)]
 pub struct Entry {
     pub amount: Amount,
-    /// The terminal's number for it. No other entry has this number.
+    /// The trace number that the terminal gave it. No other entry has this number.
     pub trace: Trace,
-    /// The receipt number that the first status named, which a reversal needs.
+    /// The receipt number from the first status information, which a reversal needs.
     pub receipt: Option<[u8; 2]>,
-    /// Whether a completed reversal took it back.
+    /// Whether a completed reversal took the payment back.
     pub reversed: bool,
-    /// What is doubtful about its reversal.
+    /// The doubt about its reversal.
     pub doubt: Doubt,
 }
 

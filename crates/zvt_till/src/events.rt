@@ -31,7 +31,7 @@ pub enum Event {
     Connected,
     /// The till is given this order.
     Order(Order),
-    /// These bytes arrived on the line, cut anywhere.
+    /// These bytes arrived on the line. They may begin and end in the middle of a message.
     Piece(Vec<u8>),
     /// The connection was lost.
     Lost,
@@ -45,7 +45,7 @@ pub struct Run {
     pub sent: Vec<u8>,
 }
 
-/// The order of a till of this currency as a log has it.
+/// Returns an order of a till with this currency, as a log contains it.
 fn sent_as(currency: Currency, order: &Order) -> Sent
     ensures { result ≡ sent_as currency order.now }
 {
@@ -58,7 +58,7 @@ fn sent_as(currency: Currency, order: &Order) -> Sent
     }
 }
 
-/// Adds what happened to a log. Its first lines do nothing: they name the types that a happening is made of, which the
+/// Adds an event to a log. The first lines of the body have no effect: they name the types in a happening, which the
 /// proof of `push` asks for.
 fn add(log: &mut Vec<Happening>, happening: Happening) -> Result<(), AllocError>
     ensures { OnOk result (log.new.items ≡ log.old.items ++ happening ∷ []) }
@@ -75,7 +75,7 @@ fn add(log: &mut Vec<Happening>, happening: Happening) -> Result<(), AllocError>
     Ok(())
 }
 
-/// Adds the bytes of a message to what was sent.
+/// Adds the bytes of a message to the bytes sent.
 fn send(sent: &mut Vec<u8>, outgoing: &Outgoing) -> Result<(), AllocError>
     ensures { OnOk result ((before : List Message) → Spelled sent.old.items before [] → Spelled sent.new.items
         (before ++ message_out outgoing.now ∷ []) []) }
@@ -86,7 +86,7 @@ fn send(sent: &mut Vec<u8>, outgoing: &Outgoing) -> Result<(), AllocError>
     Ok(())
 }
 
-/// A line that comes up where it was down has a new stream.
+/// Starts a new stream if the line was down.
 fn start_line(alloc: Global, stream: &mut Stream, up: bool)
     ensures { stream.new ≡ (if up then stream.old else at_start) }
 {
@@ -96,7 +96,7 @@ fn start_line(alloc: Global, stream: &mut Stream, up: bool)
 }
 
 impl Run {
-    /// An order, which leaves nothing where it is refused.
+    /// Gives the till an order. A refused order has no effect.
     fn order(&mut self, order: Order) -> Result<(), AllocError>
         requires { IsTied self.old.log.items self.old.till.state self.old.sent.items }
         ensures tied { OnOk result (IsTied self.new.log.items self.new.till.state self.new.sent.items) }
@@ -117,7 +117,7 @@ impl Run {
         }
     }
 
-    /// The line is up.
+    /// Notifies the till that the line is up.
     fn connected(&mut self) -> Result<(), AllocError>
         requires { IsTied self.old.log.items self.old.till.state self.old.sent.items }
         ensures tied { OnOk result (IsTied self.new.log.items self.new.till.state self.new.sent.items) }
@@ -128,7 +128,7 @@ impl Run {
         Ok(())
     }
 
-    /// The connection was lost.
+    /// Notifies the till that the connection was lost.
     fn lost(&mut self) -> Result<(), AllocError>
         requires { IsTied self.old.log.items self.old.till.state self.old.sent.items }
         ensures tied { OnOk result (IsTied self.new.log.items self.new.till.state self.new.sent.items) }
@@ -139,7 +139,7 @@ impl Run {
         Ok(())
     }
 
-    /// A message on a line that is up.
+    /// Lets the till process a message on a line that is up.
     fn heard(&mut self, heard: &Heard) -> Result<(), AllocError>
         requires tied { IsTied self.old.log.items self.old.till.state self.old.sent.items }
         requires up { line_up self.old.log.items ≡ true }
@@ -154,7 +154,7 @@ impl Run {
         Ok(())
     }
 
-    /// Bytes that are no message on a line that is up.
+    /// Gives up a line that is up, because its bytes are not a message.
     fn malformed(&mut self) -> Result<(), AllocError>
         requires tied { IsTied self.old.log.items self.old.till.state self.old.sent.items }
         requires up { line_up self.old.log.items ≡ true }
@@ -166,7 +166,7 @@ impl Run {
         Ok(())
     }
 
-    /// A piece of a line that is up: its messages, up to where it is malformed.
+    /// Processes bytes on a line that is up: their messages, up to the point where they are malformed.
     fn piece(&mut self, stream: &mut Stream, piece: &[u8]) -> Result<(), AllocError>
         requires tied { IsTied self.old.log.items self.old.till.state self.old.sent.items }
         requires up { line_up self.old.log.items ≡ true }
@@ -198,7 +198,7 @@ impl Run {
         }
     }
 
-    /// One event.
+    /// Processes one event.
     fn event(&mut self, alloc: Global, stream: &mut Stream, event: &Event) -> Result<(), AllocError>
         requires tied { IsTied self.old.log.items self.old.till.state self.old.sent.items }
         requires runs { line_up self.old.log.items ≡ true → stream.old.stopped ≡ false }
@@ -225,20 +225,20 @@ impl Run {
     }
 }
 
-/// Runs a new till over the events. A refused order leaves no trace in the log. Fails only if memory runs out.
+/// Runs a new till over the events. A refused order does not appear in the log. Fails only if memory runs out.
 pub fn replay(alloc: Global, events: &[Event]) -> Result<Run, AllocError>
-    // The log is that of the events, however the line's bytes are cut into pieces.
+    // The log is the log of the events, however the line's bytes are cut into pieces.
     ensures log { IfOk result (λ run. IsLogOf events.now run.log.items) }
     ensures allowed { IfOk result (λ run. IsLog run_settings run.log.items) }
-    // The till is as the log says,
+    // The till has the state that the log prescribes,
     ensures state { IfOk result (λ run. run.till.state ≡ state_after run_settings run.log.items) }
     ensures facts { IfOk result (λ run. facts_of run.till.state ≡ facts_in run.log.items) }
-    // with the book, its marks and the unclear payments that whole orders of the log are worth.
+    // with the book, its marks and the unclear payments that the log's complete orders justify.
     ensures book { IfOk result (λ run. run.till.state.book ≡ entries run.log.items) }
     ensures unclear { IfOk result (λ run. run.till.state.unclear ≡ settled (books run.log.items).unclear) }
-    // The reversals that it has as unclear are those that the log leaves so.
+    // Its unclear reversals are exactly those that the log leaves unclear.
     ensures reversals { IfOk result (λ run. unclear_reversals run.till.state.book ≡ reversals_left run.log.items) }
-    // What it sent are the accepted orders and the answers, in the order in which they arose.
+    // It sent the accepted orders and the replies, in order, and nothing else.
     ensures sent { IfOk result (λ run. Spelled run.sent.items (sent_over run.log.items) []) }
 {
     let mut run = Run {

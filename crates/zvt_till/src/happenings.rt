@@ -7,7 +7,7 @@ ghost use Rattle.zvt_till.specs.Segments.{ends, force_after, is_positive};
 use crate::messages::Heard;
 use zvt_bcd::{Amount, Currency};
 
-/// An order as it went out.
+/// An order as it was sent.
 #[derive(Clone, Copy, Debug, PartialEq, Eq)]
 pub enum Sent {
     /// A registration with the currency that it names, if any.
@@ -20,13 +20,13 @@ pub enum Sent {
     Foreign,
 }
 
-/// One thing that happened on the line.
+/// One event on the line.
 #[derive(Clone, Copy, Debug, PartialEq, Eq)]
 pub enum Happening {
     Connected,
     Sent(Sent),
     Heard(Heard),
-    /// The bytes were no message, and the line is given up.
+    /// The bytes were not a message, and the line is given up.
     Malformed,
     Lost,
 }
@@ -46,7 +46,7 @@ pub fn ends(positive: bool, happening: &Happening) -> bool
     }
 }
 
-/// Returns the currency in force after this event: the one that the last registration named, if any.
+/// Returns the currency in force after this event, which is the one named by the last registration, if any.
 #[inline(always)]
 pub fn force_after(force: Option<Currency>, happening: &Happening) -> Option<Currency>
     ensures { result ≡ force_after force happening.now }

@@ -10,13 +10,13 @@ use crate::messages::{CurrencyFact, Heard, Original, StatusFacts};
 use zvt_apdu::{Apdu, ApduView, Kind, Message};
 use zvt_field::{Fields, FieldsView, Single, count, currency, original, read_single};
 
-/// The BMP of the trace number of a payment that is taken back.
+/// The BMP of the trace number of a payment to be reversed.
 const ORIGINAL_TRACE: u8 = 0x37;
 
 /// The BMP of a currency.
 const CURRENCY: u8 = 0x49;
 
-/// The payment that the fields say is taken back.
+/// Returns the reversed payment that the fields name.
 fn original_in(fields: &Fields) -> Original
     ensures { result ≡ original_in fields.now }
 {
@@ -26,7 +26,7 @@ fn original_in(fields: &Fields) -> Original
     }
 }
 
-/// That no payment is taken back, or that it isn't one alone.
+/// Returns that no reversed payment is named, or more than one.
 fn not_once(count: usize) -> Original
     ensures { result ≡ cond (count == 0) Original.Absent Original.Many }
 {
@@ -37,7 +37,7 @@ fn not_once(count: usize) -> Original
     }
 }
 
-/// That no currency is named, or not one alone.
+/// Returns that no currency is named, or more than one.
 fn not_one(count: usize) -> CurrencyFact
     ensures { result ≡ cond (count == 0) CurrencyFact.Absent CurrencyFact.Many }
 {
@@ -58,7 +58,7 @@ pub fn currency_in(fields: &Fields) -> CurrencyFact
     }
 }
 
-/// What the fields of a status information say.
+/// Returns the values in the fields of a status information.
 fn facts_in(fields: &Fields) -> StatusFacts
     ensures { result ≡ facts_in_fields fields.now }
 {
@@ -73,7 +73,7 @@ fn facts_in(fields: &Fields) -> StatusFacts
 }
 
 /// Reduces a message to what matters to a till. Of its data, only the fields of a status information and the code of a
-/// refusal count.
+/// refusal are used.
 pub fn heard(apdu: &Apdu) -> Heard
     ensures { result ≡ heard_as apdu.now }
 {
@@ -96,7 +96,7 @@ pub fn heard(apdu: &Apdu) -> Heard
     }
 }
 
-/// The reversed payment, if BMP 37 appears exactly once.
+/// Returns the reversed payment, if BMP 37 appears exactly once.
 #[inline(always)]
 fn original_shown(single: &Single) -> Original
     ensures { (fields : List Field) → Says fields single.now → result ≡ original_in fields }
@@ -108,7 +108,7 @@ fn original_shown(single: &Single) -> Original
     }
 }
 
-/// The currency, if BMP 49 appears exactly once.
+/// Returns the currency, if BMP 49 appears exactly once.
 #[inline(always)]
 fn currency_named(single: &Single) -> CurrencyFact
     ensures { (fields : List Field) → Says fields single.now → result ≡ currency_in fields }
@@ -149,7 +149,7 @@ pub(crate) fn facts_shown(fields: &FieldsView<'_>) -> StatusFacts
     }
 }
 
-/// Classifies the message of a view for a till, as `heard` classifies a message.
+/// Reduces the message of a view to what matters to a till, like [`heard`].
 #[inline(always)]
 pub fn heard_view(apdu: &ApduView<'_>) -> Heard
     ensures { result ≡ heard_as apdu.now }

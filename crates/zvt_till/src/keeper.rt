@@ -43,7 +43,7 @@ pub trait Keeper: Machine {
     /// Whether the book failed.
     ghost failed: { Self → Bool };
 
-    /// An order was accepted with this message, or was not accepted.
+    /// The order was accepted with this message, or was not accepted.
     ghost orders: { Self → Order → Result Outgoing Untaken → Self → Type 0 };
 
     /// A line is up, or its record could not be added to the book.
@@ -73,7 +73,7 @@ pub trait Keeper: Machine {
     ghost frugal: { Self.wants_memory ≡ false };
 }
 
-/// A till alone keeps nothing besides its own state.
+/// A till alone keeps no state other than its own.
 impl Keeper for Till {
     ghost use Rattle.std.specs.Prelude.{refl};
     ghost use Rattle.zvt_till.specs.Keeping.{itself, never_failed, till_connects, till_follows, till_orders};

@@ -5,18 +5,17 @@ ghost use Rattle.zvt_till.specs.Cuttings.{LogsAreOne, CuttingsAgree};
 ghost use Rattle.zvt_till.specs.Laws.{NoApprovalDropped, NoReversalDropped, DoubtsStay, TracesStayDistinct};
 ghost use Rattle.zvt_till.specs.Laws.{EntriesStay};
 
-/// The state of a till after a log is what the log says, judged by whole orders.
+/// The state of a till after a log is the state that the log prescribes, judged by whole orders.
 pub fn steps_meet_log()
     ensures { StepsMeetLog }
 {}
 
-/// A payment that some status approved before its end is booked or left unclear.
+/// A payment that any status approved before its end is booked or unclear.
 pub fn no_approval_dropped()
     ensures { NoApprovalDropped }
 {}
 
-/// A reversal that has ended is marked as completed, or is known not to have reversed the payment itself, or is
-/// unclear.
+/// A reversal that has ended is marked as completed, is known not to have reversed the payment, or is unclear.
 pub fn no_reversal_dropped()
     ensures { NoReversalDropped }
 {}
@@ -26,12 +25,12 @@ pub fn doubts_stay()
     ensures { DoubtsStay }
 {}
 
-/// Whatever happens, no two entries of the book have one trace number.
+/// Whatever happens, no two entries of the book have the same trace number.
 pub fn traces_stay_distinct()
     ensures { TracesStayDistinct }
 {}
 
-/// Whatever happens, no entry leaves the book, and nothing of it changes except its mark and its doubt.
+/// Whatever happens, no entry leaves the book, and nothing in an entry changes except its mark and its doubt.
 pub fn entries_stay()
     ensures { EntriesStay }
 {}
@@ -41,8 +40,8 @@ pub fn logs_are_one()
     ensures { LogsAreOne }
 {}
 
-/// However the bytes of a line are cut into pieces, the log is the same: two pieces give the log of one piece with all
-/// their bytes.
+/// However the bytes of a line are divided into pieces, the log is the same: two pieces have the same log as one piece
+/// with all their bytes.
 pub fn cuttings_agree()
     ensures { CuttingsAgree }
 {}
@@ -53,19 +52,19 @@ pub fn runs_are_logged()
     ensures { RunsAreLogged }
 {}
 
-/// An order whose line broke extends the log by the order, by messages from a prefix of the bytes read, and by the
+/// An order whose line broke extends the log by the order, by the messages in a prefix of the bytes read, and by the
 /// fault.
 pub fn faults_are_logged()
     ensures { FaultsAreLogged }
 {}
 
-/// An accepted order whose message could not be written is in the log as sent, and then the connection was lost.
+/// An accepted order whose message could not be written is in the log as sent, followed by the loss of the connection.
 pub fn unsent_are_logged()
     ensures { UnsentAreLogged }
 {}
 
 /// However its orders end, a till that runs them one after another has the book of a log that continues its own, and
-/// the orders of that log are those that were not refused.
+/// the orders in that log are exactly the orders that were not refused.
 pub fn orders_are_logged()
     ensures { OrdersAreLogged }
 {}

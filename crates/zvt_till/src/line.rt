@@ -15,7 +15,7 @@ use zvt_apdu::{ApduView, MAX_BRIEF_LEN};
 use zvt_io::{Sink, Source};
 use zvt_stream::{Answers, LineFault, Machine, Stream, Until, pump, send};
 
-/// A till rests where no order runs. It never wants memory.
+/// A till is at rest while no order is running. It never runs out of memory.
 impl Machine for Till {
     ghost use Rattle.std.specs.Prelude.{false};
     ghost use Rattle.zvt_till.specs.Line.{till_hears, till_loses, till_malforms, till_rests};
@@ -108,11 +108,12 @@ pub fn send_order<W: Sink, K: Keeper>(
     Ok(())
 }
 
-/// Gives the till an order, and pumps the line until no order runs, for at most `turns` turns of one read each.
+/// Gives the till an order, and pumps the line until no order is running, for at most `turns` turns of one read each.
+/// Returns the outcome of the order.
 ///
-/// It returns what became of the order. A till with a book has each record in its book before anything follows from it:
-/// the order before its first byte is sent, and each message before its answer is sent and before its outcome is
-/// returned. Over a stream that was made by `Stream::reserved` no line breaks for want of memory.
+/// A till with a book records each event in its book before anything follows from it: the order before its first byte
+/// is sent, and each message before its answer is sent and before its outcome is returned. Over a stream from
+/// `Stream::reserved`, no line breaks because memory ran out.
 pub fn run_order<R: Source, W: Sink, K: Keeper>(
     alloc: Global,
     reader: &mut R,
@@ -131,9 +132,9 @@ pub fn run_order<R: Source, W: Sink, K: Keeper>(
         till.old till.new
         (R.remaining reader.old) (R.remaining reader.new) (W.written writer.old) (W.written writer.new)
         turns (R.reads reader.old) (R.reads reader.new)) }
-    // However it goes, it takes the place of one payment at most.
+    // Whatever the result, it uses the capacity of at most one payment.
     ensures room { (K.till till.old).spare ≤ (K.till till.new).spare + 1 }
-    // After a broken line, or a book that failed, it is known what became of the order.
+    // After a broken line, or a book that failed, the outcome of the order is known.
     ensures over { IfErr result (λ fault. IsOver fault (K.till till.new).state) }
     ensures reads { R.reads reader.new ≤ R.reads reader.old + turns }
     ensures frugal { IsReserved stream.old → IsErrOf result (RunFault.Line LineFault.Memory) → ⊥ }

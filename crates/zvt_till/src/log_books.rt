@@ -20,9 +20,9 @@ use zvt_bcd::{Amount, Currency, Trace};
 #[derive(Clone, Copy, Debug, PartialEq, Eq)]
 pub struct Booked {
     pub amount: Amount,
-    /// The terminal's number for it. No other row has this number.
+    /// The trace number that the terminal gave it. No other row has this number.
     pub trace: Trace,
-    /// The receipt number that the first status named.
+    /// The receipt number from the first status information.
     pub receipt: Option<[u8; 2]>,
 }
 
@@ -37,7 +37,7 @@ pub struct Books {
     pub(crate) used: UsedTraces,
 }
 
-/// A payment that has not ended: whether it had a positive answer, and what its statuses say.
+/// A payment that has not ended: whether it had a positive answer, and the meaning of its statuses so far.
 #[derive(Clone, Copy)]
 pub struct OpenPayment {
     pub amount: Amount,
@@ -47,7 +47,7 @@ pub struct OpenPayment {
     pub statuses: Statuses,
 }
 
-/// The order that this begins, if it does: any but Cancel.
+/// Returns the order that this event begins, if any. Cancel begins none.
 #[inline(always)]
 fn begun(happening: &Happening) -> Option<Sent>
     ensures { result ≡ begun happening.now }
@@ -59,7 +59,7 @@ fn begun(happening: &Happening) -> Option<Sent>
     }
 }
 
-/// The payment that the order begins under this currency, if it is one.
+/// Returns the payment that the order begins under this currency, if it is one.
 #[inline(always)]
 fn opened(currency: Option<Currency>, order: &Sent) -> Option<OpenPayment>
     ensures { result ≡ opened currency order.now }
@@ -76,7 +76,7 @@ fn opened(currency: Option<Currency>, order: &Sent) -> Option<OpenPayment>
 }
 
 impl OpenPayment {
-    /// Records what one more status says.
+    /// Records the meaning of one more status.
     #[inline(always)]
     pub(crate) fn note(&mut self, status: &StatusFacts)
         ensures amount { self.new.amount ≡ self.old.amount }
@@ -122,7 +122,7 @@ impl Books {
         }
     }
 
-    /// Records how a payment of this amount ended.
+    /// Records the outcome of a payment of this amount.
     fn write(&mut self, amount: Amount, outcome: &Outcome) -> Result<(), AllocError>
         requires { KnowsTraces self.old }
         ensures written { OnOk result (books_value self.new ≡ written (books_value self.old) amount outcome.now) }

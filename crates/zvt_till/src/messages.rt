@@ -7,10 +7,10 @@ use crate::orders::Outgoing;
 use zvt_apdu::Brief;
 use zvt_bcd::{Amount, Currency, Trace, is_digits, number};
 
-/// The answer code of a message that a till does not understand.
+/// Error code of the reply to a message that a till does not understand.
 const UNKNOWN_MESSAGE: u8 = 0x83;
 
-/// The payment that a status takes back, by its trace number (BMP 37), as three bytes that need not be digits.
+/// The payment that a status reverses, by its trace number (BMP 37), as three bytes that need not be digits.
 #[derive(Clone, Copy, Debug, PartialEq, Eq)]
 pub enum Original {
     Absent,
@@ -67,11 +67,11 @@ impl CurrencyFact {
     }
 }
 
-/// The facts of a status information. A field that appears more than once counts as absent, except that BMP 37 and BMP
-/// 49 tell that they do.
+/// The values of a status information (PA00P015, Status-Information). A field that appears more than once counts as
+/// absent, except that BMP 37 and BMP 49 report this.
 #[derive(Clone, Copy, Debug, PartialEq, Eq)]
 pub struct StatusFacts {
-    /// The result code (BMP 27), 0 where the terminal approves.
+    /// The result code (BMP 27), which is 0 if the terminal approves.
     pub result: Option<u8>,
     /// The amount (BMP 04).
     pub amount: Option<Amount>,
@@ -79,7 +79,7 @@ pub struct StatusFacts {
     pub trace: Option<Trace>,
     /// The receipt number (BMP 87) as read: two bytes, which need not be digits.
     pub receipt: Option<[u8; 2]>,
-    /// The payment taken back (BMP 37).
+    /// The reversed payment (BMP 37).
     pub original: Original,
     /// The currency (BMP 49).
     pub currency: CurrencyFact,
@@ -88,30 +88,30 @@ pub struct StatusFacts {
 /// A message of the terminal.
 #[derive(Clone, Copy, Debug, PartialEq, Eq)]
 pub enum Heard {
-    /// 80 00, or 84 00, which is no refusal either.
+    /// 80 00, or 84 00, which is not a refusal either.
     Positive,
     /// 84 and a code other than 0.
     Negative(u8),
-    /// A status information, 04 0F.
+    /// 04 0F (PA00P015, Status-Information).
     Status(StatusFacts),
-    /// What the till only acknowledges: intermediate status, print line, text block.
+    /// A message that the till only acknowledges: an intermediate status, a print line or a text block.
     Passing,
-    /// 06 0F, which ends an order.
+    /// 06 0F (PA00P015, Completion), which ends an order.
     Completion,
-    /// 06 1E with its code, which ends an order too.
+    /// 06 1E with its code (PA00P015, Abort), which also ends an order.
     Abort(u8),
     /// A message that no terminal sends to a till.
     Strange,
 }
 
-/// Whether these bytes are digits that spell the trace number.
+/// Returns whether these bytes are digits that spell the trace number.
 fn spells(digits: [u8; 3], trace: Trace) -> bool
     ensures { result ≡ spells digits trace }
 {
     is_digits(digits.as_slice()) && number(digits.as_slice()) == u64::from(trace.get())
 }
 
-/// Returns the immediate reply to a message, if it has one: an acknowledgement has none.
+/// Returns the immediate reply to a message, or `None` for an acknowledgement.
 pub fn reply_to(heard: &Heard) -> Option<Outgoing>
     ensures { result ≡ reply_to heard.now }
 {

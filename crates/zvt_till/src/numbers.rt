@@ -7,8 +7,8 @@ use crate::happenings::Happening;
 use crate::messages::Heard;
 use zvt_bcd::Trace;
 
-/// The trace and receipt numbers (BMP 0B and 87) from the status information of an order. If there were several, the
-/// last one counts.
+/// The trace and receipt numbers (BMP 0B and 87) from the status information of an order. If several numbers were
+/// named, the last one counts.
 #[derive(Clone, Copy, Debug, PartialEq, Eq)]
 pub struct Numbers {
     pub trace: Option<Trace>,
@@ -16,7 +16,7 @@ pub struct Numbers {
 }
 
 impl Numbers {
-    /// No numbers.
+    /// Returns no numbers.
     pub fn none() -> Numbers
         ensures { result ≡ no_numbers }
     {
@@ -26,7 +26,7 @@ impl Numbers {
         }
     }
 
-    /// These numbers and the ones of one more status, if this is one.
+    /// Returns these numbers, updated by one more status information if the event is one.
     pub(crate) fn with(self, happening: &Happening) -> Numbers
         ensures { result ≡ with_status self (status_of happening.now) }
     {

@@ -5,41 +5,41 @@ use std::fmt;
 use zvt_apdu::{Apdu, Brief, MAX_BRIEF_LEN, brief_message, put_brief};
 use zvt_bcd::Amount;
 
-/// An order to the till.
+/// An order for the till.
 #[derive(Clone, Copy, Debug, PartialEq, Eq)]
 pub enum Order {
-    /// Registers the till on its line, which every other order but Cancel needs.
+    /// Registers the till on its line, which every order except Cancel requires.
     Register,
-    /// A payment.
+    /// Pays this amount.
     Pay(Amount),
-    /// Takes back the payment at this place of the book, counted from 0.
+    /// Reverses the payment at this index of the book, counted from 0.
     Reverse(usize),
-    /// The end of the day.
+    /// Closes the day.
     CloseDay,
     /// Asks the terminal to abort the running order, which runs on until the terminal ends it.
     Cancel,
 }
 
-/// Why an order was not sent: the first of these that holds.
+/// Why an order was not sent. If several reasons apply, the first of this list is reported.
 #[derive(Clone, Copy, Debug, PartialEq, Eq)]
 pub enum OrderRefusal {
-    /// The line is down.
+    /// The till is not connected.
     Offline,
-    /// The till is not registered on this line. Register and Cancel need no registration.
+    /// The till is not registered on this line. Applies to all orders except Register and Cancel.
     NotRegistered,
-    /// Another order runs. Not for Cancel.
+    /// Another order is running. Does not apply to Cancel.
     Busy,
-    /// Cancel, where no order runs or the terminal has not taken it up yet.
+    /// Cancel: no order is running, or the terminal has not accepted it yet.
     NothingToCancel,
-    /// Pay, where the book or the unclear list is full.
+    /// Pay: the book or the list of unclear payments is full.
     BookFull,
-    /// Reverse, where the book has no such entry.
+    /// Reverse: the book has no such entry.
     UnknownEntry,
-    /// Reverse, where the entry is reversed.
+    /// Reverse: the entry is already reversed.
     AlreadyReversed,
-    /// Reverse, where the entry has no receipt number by which the terminal knows it.
+    /// Reverse: the entry has no receipt number, so the terminal could not find it.
     NoReceipt,
-    /// Pay, where no memory could be had to write the payment down later.
+    /// Pay: an allocation failed that is needed to record the payment later.
     Memory,
 }
 
@@ -47,7 +47,7 @@ impl OrderRefusal {
     ghost use Rattle.std.specs.Prelude.{◌≡◌};
     ghost use Rattle.zvt_till.specs.Names.{refusal_name, refusal_words};
 
-    /// The name of the refusal, as it is written in every output.
+    /// Returns the name of the refusal as every output writes it.
     pub fn name(self) -> &'static str
         ensures { result.now ≡ refusal_name self }
     {
@@ -64,7 +64,7 @@ impl OrderRefusal {
         }
     }
 
-    /// Says in words why the order was not sent.
+    /// Returns a sentence that explains why the order was not sent.
     pub fn words(self) -> &'static str
         ensures { result.now ≡ refusal_words self }
     {
@@ -102,7 +102,7 @@ impl fmt::Display for OrderRefusal {
 /// A message that the till sends.
 #[derive(Clone, Copy, Debug, PartialEq, Eq)]
 pub struct Outgoing {
-    /// The values that it is made of.
+    /// The values of the message.
     pub brief: Brief,
 }
 
@@ -110,8 +110,8 @@ impl Outgoing {
     ghost use Rattle.std.specs.Prelude.{◌≡◌, ◌≤◌, IfOk};
     ghost use Rattle.zvt_apdu.specs.Briefs.{message_of_brief, PutsMessage};
 
-    /// Writes its bytes from the start of the buffer, and returns how many. They always fit, and the bytes after them
-    /// stay.
+    /// Writes its bytes to the start of the buffer, and returns their number. They always fit. The rest of the buffer
+    /// does not change.
     pub fn put(&self, buffer: &mut [u8; MAX_BRIEF_LEN]) -> usize
         ensures written { PutsMessage (message_of_brief self.now.brief) buffer.old buffer.new result }
         ensures fits { result ≤ 32 }
@@ -119,7 +119,7 @@ impl Outgoing {
         put_brief(&self.brief, buffer)
     }
 
-    /// The message itself.
+    /// Returns the message itself.
     pub fn message(&self, alloc: Global) -> Result<Apdu, AllocError>
         ensures { IfOk result (λ apdu. apdu ≡ message_of_brief self.now.brief) }
     {
@@ -127,7 +127,8 @@ impl Outgoing {
     }
 }
 
-/// The reaction to a terminal's message: the answer, and the outcome of the running order if the message ended it.
+/// The till's reaction to a terminal's message: the reply, and the outcome of the running order if the message ended
+/// it.
 #[derive(Clone, Copy, Debug, PartialEq, Eq)]
 pub struct Reply {
     pub send: Option<Outgoing>,

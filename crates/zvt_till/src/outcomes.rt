@@ -1,6 +1,6 @@
-//! How an order ends.
+//! The outcomes of orders.
 //!
-//! The outcomes of a payment are `#[inline(always)]`: an audit calls for one at the end of each payment.
+//! The outcomes of a payment are `#[inline(always)]`, because an audit computes one at the end of each payment.
 ghost use Rattle.std.specs.Prelude.{◌≡◌, List};
 ghost use Rattle.zvt_till.specs.Outcomes.{payment_outcome, reversal_outcome, closing_outcome, completion_outcome};
 ghost use Rattle.zvt_till.specs.Outcomes.{broken_outcome, outcome_by};
@@ -18,23 +18,23 @@ use zvt_bcd::Trace;
 /// Why the outcome of an order is unknown.
 #[derive(Clone, Copy, Debug, PartialEq, Eq)]
 pub enum Cause {
-    /// It was completed without a status.
+    /// The order was completed without a status.
     NoStatus,
     /// A status has no single result code, refers to a different payment, or contradicts the first status.
     Conflict,
     /// A status does not name the amount.
     AmountDiffers,
-    /// A status does not name a trace number, or for a reversal that of the payment.
+    /// A status does not name a trace number or, for a reversal, does not name the payment's.
     NoTrace,
-    /// The trace number is that of an entry of the book.
+    /// The trace number already belongs to an entry of the book.
     TraceUsed,
-    /// It was broken off after a status that was no decline.
+    /// The order was broken off after a status that was not a decline.
     AbortAfterApproval,
     /// The connection was lost.
     Line,
-    /// What came on the line was no message.
+    /// The bytes on the line were not a message.
     Malformed,
-    /// It has no end yet. Never in a till.
+    /// The order has not ended yet. A till never returns this.
     Unfinished,
     /// A status names a currency other than the one in force, or more than one.
     WrongCurrency,
@@ -102,18 +102,18 @@ impl fmt::Display for Cause {
 #[derive(Clone, Copy, Debug, PartialEq, Eq)]
 pub enum Outcome {
     Registered,
-    /// Booked under this trace number, with the receipt number of the first status.
+    /// The payment was booked under this trace number, with the receipt number of the first status.
     Paid {
         trace: Trace,
         receipt: Option<[u8; 2]>,
     },
     /// The terminal completed the order, but every status declined it. Contains the result code of the first one.
     Declined(u8),
-    /// The terminal refused it with this code.
+    /// The terminal refused the order with this code.
     Refused(u8),
     /// The terminal aborted the order with this code, and every status before that, if any, was a decline.
     Aborted(u8),
-    /// It may or may not have happened. A payment is then in the list of unclear payments.
+    /// It is unknown whether the order took effect. A payment is then in the list of unclear payments.
     Unclear(Cause),
     Reversed,
     DayClosed,
@@ -139,7 +139,7 @@ fn payment_outcome(used: &UsedTraces, so_far: Statuses) -> Outcome
     }
 }
 
-/// How a completed reversal ends.
+/// Returns the outcome of a completed reversal.
 fn reversal_outcome(so_far: Statuses) -> Outcome
     ensures { result ≡ reversal_outcome so_far }
 {
@@ -151,7 +151,7 @@ fn reversal_outcome(so_far: Statuses) -> Outcome
     }
 }
 
-/// How a completed end of day ends.
+/// Returns the outcome of a completed end of day.
 fn closing_outcome(so_far: Statuses) -> Outcome
     ensures { result ≡ closing_outcome so_far }
 {
@@ -162,7 +162,7 @@ fn closing_outcome(so_far: Statuses) -> Outcome
     }
 }
 
-/// How an order ends by a completion.
+/// Returns the outcome of an order that is completed.
 #[inline(always)]
 fn completion_outcome(used: &UsedTraces, order: &Order, so_far: Statuses) -> Outcome
     ensures { (book : List Entry) → AreTracesOf used.now book → result ≡ completion_outcome book order.now so_far }

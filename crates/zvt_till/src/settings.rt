@@ -5,9 +5,9 @@ use zvt_bcd::Currency;
 /// The password, the configuration byte and the currency of a till.
 #[derive(Clone, Copy, Debug, PartialEq, Eq)]
 pub struct TillSettings {
-    /// The password: six digits, two to a byte.
+    /// The password: six digits, two per byte.
     pub password: [u8; 3],
-    /// The configuration byte of a registration.
+    /// The configuration byte of a registration (PA00P015, Registration).
     pub config: u8,
     /// The currency of its registrations and payments.
     pub currency: Currency,

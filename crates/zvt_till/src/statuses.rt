@@ -24,7 +24,7 @@ impl Charge {
     ghost use Rattle.std.specs.Prelude.{◌≡◌};
     ghost use Rattle.zvt_till.specs.Statuses.{is_value};
 
-    /// Whether this is the charged amount.
+    /// Returns whether this is the charged amount.
     fn is_amount(&self, named: Option<Amount>) -> bool
         ensures { result ≡ is_value named self.now.amount }
     {
@@ -58,7 +58,7 @@ pub enum Statuses {
     Fault(Cause),
 }
 
-/// The running order: whether it had a positive answer, and what its statuses say so far.
+/// The running order: whether it had a positive answer, and the meaning of its statuses so far.
 #[derive(Clone, Copy)]
 pub struct Running {
     pub order: Order,
@@ -66,7 +66,7 @@ pub struct Running {
     pub statuses: Statuses,
 }
 
-/// Whether these are the same number, or both none.
+/// Returns whether both are the same number, or both none.
 #[inline(always)]
 fn same_trace(one: &Option<Trace>, other: &Option<Trace>) -> bool
     ensures { result ≡ same_trace one.now other.now }
@@ -74,7 +74,7 @@ fn same_trace(one: &Option<Trace>, other: &Option<Trace>) -> bool
     one == other
 }
 
-/// The class of a status that names one result, and that no decline.
+/// Returns the class of a status that names one result, which is not a decline.
 #[inline(always)]
 fn class_undeclined(demand: &Demand, status: &StatusFacts) -> Class
     ensures { result ≡ class_undeclined demand.now status.now }
@@ -163,7 +163,8 @@ pub(crate) fn note(demand: &Option<Demand>, so_far: Statuses, status: &StatusFac
     }
 }
 
-/// Returns what the order's statuses are compared with, given the currency in force. A registration demands nothing.
+/// Returns the values with which the order's statuses have to agree, given the currency in force. A registration
+/// demands nothing.
 pub fn demand_of(currency: Option<Currency>, book: &[Entry], order: &Order) -> Option<Demand>
     ensures { result ≡ demand_of currency book.now order.now }
 {

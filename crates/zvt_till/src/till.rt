@@ -19,7 +19,7 @@ use std::alloc::Global;
 use std::marker::Model;
 use zvt_bcd::{Amount, Currency};
 
-/// The largest number of entries in the book, and of unclear payments.
+/// Maximum number of entries in the book, and of unclear payments.
 pub const MAX_BOOK_ENTRIES: usize = 10_000;
 
 /// A till: the state of its connection, the order in progress, and its book of payments. It talks to one terminal at
@@ -39,7 +39,7 @@ pub struct Till {
     last_outcome: Option<Outcome>,
     /// The numbers that the terminal named in the last order.
     numbers: Numbers,
-    /// The numbers that it named in each unclear payment.
+    /// The numbers that the terminal named for each unclear payment.
     heard: Vec<Numbers>,
 }
 
@@ -65,8 +65,8 @@ impl Till {
     ghost use Rattle.zvt_till.specs.Numbers.{no_numbers, numbers_after, with_status_of};
     ghost use Rattle.zvt_till.specs.Segments.{status_of};
 
-    /// Creates a till with an empty book, whose line is down. The password and the configuration byte are sent in
-    /// registrations as they are.
+    /// Creates a till with an empty book, which is not connected. Registrations contain the password and the
+    /// configuration byte unchanged.
     pub fn new(alloc: Global, password: [u8; 3], config: u8, currency: Currency) -> Till
         ensures state { result.state ≡ new_till (record { password = password; config = config; currency = currency }) }
         ensures numbers { result.numbers ≡ no_numbers }
@@ -153,8 +153,9 @@ impl Till {
         self.unclear.as_slice()
     }
 
-    /// Returns the numbers that the terminal named in each unclear payment, row by row of [`unclear`](Till::unclear).
-    /// Of payments that became unclear before the till was restored from a snapshot it names none.
+    /// Returns the numbers that the terminal named for each unclear payment, in the order of
+    /// [`unclear`](Till::unclear). They are missing for payments that became unclear before the till was restored from
+    /// a snapshot.
     pub fn heard(&self) -> &[Numbers]
         ensures numbers { result.now ≡ self.now.heard }
         ensures rows { length result.now ≡ length self.now.state.unclear }
@@ -162,7 +163,7 @@ impl Till {
         self.heard.as_slice()
     }
 
-    /// Returns the number of entries with an unclear reversal, whose `doubt` is `Unclear`.
+    /// Returns the number of entries with an unclear reversal, that is, whose `doubt` is `Unclear`.
     pub fn unclear_reversals(&self) -> usize
         ensures { result ≡ length (unclear_reversals self.now.state.book) }
     {
@@ -208,7 +209,7 @@ impl Till {
         self.registered
     }
 
-    /// Returns how the last order ended.
+    /// Returns the outcome of the last order.
     pub fn last_outcome(&self) -> Option<Outcome>
         ensures { result ≡ self.now.state.last_outcome }
     {
@@ -339,7 +340,7 @@ impl Till {
         outcome
     }
 
-    /// Gives up the line because its bytes were no message.
+    /// Gives up the line because its bytes were not a message. Returns the outcome of the running order, if any.
     pub fn malformed(&mut self) -> Option<Outcome>
         ensures state { self.new.state ≡ step self.old.state Happening.Malformed }
         ensures room { KeepsRoom self.old self.new }

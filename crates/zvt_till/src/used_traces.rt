@@ -5,7 +5,7 @@ use std::alloc::{AllocError, Global};
 use std::marker::Model;
 use zvt_bcd::Trace;
 
-/// The words that hold a bit for each number from 0 to 999,999.
+/// The number of words with a bit for each number from 0 to 999,999.
 const WORDS: usize = 15_625;
 
 /// The set of trace numbers in use. It allocates its 125,000 bytes at once, so looking a number up and inserting one

@@ -27,13 +27,13 @@ pub fn sized_tests_decide()
     ensures one { SizedPositionsAreOne }
 {}
 
-/// The answers whole, more and refused exclude each other, and a refusal has one place and one reason.
+/// The results whole, more and refused exclude each other, and a refusal has one place and one reason.
 pub fn answers_are_one()
     ensures rooms { AnswersAreOne }
     ensures sized { SizedAnswersAreOne }
 {}
 
-/// Later bytes change no answer except more.
+/// Further bytes change no result except `More`.
 pub fn answers_stay()
     ensures rooms { AnswersStay }
     ensures sized { SizedAnswersStay }
@@ -46,7 +46,7 @@ pub fn spellings_end_themselves()
     ensures sized { SizedEndThemselves }
 {}
 
-/// In the shortest reading each value has exactly one encoding.
+/// In the shortest reading, each value has exactly one encoding.
 pub fn spellings_are_one()
     ensures objects { SpellingsAreOne }
     ensures sized { SizedSpellingsAreOne }

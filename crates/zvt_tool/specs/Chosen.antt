@@ -1,4 +1,4 @@
--- What the words of a command line choose.
+-- The choice that a command line names.
 use Rattle.std.specs.Prelude.{◌≡◌, ◌≢◌, ◌⊎◌, ⊤, List, [], Option, Some, None, codes, map}
 use Rattle.clap.specs.Words.{IsAmong, Kinds, Row, Text, fault_of, kind_of, subcommand_of}
 use Rattle.clap.specs.declared.error.Error.{Error}
@@ -18,15 +18,15 @@ use Rattle.zvt_tool.specs.declared.choices.ChoiceFault.{ChoiceFault}
 use Rattle.zvt_tool.specs.declared.choices.ChoiceFault.TheVariants.{Memory, Words}
 use Rattle.zvt_tool.specs.declared.trace_command.TraceWork.TheVariants.{Render}
 
--- the command of clap's reading of the words, with what was given to it
+-- the command in the words that clap parsed, with its arguments
 unfoldable pub reading_of_arguments : List Text → Option (Text × List Row)
 reading_of_arguments words = subcommand_of zvt_app words
 
--- what clap finds wrong with the words first, or what they ask of it in place of a command
+-- the first error that clap finds in the words, or a request for help or the version
 unfoldable pub faults_of_arguments : List Text → Kinds
 faults_of_arguments words = fault_of zvt_app words
 
--- the command of this name, given these, is the choice
+-- the command with this name and these arguments is the choice
 abbrev pub IsCommandOf : Text → List Row → Choice → Type 0
 IsCommandOf name rows (Show command) = (name ≡ codes "show") × IsRendering rows style.Show style.Json command
 IsCommandOf name rows (Join command) = (name ≡ codes "join") × IsTraceCommandOf rows (Render style.Join) Shortest command
@@ -51,33 +51,33 @@ IsCommandOf name rows (Play options) = (name ≡ codes "play") × ArePlayOptions
 IsCommandOf name rows (CheckTill options) = (name ≡ codes "check-till") × AreCheckOptionsOf (codes "listen") rows options
 IsCommandOf name rows (CheckTerminal options) = (name ≡ codes "check-terminal") × AreCheckOptionsOf (codes "port") rows options
 
--- the name of no command but those that play situations
+-- a name that belongs to no command, except perhaps to one that plays situations
 abbrev pub PlaysAtMost : Text → Type 0
 PlaysAtMost name =
     (name ≢ codes "show") × (name ≢ codes "join") × (name ≢ codes "normalise") × (name ≢ codes "audit")
     × (name ≢ codes "receipts") × (name ≢ codes "vectors") × (name ≢ codes "book") × (name ≢ codes "loop")
     × (name ≢ codes "till") × (name ≢ codes "terminal") × (name ≢ codes "tap") × (name ≢ codes "play")
 
--- no command is `show`
+-- without a command, the choice is `show`
 abbrev pub IsChoiceOf : Option (Text × List Row) → Choice → Type 0
 IsChoiceOf None choice = IsCommandOf (codes "show") [] choice
 IsChoiceOf (Some given) choice = IsCommandOf given.0 given.1 choice
 
--- no choice is what the reading says
+-- the parsed words name no choice
 abbrev pub HasNoChoice : Option (Text × List Row) → Type 0
 HasNoChoice reading = (choice : Choice) → IsChoiceOf reading choice → ⊥
 
--- what the reading says, or that it says none
+-- the choice that the parsed words name, or none
 abbrev pub MayBeChoiceOf : Option (Text × List Row) → Option Choice → Type 0
 MayBeChoiceOf reading (Some choice) = IsChoiceOf reading choice
 MayBeChoiceOf reading None = HasNoChoice reading
 
--- an error of clap, where out of memory has a fault of its own
+-- an error of clap; out of memory has a fault of its own
 abbrev pub IsTakenAs : Error → ChoiceFault → Type 0
 IsTakenAs error Memory = kind_of error ≡ OutOfMemory
 IsTakenAs error (Words given) = (given ≡ error) × (kind_of error ≢ OutOfMemory)
 
--- the error's kind is what clap finds, or an option is missing of a reading that says no choice
+-- the kind of the error is the one that clap finds, or an option is missing in words that name no choice
 abbrev pub IsFaultOf : List Text → ChoiceFault → Type 0
 IsFaultOf words Memory = ⊤
 IsFaultOf words (Words error) = IsAmong (kind_of error) (faults_of_arguments words)

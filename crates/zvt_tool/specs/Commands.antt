@@ -13,11 +13,11 @@ use Rattle.zvt_tool.specs.TraceCommands.{audit_app, join_app, normalise_app, rec
 abbrev pub program_app : App
 program_app = on_top (λ top. record top { has_version = true }) (new_app (codes "zvt"))
 
--- with one more command
+-- the same with one more command
 abbrev pub with_command : App → App → App
 with_command app command = with_subcommand app command.top
 
--- with these commands besides
+-- the same with these additional commands
 abbrev pub with_commands : App → List App → App
 with_commands app [] = app
 with_commands app (command ∷ commands) = with_commands (with_command app command) commands

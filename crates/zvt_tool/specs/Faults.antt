@@ -1,4 +1,4 @@
--- The faults of the library's calls, by those of traces and of runs, and what the calls answer.
+-- The faults of the library's calls, from the faults of traces and of runs, and the results of the calls.
 use Rattle.std.specs.Prelude.{◌≡◌, ℕ, Bool, false, List, Option, Result, Ok, Err, Vec}
 use Rattle.std.specs.Global.{Global}
 use Rattle.std.specs.Io.KnownBytes.{Keeps}
@@ -56,7 +56,7 @@ in_run (Err fault) = Err (fault_of_run fault)
 abbrev pub Renders : Reading → Style → (trace : List ℕ) → (old new : Option (List ℕ)) → Result Tally ToolFault → Type 0
 Renders r style trace old new result = (answer : Result Tally TraceFault) × AnswersTraceBy r style trace old new answer × (result ≡ in_trace answer)
 
--- its books were written
+-- the books of a trace were written
 abbrev pub Audits : Reading → (trace : List ℕ) → (old new : Option (List ℕ)) → Result Tally ToolFault → Type 0
 Audits r trace old new result = (answer : Result Tally TraceFault) × AnswersAuditBy r trace old new answer × (result ≡ in_trace answer)
 
@@ -66,19 +66,19 @@ Checks text old new result = (answer : Result Tally TraceFault) × AnswersVector
 
 -- ---- runs
 
--- the steps are written as text, and none has to succeed
+-- a run that writes text and does not check its steps
 abbrev pub plain : StepOptions
 plain = record { form = Text; check = false }
 
--- The steps of a plan were made, or a word names no step: then nothing is written.
+-- The steps of a plan were made; or a word names no step, and then nothing is written.
 abbrev pub MakesPlan : (old new : Option (List ℕ)) → (List Planned → Result Unit EndFault → Type 0) → Result (Vec Planned Global) EndFault → Result Unit ToolFault → Type 0
 MakesPlan old new Runs (Ok plan) result = (answer : Result Unit EndFault) × Runs plan.items answer × (result ≡ in_run answer)
 MakesPlan old new Runs (Err fault) result = (result ≡ Err (fault_of_run fault)) × Keeps old new
 
--- what a run answers of the steps that these words name
+-- the result of a run of the steps that these words name
 abbrev pub MakesWords : Ends → (words : List (List ℕ)) → (old new : Option (List ℕ)) → (List Planned → Result Unit EndFault → Type 0) → Result Unit ToolFault → Type 0
 MakesWords ends words old new Runs result = (planned : Result (Vec Planned Global) EndFault) × PlansOrStops ends (words_of ends words) planned × MakesPlan old new Runs planned result
 
--- what a terminal answers that serves one till
+-- the result of a terminal that serves one till
 abbrev pub ServesOne : (loose : Bool) → (tid : ℕ) → Verdict → Result Unit ToolFault → Type 0
 ServesOne loose tid verdict result = (answer : Result Unit EndFault) × AnswersService (reading_of (lengths_by loose)) 1 tid verdict answer × (result ≡ in_run answer)

@@ -1,4 +1,4 @@
--- What is written of a vector that the reader answers otherwise.
+-- The output for a vector that differs from the reader's result.
 use Rattle.std.specs.Prelude.{◌≡◌, ℕ, List, [], ◌∷◌, ◌++◌, codes, refl}
 use Rattle.std.specs.Fmt.{decimal, digits}
 use Rattle.json.specs.Print.{escape_byte}
@@ -7,14 +7,14 @@ use Rattle.zvt_json.specs.Strings.{count_value, line_text}
 use Rattle.zvt_text.specs.declared.form.Form.{Form}
 use Rattle.zvt_text.specs.declared.form.Form.TheVariants.{Text, Json}
 
--- the line of that number, and what the reader answers
+-- the number of the vector's line, and the reader's result
 abbrev pub got_text : (number : ℕ) → (answer : List ℕ) → List ℕ
 got_text number answer = codes "line " ++ decimal number ++ codes ": got " ++ answer ++ 10 ∷ []
 
 abbrev pub got_value : (number : ℕ) → (answer : List ℕ) → Data
 got_value number answer = object (member (codes "got") (string answer) (member (codes "line") (count_value number) no_members))
 
--- the line in that form
+-- the line in this form
 abbrev pub got_in : Form → (number : ℕ) → (answer : List ℕ) → List ℕ
 got_in Text number answer = got_text number answer
 got_in Json number answer = line_text (got_value number answer)

@@ -1,4 +1,4 @@
--- Labels at the head of lines.
+-- Labels at the beginning of lines.
 use Rattle.std.specs.Prelude.{◌≡◌, false, true, ℕ, ◌==◌, List, [], ◌∷◌, ◌++◌, codes, if◌then◌else◌, refl}
 use Rattle.json.specs.Print.{escape_byte}
 use Rattle.serde_json.specs.Data.{string}
@@ -17,16 +17,16 @@ comment_label = record { text = codes "# "; replaces = false }
 abbrev pub json_label : List ℕ → Label
 json_label file = record { text = codes "{\"file\":" ++ compact_text (string file) ++ codes ","; replaces = true }
 
--- what a line begins with: the label, and its first byte where the label does not replace it
+-- the beginning of a line: the label, and its first byte unless the label replaces it
 abbrev pub line_head : Label → (first : ℕ) → List ℕ
 line_head label first = label.text ++ (if label.replaces then [] else first ∷ [])
 
--- the bytes after that one, with the label at the head of each line
+-- the bytes after this one, with the label at the beginning of each line
 abbrev pub labelled : Label → (before : ℕ) → List ℕ → List ℕ
 labelled label before [] = []
 labelled label before (byte ∷ bytes) = (if before == 10 then line_head label byte else byte ∷ []) ++ labelled label byte bytes
 
--- two lines, of which the second has no end yet
+-- two lines, the second without a line feed
 two_lines : labelled (text_label (codes "a")) 10 (120 ∷ 10 ∷ 121 ∷ []) ≡ codes "a: x" ++ 10 ∷ codes "a: y"
 two_lines = refl
 

@@ -1,4 +1,4 @@
--- What the commands on a trace answer.
+-- The results of the commands on a trace.
 use Rattle.std.specs.Prelude.{ℕ, List, Option, Result, Ok, Err, IfSome}
 use Rattle.std.specs.Io.KnownBytes.{Consumes}
 use Rattle.std.specs.Str.Lines.{lines}
@@ -21,22 +21,22 @@ abbrev pub tally_of : Result AuditSummary TraceFault → Result Tally TraceFault
 tally_of (Ok found) = Ok found.tally
 tally_of (Err fault) = Err fault
 
--- what is answered and written of a trace by these lengths
+-- the result and the output for a trace, with these lengths
 abbrev pub AnswersWork : TraceWork → Reading → Scope → (trace : List ℕ) → (old new : Option (List ℕ)) → Result AuditSummary TraceFault → Type 0
 AnswersWork (Render style) r scope trace old new result = AnswersLinesBy r scope style (lines trace) old new (tally_of result)
 AnswersWork (Audit form) r scope trace old new result = AnswersReadBy r form trace old new result
 AnswersWork (Vectors form) r scope trace old new result = AnswersVectors form trace old new (tally_of result)
 
--- what the command answers for a trace that was read
+-- the result of the command for a trace that was read
 abbrev pub AnswersOnTrace : TraceCommand → (trace : List ℕ) → (old new : Option (List ℕ)) → Result AuditSummary TraceFault → Type 0
 AnswersOnTrace command trace old new result = AnswersWork command.work (reading_of command.lengths) (text_scope command.resync) trace old new result
 
--- what is answered and written of a trace that comes, by these lengths; vectors are read whole
+-- the result and the output for a trace that is being read, with these lengths; vectors are read completely first
 abbrev pub FollowsWork : TraceWork → Reading → Scope → (left rest old new : Option (List ℕ)) → Result AuditSummary TraceFault → Type 0
 FollowsWork (Render style) r scope left rest old new result = (taken : List ℕ) × Consumes left rest taken × AnswersFollow r scope style taken rest old new (tally_of result)
 FollowsWork (Audit form) r scope left rest old new result = (taken : List ℕ) × Consumes left rest taken × AnswersFollowed r form taken rest old new result
 FollowsWork (Vectors form) r scope left rest old new result = IfSome left (λ text. AnswersVectors form text old new (tally_of result))
 
--- what the command answers for a trace that comes
+-- the result of the command for a trace that is being read
 abbrev pub FollowsTrace : TraceCommand → (left rest old new : Option (List ℕ)) → Result AuditSummary TraceFault → Type 0
 FollowsTrace command left rest old new result = FollowsWork command.work (reading_of command.lengths) (text_scope command.resync) left rest old new result

@@ -1,4 +1,4 @@
--- The options of the commands, as `clap` sees them, and what their values mean.
+-- The options of the commands, as `clap` sees them, and the meaning of their values.
 use Rattle.std.specs.Prelude.{◌≡◌, [], ◌∷◌, ◌==◌, if◌then◌else◌, ℕ, Bool, List, Some, ⊤, codes, map, true, false, pos}
 use Rattle.clap.specs.Words.{App, Rule, Text, new_app, new_rule, with_rule}
 use Rattle.clap.specs.declared.builder.arg.Arg.{Arg}
@@ -16,7 +16,7 @@ use Rattle.zvt_tool.specs.declared.options.CommandRow.{CommandRow}
 abbrev pub several_rule : Text → Rule
 several_rule name = record (new_rule name) { action = Some Append; value_names = 1 }
 
--- words of which one has to be there
+-- at least one word
 abbrev pub book_files_rule : Rule
 book_files_rule = record (several_rule (codes "file")) { required = true }
 
@@ -24,19 +24,19 @@ book_files_rule = record (several_rule (codes "file")) { required = true }
 abbrev pub flag_rule : Text → Rule
 flag_rule name = record (new_rule name) { long = Some name; action = Some SetTrue }
 
--- an option that has one value
+-- an optional option with one value
 abbrev pub option_rule : Text → Rule
 option_rule name = record (new_rule name) { long = Some name; value_names = 1 }
 
--- an option that has the number of a TCP port
+-- an optional TCP port
 abbrev pub port_option_rule : Text → Rule
 port_option_rule name = record (option_rule name) { parser = Some (parser.Signed (pos 0) (pos 65535)) }
 
--- an option that has the number of a TCP port and has to be there
+-- a required TCP port
 abbrev pub needed_port_rule : Text → Rule
 needed_port_rule name = record (port_option_rule name) { required = true }
 
--- an option that has one value and has to be there
+-- a required option with one value
 abbrev pub needed_rule : Text → Rule
 needed_rule name = record (option_rule name) { required = true }
 
@@ -49,14 +49,14 @@ tid_rule = record (option_rule (codes "tid")) {
   defaults = codes "12345678" ∷ [];
 }
 
--- an option that has a number, and this one where it is not given
+-- a number, which defaults to this one
 abbrev pub number_rule : (name default : Text) → Rule
 number_rule name default = record (option_rule name) {
   parser = Some (parser.Signed (pos 0) (pos 65535));
   defaults = default ∷ [];
 }
 
--- an option, by what it is
+-- an option, by its kind
 abbrev pub rule_for : CommandOption → Rule
 rule_for (option.Several name value text) = several_rule name.now
 rule_for (option.BookFiles text) = book_files_rule
@@ -69,12 +69,12 @@ rule_for (option.Host text) = host_rule
 rule_for (option.Tid text) = tid_rule
 rule_for (option.Number name value default text) = number_rule name.now default.now
 
--- the options are those of their command alone
+-- the options belong to their command alone
 abbrev pub AreLocal : List Arg → Type 0
 AreLocal [] = ⊤
 AreLocal (option ∷ options) = (option.global ≡ false) × AreLocal options
 
--- a command with these options besides
+-- a command with these additional options
 abbrev pub with_rules : App → List Rule → App
 with_rules app [] = app
 with_rules app (rule ∷ rules) = with_rules (with_rule app rule) rules
@@ -97,6 +97,6 @@ abbrev pub form_by : (is_json : Bool) → Form
 form_by false = form.Text
 form_by true = form.Json
 
--- how many connections are taken: 0 stands for no end
+-- the number of connections to accept; 0 means any number
 abbrev pub connections_by : ℕ → ℕ
 connections_by number = if number == 0 then 18446744073709551615 else number

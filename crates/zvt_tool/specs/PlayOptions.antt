@@ -17,7 +17,7 @@ play_app = command_app (codes "play") (
     flag_rule (codes "loose") ∷
     [])
 
--- the options of `play` that the words give
+-- the options of `play` in the parsed words
 pub record ArePlayOptionsOf (rows : List Row) (options : PlayOptions) : Type 0 where
   pub till : IsTextOf (codes "till") rows options.till
   pub terminal : IsTextOf (codes "terminal") rows options.terminal
@@ -26,7 +26,7 @@ pub record ArePlayOptionsOf (rows : List Row) (options : PlayOptions) : Type 0 w
   pub host : first_of (codes "host") rows ≡ Some options.host.now
   pub loose : IsFlagOf (codes "loose") rows options.loose
 
--- a command of this name that plays situations, over connections of the port with that name
+-- a command with this name that plays situations, over connections of the port with that name
 abbrev pub check_app : Text → Text → App
 check_app name port = command_app name (
     needed_port_rule port ∷
@@ -36,7 +36,7 @@ check_app name port = command_app name (
     several_rule (codes "file") ∷
     [])
 
--- the options of a command that plays situations, whose port has this name
+-- the options of a command that plays situations and whose port has this name
 pub record AreCheckOptionsOf (port : Text) (rows : List Row) (options : CheckOptions) : Type 0 where
   pub gives_port : GivesNumber port rows 65535 options.port
   pub host : first_of (codes "host") rows ≡ Some options.host.now

@@ -17,12 +17,12 @@ use Rattle.zvt_journal.specs.declared.error.JournalFileError.TheVariants as on_f
 use Rattle.zvt_kept.specs.declared.recovery.RecoveryError.{RecoveryError}
 use Rattle.zvt_kept.specs.declared.recovery.RecoveryError.TheVariants as on_records
 
--- 1 where a stream of the trace was refused or cut off
+-- 1 if a stream of the trace was refused or cut off
 abbrev pub status_of_bad : ℕ → ℕ
 status_of_bad zero = 0
 status_of_bad (suc bad) = 1
 
--- out of memory is 5 wherever it comes, and each other break of a line is 4
+-- running out of memory is always 5, and any other break of a line is 4
 abbrev pub status_of_line : LineFault → ℕ
 status_of_line NoMemory = 5
 status_of_line ReadBroke = 4
@@ -32,7 +32,7 @@ status_of_line Turns = 4
 status_of_line (Malformed place why) = 4
 status_of_line Stopped = 4
 
--- what is no trace is 3, a device that failed 4, out of memory 5
+-- a text that is not a trace is 3, a failed device 4, running out of memory 5
 abbrev pub status_of_trace_fault : TraceFault → ℕ
 status_of_trace_fault (on_trace.Trace line what) = 3
 status_of_trace_fault on_trace.TooLong = 3
@@ -40,7 +40,8 @@ status_of_trace_fault on_trace.Read = 4
 status_of_trace_fault on_trace.Write = 4
 status_of_trace_fault on_trace.Memory = 5
 
--- a step that did not succeed is 1, a wrong word 2, a device, a line, its trace, a book or a connection that failed 4, out of memory 5
+-- a step that did not succeed is 1, a wrong word 2, a failed device, line, trace, book or connection 4, running out of
+-- memory 5
 abbrev pub status_of_end_fault : EndFault → ℕ
 status_of_end_fault at_end.Unsuccessful = 1
 status_of_end_fault (at_end.BadStep at) = 2
@@ -52,12 +53,12 @@ status_of_end_fault (at_end.Silent seconds) = 4
 status_of_end_fault at_end.Write = 4
 status_of_end_fault at_end.Memory = 5
 
--- a call on a file that failed is 4, one that wanted memory 5
+-- a failed call on a file is 4, and 5 if memory ran out
 abbrev pub status_of_call : ErrorKind → ℕ
 status_of_call OutOfMemory = 5
 status_of_call _ = 4
 
--- a file that is no journal is 3, one that can't be had 4, out of memory 5
+-- a file that is not a journal is 3, a file that cannot be opened 4, running out of memory 5
 abbrev pub status_of_file_error : JournalFileError → ℕ
 status_of_file_error on_file.InUse = 4
 status_of_file_error on_file.Displaced = 4
@@ -71,7 +72,7 @@ status_of_file_error (on_file.FolderNotSynced error) = status_of_call (error_kin
 status_of_file_error (on_file.Io error) = status_of_call (error_kind error)
 status_of_file_error on_file.Memory = 5
 
--- records that are no till's are 3, out of memory 5
+-- records that restore no till are 3, running out of memory 5
 abbrev pub status_of_recovery : RecoveryError → ℕ
 status_of_recovery on_records.Opening = 3
 status_of_recovery (on_records.Line number) = 3
@@ -79,20 +80,20 @@ status_of_recovery (on_records.Record number) = 3
 status_of_recovery (on_records.Check number) = 3
 status_of_recovery on_records.Memory = 5
 
--- a journal that can't be begun is 4, out of memory 5
+-- a journal that cannot be begun is 4, running out of memory 5
 abbrev pub status_of_device : DeviceError → ℕ
 status_of_device on_device.Memory = 5
 status_of_device on_device.Failed = 4
 status_of_device on_device.Full = 4
 
--- of a command on a trace: where it checks that no payment is unclear, one that is counts as bad
+-- the status of a command on a trace; if it checks that no payment is unclear, an unclear payment counts as bad
 abbrev pub status_of_found : (check : Bool) → Result AuditSummary TraceFault → ℕ
 status_of_found false (Ok found) = status_of_bad found.tally.bad
 status_of_found true (Ok found) = status_of_bad (found.unclear + found.tally.bad + cond found.unfollowed 1 0)
 status_of_found false (Err fault) = status_of_trace_fault fault
 status_of_found true (Err fault) = status_of_trace_fault fault
 
--- of a run
+-- the status of a run
 abbrev pub status_of_run : Result Unit EndFault → ℕ
 status_of_run (Ok done) = 0
 status_of_run (Err fault) = status_of_end_fault fault

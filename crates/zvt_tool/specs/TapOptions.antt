@@ -16,7 +16,7 @@ tap_app = command_app (codes "tap") (
     flag_rule (codes "loose") ∷
     [])
 
--- the options that the words give
+-- the options in the parsed words
 pub record AreTapOptionsOf (rows : List Row) (options : TapOptions) : Type 0 where
   pub listen : first_of (codes "listen") rows ≡ Some options.listen.now
   pub to : first_of (codes "to") rows ≡ Some options.to.now

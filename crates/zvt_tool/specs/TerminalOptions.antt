@@ -18,7 +18,7 @@ terminal_app = command_app (codes "terminal") (
     flag_rule (codes "json") ∷
     [])
 
--- the options that the words give
+-- the options in the parsed words
 pub record AreTerminalOptionsOf (rows : List Row) (options : TerminalOptions) : Type 0 where
   pub port : GivesNumber (codes "port") rows 65535 options.port
   pub host : first_of (codes "host") rows ≡ Some options.host.now

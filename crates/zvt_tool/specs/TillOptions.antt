@@ -23,7 +23,7 @@ till_app = command_app (codes "till") (
     several_rule (codes "step") ∷
     [])
 
--- the options that the words give
+-- the options in the parsed words
 pub record AreTillOptionsOf (rows : List Row) (options : TillOptions) : Type 0 where
   pub port : GivesNumber (codes "port") rows 65535 options.port
   pub host : first_of (codes "host") rows ≡ Some options.host.now

@@ -18,7 +18,7 @@ abbrev pub style_by : (plain objects : Style) → (is_json : Bool) → Style
 style_by plain objects false = plain
 style_by plain objects true = objects
 
--- each line that is written is a JSON object
+-- each line of the output is a JSON object
 abbrev pub is_json : TraceWork → Bool
 is_json (Render Show) = false
 is_json (Render Join) = false
@@ -30,7 +30,7 @@ is_json (Audit form.Json) = true
 is_json (Vectors form.Text) = false
 is_json (Vectors form.Json) = true
 
--- what a refusal leaves unread where a text is written: its side, or the refused message alone
+-- the part that is skipped after a refusal when text is written: the side, or only the refused message
 abbrev pub text_scope : (resync : Bool) → Scope
 text_scope false = OneSide
 text_scope true = OneMessage
@@ -78,7 +78,7 @@ vectors_app = command_app (codes "vectors") (files_rule ∷ flag_rule (codes "js
 
 -- ---- what the words give
 
--- the files and flags that the words give; a flag that the command doesn't have is not set
+-- the files and flags in the parsed words; a flag that the command does not have is not set
 pub record IsTraceCommandOf (rows : List Row) (writes : TraceWork) (reads : Lengths) (command : TraceCommand) : Type 0 where
   pub files : map (λ file. file.now) command.files.items ≡ words_of (codes "file") rows
   pub work : command.work ≡ writes
@@ -87,11 +87,11 @@ pub record IsTraceCommandOf (rows : List Row) (writes : TraceWork) (reads : Leng
   pub follow : IsFlagOf (codes "follow") rows command.follow
   pub resync : IsFlagOf (codes "resync") rows command.resync
 
--- by `--json` and `--loose`
+-- the lengths and the form, by `--loose` and `--json`
 abbrev pub IsByForm : List Row → (Bool → TraceWork) → TraceCommand → Type 0
 IsByForm rows work command = IsByFlag (codes "json") rows (λ json. IsByFlag (codes "loose") rows (λ loose. IsTraceCommandOf rows (work json) (lengths_by loose) command))
 
--- this text, or these objects of JSON
+-- this text, or the JSON objects
 abbrev pub IsRendering : List Row → (plain objects : Style) → TraceCommand → Type 0
 IsRendering rows plain objects = IsByForm rows (λ json. Render (style_by plain objects json))
 

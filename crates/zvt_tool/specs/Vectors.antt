@@ -1,4 +1,4 @@
--- What a line of a file of vectors means.
+-- The meaning of a line in a file of vectors.
 use Rattle.std.specs.Prelude.{◌≡◌, ◌≢◌, ℕ, ◌-◌, ◌<◌, ◌≤◌, ◌⊎◌, List, [], ◌∷◌, ◌++◌, codes, length, slice_index, IsErr, Result, Ok, Err}
 use Rattle.std.specs.Fmt.{decimal}
 use Rattle.std.specs.List.{All}
@@ -23,7 +23,7 @@ answer_text (Whole found) = codes "whole " ++ decimal found.1
 answer_text More = codes "more"
 answer_text (Refused place why) = codes "refused at " ++ decimal place ++ codes ": " ++ why_name why
 
--- what the bytes are to a reader of messages, as text
+-- the result of the message reader for these bytes, as text
 pub record AnswersAs (bytes text : List ℕ) : Type 0 where
   pub answer : Scan (Message × ℕ)
   pub answers : Answers shortest bytes answer
@@ -34,7 +34,7 @@ pub record AnswersAs (bytes text : List ℕ) : Type 0 where
 abbrev pub IsDigit : ℕ → Type 0
 IsDigit character = (48 ≤ character) × (character ≤ 57)
 
--- a number in decimal digits: one that begins with 0 has no other digit
+-- a number in decimal digits without leading zeros
 pub record IsNumber (text : List ℕ) : Type 0 where
   pub some : 0 < length text
   pub digits : All IsDigit text
@@ -55,17 +55,17 @@ IsClaim text =
 
 -- ---- one line
 
--- what comes before the first '='
+-- the text before the first '='
 abbrev pub IsOther : ℕ → Type 0
 IsOther character = character ≢ 61
 
--- text that can spell bytes: there is some, and spaces stand within it alone
+-- text that can spell bytes: it is not empty, and neither begins nor ends with a space
 pub record IsSpelling (text : List ℕ) : Type 0 where
   pub some : 0 < length text
   pub begins : slice_index text 0 ≢ 32
   pub ends : slice_index text (length text - 1) ≢ 32
 
--- bytes in hexadecimal, and what is claimed of them, on both sides of the first '=' of the line
+-- bytes in hexadecimal and the claim about them, on both sides of the first '=' of the line
 pub record IsVector (line : List ℕ) (spelled claim : List ℕ) : Type 0 where
   pub cut : line ≡ spelled ++ codes " = " ++ claim
   pub first : All IsOther spelled
@@ -81,7 +81,7 @@ abbrev pub IsComment : List ℕ → Type 0
 IsComment [] = Unit {0}
 IsComment (first ∷ rest) = first ≡ 35
 
--- what the line means, or what is wrong with it
+-- the meaning of the line, or what is wrong with it
 abbrev pub Means : List ℕ → Result Meaning TraceLineError → Type 0
 Means line (Ok comment) = IsComment line
 Means line (Ok (vector bytes claim)) =

@@ -1,11 +1,11 @@
--- The verdicts of situations: lines of TAP, and a report in JUnit's form.
+-- The verdicts of situations: lines of TAP, and a report in the JUnit format.
 use Rattle.std.specs.Prelude.{◌≡◌, ◌==◌, ◌||◌, ℕ, Bool, true, false, nat_lt, List, [], ◌∷◌, ◌++◌, codes, if◌then◌else◌, refl}
 use Rattle.std.specs.Fmt.{decimal, digits}
 
 abbrev pub verdict_line : (is_passed : Bool) → (number : ℕ) → List ℕ → List ℕ
 verdict_line is_passed number name = (if is_passed then [] else codes "not ") ++ (codes "ok " ++ (decimal number ++ (codes " - " ++ (name ++ 10 ∷ []))))
 
--- a character as text of XML, which has no control character but a line feed
+-- a character as XML text, which has no control character except the line feed
 abbrev pub escaped_byte : ℕ → List ℕ
 escaped_byte byte =
     if byte == 38 then codes "&amp;"
@@ -24,7 +24,7 @@ escaped (byte ∷ bytes) = escaped_byte byte ++ escaped bytes
 abbrev pub plan : (situations : ℕ) → List ℕ
 plan situations = codes "TAP version 13\n1.." ++ (decimal situations ++ 10 ∷ [])
 
--- a situation in a report: with what came, where that differs from what was awaited
+-- a situation in a report, with what arrived if that differs from what was expected
 abbrev pub case : (name difference : List ℕ) → List ℕ
 case name [] = codes "  <testcase name=\"" ++ (escaped name ++ codes "\"/>\n")
 case name (byte ∷ more) =

@@ -18,9 +18,10 @@ use clap::error::ErrorKind;
 use clap::{ArgMatches, Error};
 use std::alloc::{AllocError, Global};
 
-/// The choice that the arguments name. The first one is the program's name.
+/// Parses the arguments. The first one is the program's name.
 ///
-/// `Words` comes for a wrong argument, and for help and the version.
+/// Fails with `Words` for a wrong argument, and also for help and the version, and with `Memory` if an allocation
+/// fails.
 pub fn choice<'a>(alloc: Global, arguments: &'a [&'a str]) -> Result<Choice<'a>, ChoiceFault>
     ensures chosen { IfOk result (IsChoiceOf (reading_of_arguments
         (map (λ argument. argument.now) arguments.entry.now))) }
@@ -38,7 +39,7 @@ pub fn choice<'a>(alloc: Global, arguments: &'a [&'a str]) -> Result<Choice<'a>,
     }
 }
 
-/// The reading of the arguments by `clap`.
+/// Parses the arguments with `clap`.
 fn matches<'a>(alloc: Global, arguments: &'a [&'a str]) -> Result<ArgMatches<'a>, ChoiceFault>
     ensures read { IfOk result (λ matches. subcommand_rows_of matches ≡ reading_of_arguments
         (map (λ argument. argument.now) arguments.entry.now)) }
@@ -53,7 +54,7 @@ fn matches<'a>(alloc: Global, arguments: &'a [&'a str]) -> Result<ArgMatches<'a>
     }
 }
 
-/// The fault of an error of `clap`.
+/// Returns the fault for an error of `clap`.
 fn refused(error: Error) -> ChoiceFault
     ensures { IsTakenAs error result }
 {
@@ -64,8 +65,8 @@ fn refused(error: Error) -> ChoiceFault
     }
 }
 
-/// The fault of a reading that names no choice. No arguments are known that lead here: `clap` wants a
-/// port and a book's file, has a default for the host and the other numbers, and checks each number.
+/// Returns the fault for parsed arguments that name no choice. No known arguments lead here: `clap` requires a port and
+/// a book's file, has a default for the host and the other numbers, and checks each number.
 fn incomplete(alloc: Global) -> ChoiceFault
     ensures { IsMissing result }
 {
@@ -84,7 +85,7 @@ fn missing(alloc: Global) -> Result<Error, AllocError>
     )
 }
 
-/// The choice of a command's name and what was given to it.
+/// Returns the choice for a command's name and its arguments.
 fn chosen<'a>(
     alloc: Global,
     name: &str,
@@ -109,7 +110,7 @@ fn chosen<'a>(
     })
 }
 
-/// The choice of the command with this name, if it is one that plays situations.
+/// Returns the choice for the command with this name, if it plays situations.
 fn check<'a>(
     alloc: Global,
     name: &str,

@@ -12,7 +12,7 @@ use crate::options::{CommandOption, CommandRow};
 use clap::ArgMatches;
 use std::alloc::{AllocError, Global};
 
-/// The row of `book`: its options and help.
+/// Returns the row of `book`: its options and help.
 pub fn book_row() -> CommandRow<'static>
     ensures { app_for result ≡ book_app }
 {
@@ -20,7 +20,7 @@ pub fn book_row() -> CommandRow<'static>
         name: "book",
         about: "Print a till's book: payments, reversals, unclear payments and the net total",
         more: "Lines of a book:
-  booked N trace T receipt R  A completed payment, followed by what became of its reversal, if there was one:
+  booked N trace T receipt R  A completed payment, followed by the state of its reversal, if there was one:
                               reversed, reversal unclear CAUSE, or taken back
   unclear N CAUSE             A payment that may have been charged or not
   total N                     The sum of the payments that were not reversed
@@ -42,7 +42,7 @@ Example:
     }
 }
 
-/// The row of `loop`: its options and help.
+/// Returns the row of `loop`: its options and help.
 pub fn loop_row() -> CommandRow<'static>
     ensures { app_for result ≡ loop_app }
 {
@@ -67,7 +67,7 @@ Example:
     }
 }
 
-/// What the words give `book`.
+/// Returns the choice from the arguments of `book`.
 pub fn read_book<'a>(alloc: Global, inner: &ArgMatches<'a>) -> Result<Choice<'a>, AllocError>
     ensures { IfOk result (IsChoiceOf (Some (codes "book", rows_of (found_of inner.now)))) }
 {
@@ -78,7 +78,7 @@ pub fn read_book<'a>(alloc: Global, inner: &ArgMatches<'a>) -> Result<Choice<'a>
     })
 }
 
-/// What the words give `loop`.
+/// Returns the choice from the arguments of `loop`.
 pub fn read_loop<'a>(alloc: Global, inner: &ArgMatches<'a>) -> Result<Choice<'a>, AllocError>
     ensures { IfOk result (IsChoiceOf (Some (codes "loop", rows_of (found_of inner.now)))) }
 {

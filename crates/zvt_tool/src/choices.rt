@@ -12,19 +12,19 @@ use thiserror::Error;
 
 /// A command of the program with its arguments.
 ///
-/// Steps, hosts, codes, settings and files are the arguments as they were given. Their users check the form.
+/// Steps, hosts, codes, settings and files are the arguments unchanged. The code that uses them checks their form.
 #[derive(Drop)]
 pub enum Choice<'a> {
-    /// Also where no command is given.
+    /// Also chosen if no command is given.
     Show(TraceCommand<'a>),
     Join(TraceCommand<'a>),
-    /// Lengths are read in any form that holds them.
+    /// Accepts lengths in any form.
     Normalise(TraceCommand<'a>),
     Audit(TraceCommand<'a>),
     Receipts(TraceCommand<'a>),
-    /// Vectors are read from the files in place of traces.
+    /// Reads vectors instead of traces from its files.
     Vectors(TraceCommand<'a>),
-    /// The books of tills.
+    /// Shows the books of tills.
     Book {
         /// Their files, at least one.
         files: Vec<&'a str>,
@@ -53,11 +53,11 @@ pub enum Choice<'a> {
 /// Why a command line names no command.
 #[derive(Debug, Drop, Error)]
 pub enum ChoiceFault {
-    /// An argument is wrong, or help or the version was asked for. `print` of the error writes its text
-    /// where it belongs. `use_stderr` is false for help and the version alone.
+    /// An argument is wrong, or help or the version was requested. `print` of the error writes its text to the right
+    /// place. `use_stderr` is false only for help and the version.
     #[error(transparent)]
     Words(clap::Error),
-    /// Memory was refused while the arguments were read.
+    /// An allocation failed while the arguments were parsed.
     #[error("out of memory while reading the arguments")]
     Memory,
 }

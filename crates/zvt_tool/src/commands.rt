@@ -20,7 +20,7 @@ use std::alloc::{AllocError, Global};
 
 const VERSION: &str = "0.2.0";
 
-/// The program's command line.
+/// Returns the program's command line.
 pub fn zvt<'a>(alloc: Global) -> Result<Command<'a>, AllocError>
     ensures { IfOk result (λ r. app_of r ≡ zvt_app) }
 {
@@ -47,7 +47,7 @@ pub fn zvt<'a>(alloc: Global) -> Result<Command<'a>, AllocError>
     Ok(program)
 }
 
-/// The program without a command.
+/// Returns the program without a command.
 fn program<'a>(alloc: Global) -> Command<'a>
     ensures { app_of result ≡ program_app }
 {
@@ -56,7 +56,7 @@ fn program<'a>(alloc: Global) -> Command<'a>
         .subcommand_value_name(help::NAMES)
 }
 
-/// A command without options, with the texts before and after its usage.
+/// Returns a command without options, with the texts before and after its usage.
 fn plain<'a>(alloc: Global, name: &'a str, about: &'a str, more: &'a str) -> Command<'a>
     ensures app { app_of result ≡ new_app name.entry.now }
     ensures local { (fields_of result).has_globals ≡ false }
@@ -64,7 +64,7 @@ fn plain<'a>(alloc: Global, name: &'a str, about: &'a str, more: &'a str) -> Com
     Command::new(alloc, name).about(about).after_help(more)
 }
 
-/// The command of this row.
+/// Returns the command of this row.
 fn command<'a>(alloc: Global, row: &CommandRow<'a>) -> Result<Command<'a>, AllocError>
     ensures app { IfOk result (λ r. app_of r ≡ app_for row.now) }
     ensures local { IfOk result (λ r. (fields_of r).has_globals ≡ false) }

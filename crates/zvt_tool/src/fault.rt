@@ -9,10 +9,10 @@ use zvt_trace::{Tally, TraceFault, TraceLineError};
 
 /// Why a command on a trace, or a run, ended early: one type over [`TraceFault`] and [`EndFault`].
 ///
-/// These two say more: why there is no connection, and what to do about each fault.
+/// The other two types say more: why there is no connection, and what to do about each fault.
 #[derive(Debug, Drop, Error)]
 pub enum ToolFault {
-    /// A line of the trace, counted from 1, can't be read.
+    /// A line of the trace, counted from 1, cannot be read.
     #[error("line {line} of the trace: {what}")]
     Trace { line: u64, what: TraceLineError },
     /// The trace is longer than 16,777,216 bytes.
@@ -26,21 +26,21 @@ pub enum ToolFault {
     Memory,
     #[error("connection failed: {0}")]
     Line(LineFault),
-    /// The word at this place, counted from 0, names no step.
+    /// The word at this index, counted from 0, names no step.
     #[error("a word names no step")]
     BadStep { at: usize },
     #[error("no connection")]
     Net,
-    /// The terminal sent nothing for as long as the till waits.
+    /// The terminal sent nothing within the till's timeout.
     #[error("connection failed: the terminal sent nothing for {seconds} s")]
     Silent { seconds: u16 },
-    /// The file of a run's trace can't be written.
+    /// The file of a run's trace cannot be written.
     #[error("the trace file can't be written")]
     TraceFile,
-    /// The journal of the till's book can't be written.
+    /// The journal of the till's book cannot be written.
     #[error("the book can't be written")]
     Book,
-    /// All steps were made, but one did not succeed, and the run checks that.
+    /// A step did not succeed, in a run that checks that each does. All steps were made.
     #[error("a step did not succeed")]
     Unsuccessful,
 }
@@ -77,7 +77,7 @@ impl From<EndFault> for ToolFault {
     }
 }
 
-/// The answer of a command on a trace, with its fault as one of the library.
+/// Returns the result of a command on a trace, with its fault as a `ToolFault`.
 pub(crate) fn in_trace(answer: Result<Tally, TraceFault>) -> Result<Tally, ToolFault>
     ensures { result ≡ in_trace answer }
 {
@@ -87,7 +87,7 @@ pub(crate) fn in_trace(answer: Result<Tally, TraceFault>) -> Result<Tally, ToolF
     }
 }
 
-/// The answer of a run, with its fault as one of the library.
+/// Returns the result of a run, with its fault as a `ToolFault`.
 pub(crate) fn in_run(answer: Result<(), EndFault>) -> Result<(), ToolFault>
     ensures { result ≡ in_run answer }
 {

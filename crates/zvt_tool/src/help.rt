@@ -1,4 +1,4 @@
-//! Help texts: those of the program, and those that several commands share.
+//! Help texts of the program, and texts that several commands share.
 
 /// The purpose of the program.
 pub const PROGRAM: &str =

@@ -1,4 +1,4 @@
-//! Labels at the head of lines, as where several files are read.
+//! Labels at the beginning of lines, used when several files are read.
 ghost use Rattle.std.specs.Prelude.{◌≡◌, ◌++◌, ◌∷◌, [], IfOk, OnOk};
 ghost use Rattle.zvt_tool.specs.Labels.{comment_label, json_label, labelled, line_head, text_label};
 
@@ -6,16 +6,16 @@ use serde_json::Value;
 use std::alloc::{AllocError, Global};
 use zvt_text::Text;
 
-/// Prefixes of lines.
+/// A prefix of lines.
 #[derive(Drop)]
 pub struct Label {
     text: Text,
-    /// Whether a line loses its first byte, as the brace of a JSON object that the label has too.
+    /// Whether a line loses its first byte. This is the brace of a JSON object, which the label also contains.
     replaces: bool,
 }
 
 impl Label {
-    /// The name of this file, a colon and a space.
+    /// Creates a label for text: the name of this file, a colon and a space.
     pub fn of_text(alloc: Global, file: &str) -> Result<Label, AllocError>
         ensures { IfOk result (λ label. label ≡ text_label file.now) }
     {
@@ -28,7 +28,7 @@ impl Label {
         })
     }
 
-    /// The sign of a comment.
+    /// Creates a label that turns lines into comments.
     pub fn of_comment(alloc: Global) -> Result<Label, AllocError>
         ensures { IfOk result (λ label. label ≡ comment_label) }
     {
@@ -40,7 +40,7 @@ impl Label {
         })
     }
 
-    /// The beginning of a JSON object whose first member is the name of this file.
+    /// Creates a label for JSON: the beginning of an object whose first member is the name of this file.
     pub fn of_json(alloc: Global, file: &str) -> Result<Label, AllocError>
         ensures { IfOk result (λ label. label ≡ json_label file.now) }
     {
@@ -55,8 +55,8 @@ impl Label {
         })
     }
 
-    /// Adds the bytes to the text, with the label at the head of each line. `before` is the byte before them: a line
-    /// feed at the start.
+    /// Adds the bytes to the text, with the label at the beginning of each line. `before` is the byte before them,
+    /// which is a line feed at the start.
     pub fn add(&self, text: &mut Text, before: u8, bytes: &[u8]) -> Result<(), AllocError>
         ensures { OnOk result (text.new ≡ text.old ++ labelled self.now before bytes.now) }
     {

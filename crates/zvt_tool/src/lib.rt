@@ -1,12 +1,12 @@
 //! The library of the program `zvt`, without its files, sockets and reports.
 //!
 //! - The command line: [`choice`] returns a [`Choice`], and [`with_show`] adds the command to a file alone. Each
-//!   command has its row, its options and their reading in one module, such as `till_options`.
-//! - What becomes of an answer: the exit [`statuses`], and [`ToolFault`].
-//! - What is written: the commands on a trace ([`on_trace`]), a [`label`] before each line, the [`verdicts`] of
+//!   command has its row, its options and the code that reads them in one module, such as `till_options`.
+//! - The results: the exit [`statuses`], and [`ToolFault`].
+//! - The output: the commands on a trace ([`on_trace`]), a [`label`] before each line, the [`verdicts`] of
 //!   situations, and the differences from test vectors ([`vector_check`]).
-//! - The commands on what a reader brings: [`show`], [`join`], [`audit`], [`receipts`] and [`vectors`], and their loose
-//!   forms.
+//! - The commands on the input of a reader: [`show`], [`join`], [`audit`], [`receipts`] and [`vectors`], and their
+//!   loose forms.
 //! - The runs of steps that words name: [`run_loop`], [`run_till`] and [`run_terminal`].
 #![tactic(auto)]
 

@@ -12,6 +12,8 @@ use zvt_show::{follow_trace, render_trace};
 use zvt_trace::{Tally, TraceFault};
 
 /// Executes the command on the trace and writes its output.
+///
+/// Returns the counts of messages and bad streams and, for an audit, of unclear payments.
 pub fn work_on_trace<W: Sink>(
     alloc: Global,
     command: &TraceCommand<'_>,
@@ -33,7 +35,7 @@ pub fn work_on_trace<W: Sink>(
     }
 }
 
-/// Does with the trace that the reader brings what the command says, while the trace comes. Vectors are read whole.
+/// Executes the command on the reader's trace while it arrives. Vectors are read completely first.
 pub fn follow_work<R: Source, W: Sink>(
     alloc: Global,
     command: &TraceCommand<'_>,
@@ -56,7 +58,7 @@ pub fn follow_work<R: Source, W: Sink>(
     }
 }
 
-/// What a command found that does not look at who sends orders.
+/// Returns the result of a command that does not look at payments.
 fn found(answer: Result<Tally, TraceFault>) -> Result<AuditSummary, TraceFault>
     ensures tally { tally_of result ≡ answer }
     ensures swapped { IfOk result (λ found. (found.swapped ≡ false) × (found.unfollowed ≡ false)) }

@@ -1,4 +1,4 @@
-//! The options of the commands: how a row declares one, and what its value means.
+//! The options of the commands: how a row declares an option, and the meaning of its value.
 ghost use Rattle.std.specs.Prelude.{◌≡◌, false};
 ghost use Rattle.clap.specs.Words.{rule_of};
 ghost use Rattle.zvt_tool.specs.Options.{book_files_rule, connections_by, flag_rule, form_by, host_rule, lengths_by};
@@ -19,34 +19,34 @@ pub struct CommandRow<'a> {
     pub options: &'a [CommandOption<'a>],
 }
 
-/// An option of a command, or the words that the command takes. The last text is what help says of it. The name of a
-/// value also says how a shell completes it: `FILE` by files, `HOST` by hosts, and `STEP` by the steps of the command.
+/// An option of a command, or the words that the command takes. The last text is its help. The name of a value also
+/// determines how a shell completes it: `FILE` by files, `HOST` by hosts, and `STEP` by the steps of the command.
 #[derive(Clone, Copy)]
 pub enum CommandOption<'a> {
-    /// Any number of words of this name, and what help calls one.
+    /// Any number of words: the name, the name of a word in the help, and the help.
     Several(&'a str, &'a str, &'a str),
     /// The files of books. At least one is required.
     BookFiles(&'a str),
-    /// An option of this name that has no value.
+    /// An option without a value.
     Flag(&'a str, &'a str),
-    /// An option of this name that has one value and no default, and what help calls the value.
+    /// An optional option with a value, and the name of the value in the help.
     Value(&'a str, &'a str, &'a str),
-    /// An option of this name that has one value and has to be there, and what help calls the value.
+    /// A required option with a value, and the name of the value in the help.
     Needed(&'a str, &'a str, &'a str),
-    /// An option of this name that has the number of a TCP port, and no default.
+    /// An optional TCP port.
     Port(&'a str, &'a str),
-    /// An option of this name that has the number of a TCP port, and has to be there.
+    /// A required TCP port.
     NeededPort(&'a str, &'a str),
-    /// The host, which is this machine where it is not given.
+    /// The host, which defaults to this machine.
     Host(&'a str),
     /// The number of a terminal.
     Tid(&'a str),
-    /// An option of this name that has a number of at most 65,535: what help calls it, and its default.
+    /// A number of at most 65,535, with its name in the help and its default.
     Number(&'a str, &'a str, &'a str, &'a str),
 }
 
 impl<'a> CommandOption<'a> {
-    /// The option as `clap` takes it.
+    /// Returns the option for `clap`.
     pub fn arg(self, alloc: Global) -> Arg<'a>
         ensures rule { rule_of result ≡ rule_for self.entry }
         ensures local { result.global ≡ false }
@@ -68,7 +68,7 @@ impl<'a> CommandOption<'a> {
     }
 }
 
-/// Any number of words of this name, where `value` is what help calls one.
+/// Returns any number of words. `value` is the name of a word in the help.
 fn several<'a>(alloc: Global, name: &'a str, value: &'a str, text: &'a str) -> Arg<'a>
     ensures rule { rule_of result ≡ several_rule name.entry.now }
     ensures local { result.global ≡ false }
@@ -86,7 +86,7 @@ fn book_files<'a>(alloc: Global, text: &'a str) -> Arg<'a>
     several(alloc, "file", "FILE", text).required(true)
 }
 
-/// An option of this name that has the number of a TCP port, and no default.
+/// Returns an optional TCP port.
 fn port<'a>(alloc: Global, name: &'a str, text: &'a str) -> Arg<'a>
     ensures rule { rule_of result ≡ port_option_rule name.entry.now }
     ensures local { result.global ≡ false }
@@ -98,7 +98,7 @@ fn port<'a>(alloc: Global, name: &'a str, text: &'a str) -> Arg<'a>
         .help(text)
 }
 
-/// An option of this name that has the number of a TCP port, and has to be there.
+/// Returns a required TCP port.
 fn needed_port<'a>(alloc: Global, name: &'a str, text: &'a str) -> Arg<'a>
     ensures rule { rule_of result ≡ needed_port_rule name.entry.now }
     ensures local { result.global ≡ false }
@@ -134,7 +134,7 @@ fn tid<'a>(alloc: Global, text: &'a str) -> Arg<'a>
         .help(text)
 }
 
-/// An option of this name that has a number of at most 65,535, and `default` where it is not given.
+/// Returns a number of at most 65,535, which defaults to `default`.
 fn number<'a>(
     alloc: Global,
     name: &'a str,
@@ -153,7 +153,7 @@ fn number<'a>(
         .help(text)
 }
 
-/// An option that has one value of this name, and has to be there.
+/// Returns a required option with one value.
 fn needed<'a>(alloc: Global, name: &'a str, value: &'a str, text: &'a str) -> Arg<'a>
     ensures rule { rule_of result ≡ needed_rule name.entry.now }
     ensures local { result.global ≡ false }
@@ -165,7 +165,7 @@ fn needed<'a>(alloc: Global, name: &'a str, value: &'a str, text: &'a str) -> Ar
         .help(text)
 }
 
-/// An option of this name that has no value.
+/// Returns an option without a value.
 fn flag<'a>(alloc: Global, name: &'a str, text: &'a str) -> Arg<'a>
     ensures rule { rule_of result ≡ flag_rule name.entry.now }
     ensures local { result.global ≡ false }
@@ -176,7 +176,7 @@ fn flag<'a>(alloc: Global, name: &'a str, text: &'a str) -> Arg<'a>
         .help(text)
 }
 
-/// An option that has one value of this name, and no default.
+/// Returns an optional option with one value.
 fn value_of<'a>(alloc: Global, name: &'a str, value: &'a str, text: &'a str) -> Arg<'a>
     ensures rule { rule_of result ≡ option_rule name.entry.now }
     ensures local { result.global ≡ false }
@@ -187,7 +187,7 @@ fn value_of<'a>(alloc: Global, name: &'a str, value: &'a str, text: &'a str) -> 
         .help(text)
 }
 
-/// The lengths that are read where a command is loose, or is not.
+/// Returns the lengths that a command accepts: padded ones only if it is loose.
 pub fn lengths_by(loose: bool) -> Lengths
     ensures { result ≡ lengths_by loose }
 {

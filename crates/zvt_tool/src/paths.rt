@@ -1,4 +1,4 @@
-//! A command line that names a file and no command.
+//! Command lines that name a file and no command.
 ghost use Rattle.std.specs.Prelude.{◌≡◌, IfOk, map};
 ghost use Rattle.zvt_tool.specs.Paths.{is_path, with_show};
 
@@ -19,7 +19,7 @@ pub fn with_show<'a>(alloc: Global, arguments: &[&'a str]) -> Result<Vec<&'a str
     Ok(words)
 }
 
-/// Whether the argument is a path: it has a dot or a slash, and is no option.
+/// Returns whether the argument is a path: it contains a dot or a slash, and is not an option.
 fn is_path(argument: &str) -> bool
     ensures { result ≡ is_path argument.now }
 {

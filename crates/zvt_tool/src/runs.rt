@@ -20,10 +20,10 @@ use zvt_runs::{EndFault, Ends, NoNotes, StepOptions, plan};
 use zvt_term::Verdict;
 use zvt_text::Form;
 
-/// Where a terminal listens.
+/// The address on which a terminal listens.
 const LOCAL_HOST: &str = "127.0.0.1";
 
-/// Takes what a run reports, and keeps none of it.
+/// A device that discards the reports of a run.
 #[derive(Drop)]
 struct Unreported;
 
@@ -37,7 +37,7 @@ impl Sink for Unreported {
     }
 }
 
-/// Steps are written as text, and none has to succeed.
+/// Returns the options of a run that writes text and does not check its steps.
 fn plain() -> StepOptions
     ensures { result ≡ plain }
 {
@@ -50,7 +50,7 @@ fn plain() -> StepOptions
 /// Runs steps between a till and a terminal in this process, like [`zvt_runs::tcp::run_loop`]. Without words, runs the
 /// default steps.
 ///
-/// `BadStep` and `Net` come before anything is written.
+/// Fails with `BadStep` or `Net` before anything is written.
 pub fn run_loop<R, W>(
     rt: &R,
     alloc: Global,
@@ -77,10 +77,10 @@ where
     in_run(loop_alone(rt, alloc, &run, writer))
 }
 
-/// Connects a till to its terminal and runs the steps that the words name, as [`zvt_runs::tcp::run_till`] does. The
-/// till has the default settings and timeout. With `loose` it accepts lengths in any form.
+/// Connects a till to its terminal and runs the steps that the words name, like [`zvt_runs::tcp::run_till`]. The till
+/// has the default settings and timeout. With `loose`, it accepts lengths in any form.
 ///
-/// `BadStep` and `Net` come before anything is written.
+/// Fails with `BadStep` or `Net` before anything is written.
 pub fn run_till<R, W>(
     rt: &R,
     alloc: Global,
@@ -154,7 +154,7 @@ where
     zvt_runs::tcp::run_till(rt, alloc, run, &mut till, &NoNotes, writer, &mut Unreported)
 }
 
-/// Listens at this port of 127.0.0.1 and serves one till to the end of its connection, like
+/// Listens on this port of 127.0.0.1 and serves one till until its connection ends, like
 /// [`zvt_runs::tcp::run_terminal`]. With `loose`, the terminal accepts lengths in any form. Reports nothing.
 pub fn run_terminal<R>(
     rt: &R,

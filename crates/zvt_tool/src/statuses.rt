@@ -13,23 +13,23 @@ use zvt_runs::EndFault;
 use zvt_stream::LineFault;
 use zvt_trace::TraceFault;
 
-/// All was done, or help was asked for.
+/// Everything was done, or help was requested.
 pub const DONE: u8 = 0;
 
-/// A stream of the trace was refused or cut off; or, with `--check`, a payment is unclear or a step did not succeed;
-/// or the received bytes differ from the played trace.
+/// A stream of the trace was refused or cut off; or, with `--check`, a payment is unclear or a step did not succeed; or
+/// the received bytes differ from the played trace.
 pub const BAD: u8 = 1;
 
 /// The command line or a step is wrong.
 pub const WORDS: u8 = 2;
 
-/// The trace can't be read as one, or the book as one of a till.
+/// The input is not a trace or not a till's book.
 pub const TRACE: u8 = 3;
 
 /// A device, the line or the connection failed.
 pub const DEVICE: u8 = 4;
 
-/// There was too little memory.
+/// An allocation failed.
 pub const MEMORY: u8 = 5;
 
 /// Returns the status of a command on a trace. With `check`, it is bad if a payment is unclear, or if an order moved
@@ -44,7 +44,7 @@ pub fn of_found(check: bool, answer: &Result<AuditSummary, TraceFault>) -> u8
     }
 }
 
-/// The status of a run.
+/// Returns the status of a run.
 pub fn of_run(answer: &Result<(), EndFault>) -> u8
     ensures { result ≡ status_of_run answer.now }
 {
@@ -54,14 +54,14 @@ pub fn of_run(answer: &Result<(), EndFault>) -> u8
     }
 }
 
-/// The status of that many bad streams.
+/// Returns the status for this number of bad streams.
 fn of_bad(bad: u64) -> u8
     ensures { result ≡ status_of_bad bad }
 {
     if bad == 0 { DONE } else { BAD }
 }
 
-/// The status of a command on a trace that ended early.
+/// Returns the status of a command on a trace that ended early.
 fn of_trace_fault(fault: &TraceFault) -> u8
     ensures { result ≡ status_of_trace_fault fault.now }
 {
@@ -72,7 +72,7 @@ fn of_trace_fault(fault: &TraceFault) -> u8
     }
 }
 
-/// The status of a run that ended early.
+/// Returns the status of a run that ended early.
 pub fn of_end_fault(fault: &EndFault) -> u8
     ensures { result ≡ status_of_end_fault fault.now }
 {
@@ -85,7 +85,7 @@ pub fn of_end_fault(fault: &EndFault) -> u8
     }
 }
 
-/// The status of a book whose file is not opened.
+/// Returns the status if the file of a book cannot be opened.
 pub fn of_file_error(error: &JournalFileError) -> u8
     ensures { result ≡ status_of_file_error error.now }
 {
@@ -104,7 +104,7 @@ pub fn of_file_error(error: &JournalFileError) -> u8
     }
 }
 
-/// The status of a call on a file that failed.
+/// Returns the status of a failed call on a file.
 fn of_call(error: &io::Error) -> u8
     ensures { result ≡ status_of_call (error_kind error.now) }
 {
@@ -114,7 +114,7 @@ fn of_call(error: &io::Error) -> u8
     }
 }
 
-/// The status of a book whose records give no till.
+/// Returns the status if no till can be restored from a book.
 pub fn of_recovery(error: RecoveryError) -> u8
     ensures { result ≡ status_of_recovery error }
 {
@@ -127,7 +127,7 @@ pub fn of_recovery(error: RecoveryError) -> u8
     }
 }
 
-/// The status of a book that can't be begun.
+/// Returns the status if a book cannot be begun.
 pub fn of_device(error: DeviceError) -> u8
     ensures { result ≡ status_of_device error }
 {

@@ -18,21 +18,21 @@ const LARGEST_TID: u32 = 99_999_999;
 #[derive(Clone, Copy)]
 pub struct TerminalOptions<'a> {
     pub port: u16,
-    /// The host is 127.0.0.1 unless one is given.
+    /// The host, 127.0.0.1 by default.
     pub host: &'a str,
-    /// The terminal's number is at most 99,999,999. It is 12345678 unless one is given.
+    /// The terminal's number, at most 99,999,999 and 12345678 by default.
     pub tid: u32,
     /// The number of connections: 1 by default, and 0 for any number.
     pub connections: u16,
     pub decline: Option<&'a str>,
     pub trace: Option<&'a str>,
-    /// Whether lengths are read in any form that holds them.
+    /// Whether lengths are accepted in any form.
     pub loose: bool,
     /// Whether the reports are JSON, on standard output.
     pub json: bool,
 }
 
-/// The row of `terminal`: its options and help.
+/// Returns the row of `terminal`: its options and help.
 pub fn terminal_row() -> CommandRow<'static>
     ensures { app_for result ≡ terminal_app }
 {
@@ -70,7 +70,7 @@ pub fn terminal_row() -> CommandRow<'static>
     }
 }
 
-/// What the words give `terminal`.
+/// Returns the choice from the arguments of `terminal`.
 pub fn read_terminal<'a>(inner: &ArgMatches<'a>) -> Option<Choice<'a>>
     ensures { MayBeChoiceOf (Some (codes "terminal", rows_of (found_of inner.now))) result }
 {
@@ -90,7 +90,7 @@ pub fn read_terminal<'a>(inner: &ArgMatches<'a>) -> Option<Choice<'a>>
     }))
 }
 
-/// The number of a terminal.
+/// Returns the number of a terminal.
 fn tid(inner: &ArgMatches<'_>) -> Option<u32>
     ensures { IsNumberOf (codes "tid") (rows_of (found_of inner.now)) 99999999 result }
 {

@@ -16,7 +16,7 @@ use std::alloc::{AllocError, Global};
 #[derive(Drop)]
 pub struct TillOptions<'a> {
     pub port: u16,
-    /// The host is 127.0.0.1 unless one is given.
+    /// The host, 127.0.0.1 by default.
     pub host: &'a str,
     pub password: Option<&'a str>,
     pub config: Option<&'a str>,
@@ -29,7 +29,7 @@ pub struct TillOptions<'a> {
     pub check: bool,
     /// Whether the messages of the terminal are shown.
     pub show: bool,
-    /// Whether lengths are read in any form that holds them.
+    /// Whether lengths are accepted in any form.
     pub loose: bool,
     /// Whether the output is JSON.
     pub json: bool,
@@ -81,7 +81,7 @@ const OPTIONS: [CommandOption<'static>; 13] = [
     ),
 ];
 
-/// The row of `till`: its options and help.
+/// Returns the row of `till`: its options and help.
 pub fn till_row() -> CommandRow<'static>
     ensures { app_for result ≡ till_app }
 {
@@ -99,7 +99,7 @@ Example:
     }
 }
 
-/// What the words give `till`.
+/// Returns the choice from the arguments of `till`.
 pub fn read_till<'a>(
     alloc: Global,
     inner: &ArgMatches<'a>,

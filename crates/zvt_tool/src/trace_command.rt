@@ -22,16 +22,16 @@ use zvt_trace::Scope;
 /// The output of a command on traces or on vectors.
 #[derive(Clone, Copy)]
 pub enum TraceWork {
-    /// The text of the trace, in this style.
+    /// The messages of the trace, in this style.
     Render(Style),
     /// The books of its payments, in this form.
     Audit(Form),
-    /// The vectors to which the reader of messages gives another answer, in this form.
+    /// The vectors that differ from the result of the message reader, in this form.
     Vectors(Form),
 }
 
 /// A command on traces: its files, its output, strict or padded lengths, and the options `--check`, `--follow` and
-/// `--resync`. A flag that the command doesn't have is not set.
+/// `--resync`. A flag that the command does not have is not set.
 #[derive(Drop)]
 pub struct TraceCommand<'a> {
     /// The traces, in order. No name, or `-`, means standard input.
@@ -42,12 +42,12 @@ pub struct TraceCommand<'a> {
     pub check: bool,
     /// Whether each line is written as soon as it is read.
     pub follow: bool,
-    /// Whether a side goes on after a message that is refused.
+    /// Whether a side is read on after a refused message.
     pub resync: bool,
 }
 
 impl<'a> TraceCommand<'a> {
-    /// The command `show` without files or options, which runs where no command is given.
+    /// Returns the command `show` without files or options, which runs if no command is given.
     pub fn show(alloc: Global) -> TraceCommand<'a>
         ensures { IsTraceCommandOf [] (Render Show) Shortest result }
     {
@@ -72,7 +72,7 @@ impl<'a> TraceCommand<'a> {
         }
     }
 
-    /// Whether each line that is written is a JSON object.
+    /// Returns whether each line of the output is a JSON object.
     pub fn is_json(&self) -> bool
         ensures { result ≡ is_json self.now.work }
     {
@@ -85,7 +85,7 @@ impl<'a> TraceCommand<'a> {
     }
 }
 
-/// The row of `show`: its options and help.
+/// Returns the row of `show`: its options and help.
 pub fn show_row() -> CommandRow<'static>
     ensures { app_for result ≡ show_app }
 {
@@ -101,13 +101,13 @@ pub fn show_row() -> CommandRow<'static>
             CommandOption::Flag("follow", help::FOLLOW),
             CommandOption::Flag(
                 "resync",
-                "Go on after a message that is refused, at the end that its length announces",
+                "After a refused message, continue at the end that its length announces",
             ),
         ],
     }
 }
 
-/// The row of `join`: its options and help.
+/// Returns the row of `join`: its options and help.
 pub fn join_row() -> CommandRow<'static>
     ensures { app_for result ≡ join_app }
 {
@@ -123,7 +123,7 @@ pub fn join_row() -> CommandRow<'static>
     }
 }
 
-/// The row of `normalise`: its options and help.
+/// Returns the row of `normalise`: its options and help.
 pub fn normalise_row() -> CommandRow<'static>
     ensures { app_for result ≡ normalise_app }
 {
@@ -138,7 +138,7 @@ Example:
     }
 }
 
-/// The row of `audit`: its options and help.
+/// Returns the row of `audit`: its options and help.
 pub fn audit_row() -> CommandRow<'static>
     ensures { app_for result ≡ audit_app }
 {
@@ -165,7 +165,7 @@ Example:
     }
 }
 
-/// The row of `receipts`: its options and help.
+/// Returns the row of `receipts`: its options and help.
 pub fn receipts_row() -> CommandRow<'static>
     ensures { app_for result ≡ receipts_app }
 {
@@ -183,7 +183,7 @@ pub fn receipts_row() -> CommandRow<'static>
     }
 }
 
-/// The row of `vectors`: its options and help.
+/// Returns the row of `vectors`: its options and help.
 pub fn vectors_row() -> CommandRow<'static>
     ensures { app_for result ≡ vectors_app }
 {
@@ -203,14 +203,14 @@ Example:
     }
 }
 
-/// What the words give `show`.
+/// Returns the choice from the arguments of `show`.
 pub fn read_show<'a>(alloc: Global, inner: &ArgMatches<'a>) -> Result<TraceCommand<'a>, AllocError>
     ensures { IfOk result (IsRendering (rows_of (found_of inner.now)) Style.Show Style.Json) }
 {
     rendering(alloc, inner, Style::Show, Style::Json)
 }
 
-/// What the words give `join`.
+/// Returns the choice from the arguments of `join`.
 pub fn read_join<'a>(alloc: Global, inner: &ArgMatches<'a>) -> Result<TraceCommand<'a>, AllocError>
     ensures { IfOk result (IsTraceCommandOf (rows_of (found_of inner.now)) (Render Style.Join) Lengths.Shortest) }
 {
@@ -222,7 +222,7 @@ pub fn read_join<'a>(alloc: Global, inner: &ArgMatches<'a>) -> Result<TraceComma
     )
 }
 
-/// What the words give `normalise`.
+/// Returns the choice from the arguments of `normalise`.
 pub fn read_normalise<'a>(
     alloc: Global,
     inner: &ArgMatches<'a>,
@@ -237,7 +237,7 @@ pub fn read_normalise<'a>(
     )
 }
 
-/// What the words give `audit`.
+/// Returns the choice from the arguments of `audit`.
 pub fn read_audit<'a>(alloc: Global, inner: &ArgMatches<'a>) -> Result<TraceCommand<'a>, AllocError>
     ensures { IfOk result (IsAudit (rows_of (found_of inner.now))) }
 {
@@ -245,7 +245,7 @@ pub fn read_audit<'a>(alloc: Global, inner: &ArgMatches<'a>) -> Result<TraceComm
     on_traces(alloc, inner, work, lengths_by(flag(inner, "loose")))
 }
 
-/// What the words give `receipts`.
+/// Returns the choice from the arguments of `receipts`.
 pub fn read_receipts<'a>(
     alloc: Global,
     inner: &ArgMatches<'a>,
@@ -255,7 +255,7 @@ pub fn read_receipts<'a>(
     rendering(alloc, inner, Style::Receipts, Style::JsonReceipts)
 }
 
-/// What the words give `vectors`.
+/// Returns the choice from the arguments of `vectors`.
 pub fn read_vectors<'a>(
     alloc: Global,
     inner: &ArgMatches<'a>,
@@ -266,7 +266,7 @@ pub fn read_vectors<'a>(
     on_traces(alloc, inner, work, Lengths::Shortest)
 }
 
-/// A command that writes the text of the traces in one style, or in the other as JSON.
+/// Returns a command that writes the messages of traces in one style, or in the other as JSON.
 fn rendering<'a>(
     alloc: Global,
     inner: &ArgMatches<'a>,
@@ -279,14 +279,14 @@ fn rendering<'a>(
     on_traces(alloc, inner, work, lengths_by(flag(inner, "loose")))
 }
 
-/// This style of text, or that of JSON.
+/// Returns the style for text or the style for JSON.
 fn style_by(text: Style, json: Style, is_json: bool) -> Style
     ensures { result ≡ style_by text json is_json }
 {
     if is_json { json } else { text }
 }
 
-/// The files and the flags of a command on traces with this output.
+/// Returns the files and the flags of a command on traces with this output.
 fn on_traces<'a>(
     alloc: Global,
     inner: &ArgMatches<'a>,

@@ -1,4 +1,4 @@
-//! The commands on the trace that a reader brings.
+//! The commands on the trace of a reader.
 ghost use Rattle.std.specs.Prelude.{◌≡◌, ◌+◌, ◌<◌, ◌≤◌, ℕ, List, length, Err, IfSome};
 ghost use Rattle.std.specs.Io.KnownBytes.{Consumes};
 ghost use Rattle.zvt_grammar.specs.Lengths.{reading_of};
@@ -18,8 +18,8 @@ use zvt_show::{Style, render_trace};
 use zvt_text::Form;
 use zvt_trace::{Scope, Tally, TraceFault, read_trace};
 
-/// Writes each whole message of the trace as text: its direction and name, and a line for each field. A stream that is
-/// refused or cut off has a line, and counts as bad.
+/// Writes each complete message of the trace as text: its direction and name, and a line for each field. A stream that
+/// is refused or cut off gets a line, and counts as bad.
 pub fn show<R: Source, W: Sink>(
     alloc: Global,
     reader: &mut R,
@@ -35,7 +35,7 @@ pub fn show<R: Source, W: Sink>(
     read_and_render(alloc, Style::Show, Lengths::Shortest, reader, writer)
 }
 
-/// Writes each whole message of the trace as one line of a trace, and all other events as comments.
+/// Writes each complete message of the trace as one line of a trace, and all other events as comments.
 pub fn join<R: Source, W: Sink>(
     alloc: Global,
     reader: &mut R,
@@ -68,7 +68,7 @@ pub fn receipts<R: Source, W: Sink>(
     read_and_render(alloc, Style::Receipts, Lengths::Shortest, reader, writer)
 }
 
-/// Writes what [`show`] writes, of a trace whose lengths may have any form that holds them.
+/// Writes the same output as [`show`], but accepts lengths in any form.
 pub fn show_loose<R: Source, W: Sink>(
     alloc: Global,
     reader: &mut R,
@@ -84,8 +84,8 @@ pub fn show_loose<R: Source, W: Sink>(
     read_and_render(alloc, Style::Show, Lengths::Padded, reader, writer)
 }
 
-/// Writes what [`join`] writes, of a trace whose lengths may have any form that holds them. Each whole message is
-/// written in its one strict spelling, so that a strict reader reads it.
+/// Writes the same output as [`join`], but accepts lengths in any form. Each complete message is written in its one
+/// strict encoding, so that a strict reader accepts it.
 pub fn normalise_trace<R: Source, W: Sink>(
     alloc: Global,
     reader: &mut R,
@@ -101,7 +101,7 @@ pub fn normalise_trace<R: Source, W: Sink>(
     read_and_render(alloc, Style::Join, Lengths::Padded, reader, writer)
 }
 
-/// Writes what [`receipts`] writes, of a trace whose lengths may have any form that holds them.
+/// Writes the same output as [`receipts`], but accepts lengths in any form.
 pub fn receipts_loose<R: Source, W: Sink>(
     alloc: Global,
     reader: &mut R,
@@ -117,7 +117,7 @@ pub fn receipts_loose<R: Source, W: Sink>(
     read_and_render(alloc, Style::Receipts, Lengths::Padded, reader, writer)
 }
 
-/// Writes the books of the trace, as [`audit_trace`] does.
+/// Writes the books of the trace, like [`audit_trace`].
 pub fn audit<R: Source, W: Sink>(
     alloc: Global,
     reader: &mut R,
@@ -133,7 +133,7 @@ pub fn audit<R: Source, W: Sink>(
     read_and_audit(alloc, Lengths::Shortest, reader, writer)
 }
 
-/// Writes what [`audit`] writes, of a trace whose lengths may have any form that holds them.
+/// Writes the same output as [`audit`], but accepts lengths in any form.
 pub fn audit_loose<R: Source, W: Sink>(
     alloc: Global,
     reader: &mut R,
@@ -166,7 +166,7 @@ pub fn vectors<R: Source, W: Sink>(
     in_trace(crate::vector_check::vectors(alloc, Form::Text, reader, writer))
 }
 
-/// Reads a trace, and writes its text in this style.
+/// Reads a trace, and writes its messages in this style.
 fn read_and_render<R: Source, W: Sink>(
     alloc: Global,
     style: Style,
@@ -201,7 +201,7 @@ fn read_and_audit<R: Source, W: Sink>(
     in_trace(audit_read(alloc, lengths, reader, writer))
 }
 
-/// Reads a trace, and writes its text in this style.
+/// Writes the messages of a trace that was read, in this style.
 fn render_read<R: Source, W: Sink>(
     alloc: Global,
     style: Style,
@@ -228,7 +228,7 @@ fn render_read<R: Source, W: Sink>(
     )
 }
 
-/// Reads a trace, and writes its books.
+/// Writes the books of a trace that was read.
 fn audit_read<R: Source, W: Sink>(
     alloc: Global,
     lengths: Lengths,

@@ -1,4 +1,4 @@
-//! Test vectors for parsers of messages: lines of bytes and the expected answer.
+//! Test vectors for message parsers: lines of bytes and the expected result.
 //!
 //! [`vectors`] writes a line for each vector that differs from the result of this project's reader.
 mod answers;

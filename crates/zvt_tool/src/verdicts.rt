@@ -1,11 +1,11 @@
-//! The verdicts of situations: lines of TAP (the Test Anything Protocol), and a report in JUnit's form.
+//! The verdicts of situations: lines of TAP (the Test Anything Protocol), and a report in the JUnit format.
 ghost use Rattle.std.specs.Prelude.{◌≡◌, ◌++◌, OnOk};
 ghost use Rattle.zvt_tool.specs.Verdicts.{broken, case, escaped, escaped_byte, plan, suite, verdict_line};
 
 use std::alloc::AllocError;
 use zvt_text::Text;
 
-/// Adds the first lines: the version, and how many situations there are.
+/// Adds the first lines: the version, and the number of situations.
 pub fn add_plan(text: &mut Text, situations: usize) -> Result<(), AllocError>
     ensures { OnOk result (text.new ≡ text.old ++ plan situations) }
 {
@@ -14,7 +14,7 @@ pub fn add_plan(text: &mut Text, situations: usize) -> Result<(), AllocError>
     text.push(b'\n')
 }
 
-/// Adds the line of the situation of this number, counted from 1, which is passed or not.
+/// Adds the line of the situation with this number, counted from 1, which passed or failed.
 pub fn add_verdict(
     text: &mut Text,
     is_passed: bool,
@@ -48,7 +48,7 @@ pub fn add_case(text: &mut Text, name: &str, difference: &[u8]) -> Result<(), Al
     text.word(b"</failure></testcase>\n")
 }
 
-/// Adds the case of a situation whose play broke off, and why, to the cases of a report.
+/// Appends a situation whose play broke off to the test cases of a report, with the reason.
 pub fn add_error(text: &mut Text, name: &str, why: &[u8]) -> Result<(), AllocError>
     ensures { OnOk result (text.new ≡ text.old ++ broken name.now why.now) }
 {
@@ -59,7 +59,7 @@ pub fn add_error(text: &mut Text, name: &str, why: &[u8]) -> Result<(), AllocErr
     text.word(b"</error></testcase>\n")
 }
 
-/// Adds the report with these cases. `failed` of them differ, and `broken` broke off.
+/// Adds the report with these cases. `failed` situations differ, and `broken` broke off.
 pub fn add_suite(
     text: &mut Text,
     name: &str,
@@ -83,7 +83,7 @@ pub fn add_suite(
     text.word(b"</testsuite>\n")
 }
 
-/// Adds the bytes as text of XML.
+/// Adds the bytes as XML text.
 fn add_escaped(text: &mut Text, bytes: &[u8]) -> Result<(), AllocError>
     ensures { OnOk result (text.new ≡ text.old ++ escaped bytes.now) }
 {
@@ -95,7 +95,7 @@ fn add_escaped(text: &mut Text, bytes: &[u8]) -> Result<(), AllocError>
     Ok(())
 }
 
-/// Adds one byte as text of XML. A control character, which XML does not have, becomes `?`.
+/// Adds one byte as XML text. A control character, which XML does not allow, becomes `?`.
 fn add_character(text: &mut Text, byte: u8) -> Result<(), AllocError>
     ensures { OnOk result (text.new ≡ text.old ++ escaped_byte byte) }
 {

@@ -1,4 +1,4 @@
-//! Sockets, and why there are none.
+//! Opens sockets, or says why it cannot.
 ghost use Rattle.std.specs.Prelude.{◌≡◌, ◌+◌, ◌*◌, IfOk, MatchResult};
 ghost use Rattle.std.specs.Duration.{as_nanos};
 ghost use Rattle.std.specs.IoError.{error_kind};
@@ -12,14 +12,13 @@ use std::os::fd::{AsRawFd, RawFd};
 use std::time::Duration;
 use zvt_io::GhostCount;
 
-/// Default timeout of a till in seconds: for connecting, for each read and for each write. If the terminal is silent
-/// for longer, the read fails.
+/// Default timeout of a till in seconds: for connecting, for each read and for each write.
 pub const SILENCE_SECONDS: u16 = 60;
 
-/// The address of this machine to itself.
+/// The local address of this machine.
 const HERE: &str = "127.0.0.1";
 
-/// Why a call failed that opens a connection.
+/// Returns why a call that opens a connection failed.
 fn why(error: &io::Error) -> NetFault
     ensures { result ≡ why_of (error_kind error.now) }
 {
@@ -34,7 +33,7 @@ fn why(error: &io::Error) -> NetFault
     }
 }
 
-/// Both ends of a connection of this process to itself.
+/// Opens a connection of this process to itself, and returns both ends.
 pub(crate) fn both_ends<R>(rt: &R) -> Result<(TcpStream, TcpStream), NetFault>
 where
     R: Net<Listener = TcpListener, Stream = TcpStream>,
@@ -54,8 +53,8 @@ where
     Ok((till_end, terminal_end))
 }
 
-/// Connects to the terminal at this host and port. `seconds` limits the connecting, each read and each write; zero is
-/// an error.
+/// Connects to the terminal at this host and port. `seconds` is the timeout for connecting, for each read and for each
+/// write; zero is an error.
 pub fn connect<R>(rt: &R, host: &str, port: u16, seconds: u16) -> Result<TcpStream, NetFault>
 where
     R: Net<Listener = TcpListener, Stream = TcpStream>,
@@ -63,7 +62,7 @@ where
     connect_to(rt, addresses(rt, host, port)?, seconds).map_err(|error| why(&error))
 }
 
-/// To the first of these addresses at which that can be done.
+/// Connects to the first reachable address.
 fn connect_to<R>(rt: &R, addresses: HostAddrs, seconds: u16) -> io::Result<TcpStream>
 where
     R: Net<Listener = TcpListener, Stream = TcpStream>,
@@ -91,7 +90,7 @@ pub struct Door {
 impl Door {
     ghost use Rattle.zvt_runs.specs.Connecting.{given_by};
 
-    /// The door of this listener, which gave none yet.
+    /// Returns the door of this listener, which has accepted no connection yet.
     pub(crate) fn of(listener: TcpListener) -> Door
         ensures { given_by result ≡ 0 }
     {
@@ -101,22 +100,23 @@ impl Door {
         }
     }
 
-    /// Returns the address that it listens on.
+    /// Returns the address that the socket listens on.
     pub fn address(&self) -> io::Result<SocketAddr> {
         self.listener.local_addr()
     }
 
-    /// Returns the descriptor that can be read once a connection has come.
+    /// Returns the file descriptor, which becomes readable when a connection arrives.
     pub fn descriptor(&self) -> RawFd {
         self.listener.as_raw_fd()
     }
 
-    /// Has `next` answer at once, with a fault where no till has come, or wait again.
+    /// Makes `next` return immediately, with an error if no connection has arrived; or makes it wait again.
     pub fn set_nonblocking(&self, is_nonblocking: bool) -> io::Result<()> {
         self.listener.set_nonblocking(is_nonblocking)
     }
 
-    /// The terminal's end of the next connection, for which it waits as long as it takes.
+    /// Accepts the next connection, and returns the terminal's end of it. Waits without limit, unless the socket is
+    /// nonblocking. If the result is an error, no connection was accepted.
     pub fn next(&mut self) -> Result<TcpStream, NetFault>
         ensures { MatchResult result (λ _. given_by self.new ≡ given_by self.old + 1)
             (λ _. given_by self.new ≡ given_by self.old) }
@@ -131,7 +131,7 @@ impl Door {
     }
 }
 
-/// Listens at this port of this host. Port 0 chooses a free port.
+/// Listens on this port of this host. Port 0 chooses a free port.
 pub fn listen<R>(rt: &R, host: &str, port: u16) -> Result<Door, NetFault>
 where
     R: Net<Listener = TcpListener, Stream = TcpStream>,
@@ -143,7 +143,7 @@ where
     }
 }
 
-/// At the first of these addresses at which that can be done.
+/// Listens on the first address on which that is possible.
 fn listen_at<R>(rt: &R, addresses: HostAddrs) -> io::Result<TcpListener>
 where
     R: Net<Listener = TcpListener, Stream = TcpStream>,
@@ -164,7 +164,7 @@ fn accept_next(listener: &TcpListener) -> io::Result<TcpStream> {
     Ok(end)
 }
 
-/// The addresses of a host at this port.
+/// Returns the addresses of a host at this port.
 fn addresses<R: Net>(rt: &R, host: &str, port: u16) -> Result<HostAddrs, NetFault> {
     match (host, port).to_socket_addrs(rt) {
         Ok(addresses) => Ok(addresses),
@@ -179,7 +179,7 @@ fn silence(seconds: u16) -> Duration
     Duration::from_secs(u64::from(seconds))
 }
 
-/// Sends small messages at once, and limits each read and write to this number of seconds.
+/// Disables the delay of small messages, and sets the timeout of each read and write to this number of seconds.
 fn limit(end: &TcpStream, seconds: u16) -> io::Result<()> {
     end.set_nodelay(true)?;
     end.set_read_timeout(Some(silence(seconds)))?;

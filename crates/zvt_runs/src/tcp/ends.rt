@@ -1,4 +1,4 @@
-//! The ends of a line over TCP, whose reads and writes go to a trace.
+//! The ends of a line over TCP, whose traffic goes to a trace.
 ghost use Rattle.std.specs.Prelude.{◌≡◌, ◌||◌, true, false, IfOk};
 ghost use Rattle.zvt_grammar.specs.Lengths.{reading_of};
 ghost use Rattle.zvt_stream.specs.StreamState.{at_start, start_in};
@@ -21,22 +21,22 @@ use zvt_trace::{Both, Direction, Observed, ends_lacking};
 /// An end over a connection that is not recorded.
 pub(crate) type PlainEnd<'a> = Endpoint<Over<&'a TcpStream>, Over<&'a TcpStream>>;
 
-/// A direction of a connection, whose bytes are observed.
+/// One direction of a connection, whose bytes are observed.
 pub(crate) type ObservedSocket<'a, K> = Observed<Over<Socket<'a>>, K>;
 
-/// A direction of a connection, whose bytes go to the file of a trace, if there is one.
+/// One direction of a connection, whose bytes go to the file of a trace, if there is one.
 type TcpDevice<'a> = ObservedSocket<'a, FileTrace<'a>>;
 
-/// A till's end over a connection, whose reads and writes go to a trace. What is read may be shown.
+/// A till's end of a connection, whose traffic goes to a trace. The bytes read may also be shown.
 pub(crate) type TillLine<'a> = Endpoint<
     ObservedSocket<'a, Both<FileTrace<'a>, Option<Shown<Over<Stderr>>>>>,
     TcpDevice<'a>,
 >;
 
-/// An end over a connection, whose reads and writes go to a trace.
+/// One end of a connection, whose traffic goes to a trace.
 pub(crate) type TcpEnd<'a> = Endpoint<TcpDevice<'a>, TcpDevice<'a>>;
 
-/// Both ends of a new connection: this one for the till, and a new terminal.
+/// Returns both ends of a new connection: this end for the till, and an end with a new terminal.
 pub(crate) fn both_ends_of<'a>(
     alloc: Global,
     till: TcpEnd<'a>,
@@ -61,7 +61,7 @@ pub(crate) fn both_ends_of<'a>(
     }
 }
 
-/// The till's end at its start: what is read comes from the terminal, and what is written from the till.
+/// Returns the till's end of a new connection: it reads from the terminal and writes as the till.
 pub(crate) fn till_end_of<'a>(
     alloc: Global,
     connection: &'a TcpStream,
@@ -79,8 +79,8 @@ pub(crate) fn till_end_of<'a>(
     })
 }
 
-/// The till's end at its start. What is read comes from the terminal and may be shown, and what is written from the
-/// till.
+/// Returns the till's end of a new connection: it reads from the terminal, whose messages may be shown, and writes as
+/// the till.
 pub(crate) fn till_line_of<'a>(
     alloc: Global,
     connection: &'a TcpStream,
@@ -105,7 +105,7 @@ pub(crate) fn till_line_of<'a>(
     })
 }
 
-/// The terminal's end at its start: what is read comes from the till, and what is written from the terminal.
+/// Returns the terminal's end of a new connection: it reads from the till and writes as the terminal.
 pub(crate) fn terminal_end_of<'a>(
     alloc: Global,
     connection: &'a TcpStream,
@@ -123,7 +123,7 @@ pub(crate) fn terminal_end_of<'a>(
     })
 }
 
-/// A direction of a connection, whose bytes come from this side. Its trace lacks nothing yet.
+/// Returns one direction of a connection, whose bytes come from this side. Its trace is complete so far.
 fn tcp_device<'a>(
     alloc: Global,
     from: Direction,
@@ -138,8 +138,8 @@ fn tcp_device<'a>(
     Ok(Observed::new(from, socket, trace))
 }
 
-/// Ends the trace of the line, and answers whether it lacks something: a piece that was read, one that was to be
-/// written, or its end.
+/// Ends the trace of the line, and returns whether it is incomplete: bytes that were read or were about to be written,
+/// or the end, could not be recorded.
 pub(crate) fn is_broken<'a, K>(
     end: &Endpoint<ObservedSocket<'a, K>, TcpDevice<'a>>,
     trace: Option<&File>,

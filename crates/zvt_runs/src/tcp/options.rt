@@ -6,21 +6,21 @@ use zvt_grammar::Lengths;
 use zvt_term::Verdict;
 use zvt_text::Form;
 
-/// The run of a till: the terminal that it connects to, its steps, how its line is read, traced and shown, and how its
-/// steps are reported.
+/// The options of a till's run: the terminal to connect to, the steps, how the line is read, traced and shown, and how
+/// the steps are reported.
 #[derive(Clone, Copy)]
 pub struct TillRun<'a, 'f> {
     /// The name or address of the terminal's host.
     pub host: &'a str,
-    /// The port that the terminal listens at.
+    /// The port on which the terminal listens.
     pub port: u16,
-    /// How many seconds the till waits for the connection, and for each message.
+    /// The timeout in seconds, for connecting, for each read and for each write.
     pub seconds: u16,
-    /// The length encodings that the till reads.
+    /// The length encodings that the till accepts.
     pub lengths: Lengths,
-    /// The file that the trace is written to.
+    /// The file for the trace, if one is to be written.
     pub trace: Option<&'f File>,
-    /// Shows the terminal's messages here.
+    /// Shows the terminal's messages on standard error, if it is given.
     pub show: Option<Stderr>,
     /// The steps of the till.
     pub plan: &'a [Planned],
@@ -28,10 +28,11 @@ pub struct TillRun<'a, 'f> {
     pub options: StepOptions,
 }
 
-/// The run of both ends in this process: the till's steps, how its line is traced, and how its steps are reported.
+/// The options of a run of both ends in this process: the till's steps, how the line is traced, and how the steps are
+/// reported.
 #[derive(Clone, Copy)]
 pub struct LoopRun<'a, 'f> {
-    /// The file that the trace is written to.
+    /// The file for the trace, if one is to be written.
     pub trace: Option<&'f File>,
     /// The steps of the till.
     pub plan: &'a [Planned],
@@ -39,23 +40,23 @@ pub struct LoopRun<'a, 'f> {
     pub options: StepOptions,
 }
 
-/// Options of a simulated terminal: its address, its decisions, how its lines are read and traced, and the form of its
-/// reports.
+/// The options of a simulated terminal: its address, its decisions, how its lines are read and traced, and the form of
+/// its reports.
 #[derive(Clone, Copy)]
 pub struct TerminalRun<'a, 'f> {
-    /// The name or address that the terminal listens at.
+    /// The name or address on which the terminal listens.
     pub host: &'a str,
-    /// The port that the terminal listens at. Port 0 represents a free one.
+    /// The port on which the terminal listens. Port 0 chooses a free port.
     pub port: u16,
     /// The terminal's number, at most 99,999,999.
     pub tid: u32,
     /// The terminal's decision on each payment.
     pub verdict: Verdict,
-    /// The length encodings that the terminal reads.
+    /// The length encodings that the terminal accepts.
     pub lengths: Lengths,
-    /// The number of tills that are served, one after another.
+    /// The number of connections to serve, one after another.
     pub connections: u64,
-    /// The file that the trace is written to.
+    /// The file for the trace, if one is to be written.
     pub trace: Option<&'f File>,
     /// The form of the reports.
     pub form: Form,

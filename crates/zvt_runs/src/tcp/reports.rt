@@ -15,7 +15,8 @@ use zvt_stream::LineFault;
 use zvt_term::{Row, Terminal};
 use zvt_text::{Form, Text};
 
-/// Reports in this form the address at which the terminal listens. A device that fails is no fault of the service.
+/// Reports in this form the address on which the terminal listens. If the device fails, this is not a fault of the
+/// service.
 pub(crate) fn report_address<W: Sink>(
     alloc: Global,
     form: Form,
@@ -40,13 +41,13 @@ pub(crate) struct GoneTill {
     pub(crate) number: u64,
     /// How its connection failed, if it did.
     pub(crate) broke: Option<LineFault>,
-    /// The number of rows that the ledger had before the till connected.
+    /// The number of rows in the ledger before the till connected.
     pub(crate) rows_before: usize,
 }
 
-/// Reports in this form the rows that the ledger got from a till. Then it reports that the till disconnected, how its
-/// connection failed, if it did, and how many approvals the terminal's ledger has. A device that fails is no fault of
-/// the service.
+/// Reports in this form the rows that the ledger got from a till, and then that the till disconnected, how its
+/// connection failed, if it did, and the number of approvals in the terminal's ledger. If the device fails, this is not
+/// a fault of the service.
 pub(crate) fn report_till<W: Sink>(
     alloc: Global,
     form: Form,
@@ -72,7 +73,7 @@ pub(crate) fn report_till<W: Sink>(
     Ok(())
 }
 
-/// The rows after this number of first ones.
+/// Returns the rows after the first `count` rows.
 fn after(rows: &[Row], count: usize) -> &[Row]
     ensures { result.now ≡ drop count rows.now }
 {
@@ -83,7 +84,7 @@ fn after(rows: &[Row], count: usize) -> &[Row]
     }
 }
 
-/// What is reported in this form of a till that disconnected.
+/// Returns the report in this form that a till disconnected.
 fn gone(
     alloc: Global,
     form: Form,
@@ -100,7 +101,7 @@ fn gone(
     }
 }
 
-/// The line of text of a till that disconnected.
+/// Returns the report as text that a till disconnected.
 fn gone_words(
     alloc: Global,
     till: u64,
@@ -115,7 +116,7 @@ fn gone_words(
     Ok(text)
 }
 
-/// The JSON line of a till that disconnected, and whose connection did not fail.
+/// Returns the JSON line of a till that disconnected without a fault.
 fn gone_object(alloc: Global, till: u64, approved: usize) -> Result<Text, AllocError>
     ensures { IfOk result (λ report. report ≡ line_text (gone_value till approved)) }
 {
@@ -123,14 +124,14 @@ fn gone_object(alloc: Global, till: u64, approved: usize) -> Result<Text, AllocE
     line(alloc, value.to_string(alloc)?.as_str())
 }
 
-/// The JSON value of a till that disconnected, and whose connection did not fail.
+/// Returns the JSON value of a till that disconnected without a fault.
 fn gone_value(alloc: Global, till: u64, approved: usize) -> Result<Value, AllocError>
     ensures { IfOk result (λ value. view value ≡ gone_value till approved) }
 {
     json!(in alloc; {"approvals": approved, "till": till})
 }
 
-/// The JSON line of a till whose connection failed.
+/// Returns the JSON line of a till whose connection failed.
 fn failed_object(
     alloc: Global,
     till: u64,
@@ -144,14 +145,14 @@ fn failed_object(
     line(alloc, value.to_string(alloc)?.as_str())
 }
 
-/// The JSON value of a till whose connection failed, with the words of the fault.
+/// Returns the JSON value of a till whose connection failed, with the text of the fault.
 fn failed_value(alloc: Global, till: u64, why: &str, approved: usize) -> Result<Value, AllocError>
     ensures { IfOk result (λ value. view value ≡ failed_value till approved why.now) }
 {
     json!(in alloc; {"approvals": approved, "failed": why, "till": till})
 }
 
-/// A line of this text.
+/// Returns this text as a line.
 pub(crate) fn line(alloc: Global, word: &str) -> Result<Text, AllocError>
     ensures { IfOk result (λ line. line ≡ word.now ++ 10 ∷ []) }
 {
@@ -161,7 +162,7 @@ pub(crate) fn line(alloc: Global, word: &str) -> Result<Text, AllocError>
     Ok(text)
 }
 
-/// Reports a text. A device that fails is no fault.
+/// Reports a text. If the device fails, this is not a fault.
 fn report_text<W: Sink>(text: &Text, report: &mut W)
     ensures { Reports text.now (W.written report.old) (W.written report.new) (W.failures report.old)
         (W.failures report.new) }
@@ -193,7 +194,7 @@ fn say_gone(
     }
 }
 
-/// Adds how many approvals a ledger has.
+/// Adds the number of approvals in a ledger.
 fn say_ledger(text: &mut Text, approvals: usize) -> Result<(), AllocError>
     ensures { OnOk result (text.new ≡ text.old ++ ledger_text approvals) }
 {
@@ -202,7 +203,7 @@ fn say_ledger(text: &mut Text, approvals: usize) -> Result<(), AllocError>
     text.push(b'\n')
 }
 
-/// How many of these rows approve a payment.
+/// Returns the number of rows that approve a payment.
 fn approvals(rows: &[Row]) -> usize
     ensures { result ≡ approvals rows.now }
 {

@@ -28,7 +28,7 @@ pub(crate) fn say_rows(
     Ok(())
 }
 
-/// The line of a row in this form.
+/// Returns the line of a row in this form.
 fn row_line(alloc: Global, form: Form, till: u64, row: &Row) -> Result<Text, AllocError>
     ensures { IfOk result (λ line. line ≡ row_line form till row.now.number row.now.amount row.now.reverses) }
 {
@@ -43,7 +43,7 @@ fn row_line(alloc: Global, form: Form, till: u64, row: &Row) -> Result<Text, All
     }
 }
 
-/// The line of text of an approval.
+/// Returns the line of an approval as text.
 fn approved_words(alloc: Global, number: u16, amount: u64) -> Result<Text, AllocError>
     ensures { IfOk result (λ line. line ≡ approved_text number amount) }
 {
@@ -56,7 +56,7 @@ fn approved_words(alloc: Global, number: u16, amount: u64) -> Result<Text, Alloc
     Ok(text)
 }
 
-/// The line of text of an approval that was taken back.
+/// Returns the line of a reversed approval as text.
 fn reversed_words(
     alloc: Global,
     number: u16,
@@ -76,7 +76,7 @@ fn reversed_words(
     Ok(text)
 }
 
-/// The JSON line of an approval.
+/// Returns the JSON line of an approval.
 fn approved_object(alloc: Global, till: u64, number: u16, amount: u64) -> Result<Text, AllocError>
     ensures { IfOk result (λ line. line ≡ line_text (approved_value till number amount)) }
 {
@@ -84,14 +84,14 @@ fn approved_object(alloc: Global, till: u64, number: u16, amount: u64) -> Result
     line(alloc, value.to_string(alloc)?.as_str())
 }
 
-/// The JSON value of an approval.
+/// Returns the JSON value of an approval.
 fn approved_value(alloc: Global, till: u64, number: u16, amount: u64) -> Result<Value, AllocError>
     ensures { IfOk result (λ value. view value ≡ approved_value till number amount) }
 {
     json!(in alloc; {"approved": amount, "number": number, "till": till})
 }
 
-/// The JSON line of an approval that was taken back.
+/// Returns the JSON line of a reversed approval.
 fn reversed_object(
     alloc: Global,
     till: u64,
@@ -105,7 +105,7 @@ fn reversed_object(
     line(alloc, value.to_string(alloc)?.as_str())
 }
 
-/// The JSON value of an approval that was taken back.
+/// Returns the JSON value of a reversed approval.
 fn reversed_value(
     alloc: Global,
     till: u64,

@@ -20,10 +20,10 @@ use zvt_grammar::Lengths;
 use zvt_io::Sink;
 use zvt_till::Keeper;
 
-/// Runs the steps between a till, alone or with a book, and a terminal that are both in this process. It listens at a
-/// free port of 127.0.0.1 and connects to itself. The trace has what the till heard and sent.
+/// Runs the steps between a till, alone or with a book, and a terminal in the same process. Listens on a free port of
+/// 127.0.0.1 and connects to itself. The trace contains what the till received and sent.
 ///
-/// `Net` comes before anything is written, reported or recorded. [`run_both_ends`] says what else is answered.
+/// Fails with `Net` before anything is written, reported or recorded. [`run_both_ends`] describes the other results.
 pub fn run_loop<R, K, N, W, E>(
     rt: &R,
     alloc: Global,
@@ -59,12 +59,11 @@ where
 }
 
 /// Connects a till, alone or with a book, to its terminal, and runs the steps. Each order has 100,000 reads. The trace
-/// has what the till heard and sent: a line for each read and each write, and `!` at the end. A trace that can't be
-/// written ends the run with `Trace`. The messages of the terminal may be shown as they come; text that can't be shown
-/// is no fault of the run.
+/// contains what the till received and sent: a line for each read and each write, and `!` at the end. The terminal's
+/// messages may be shown as they arrive; if they cannot be shown, this is not a fault of the run.
 ///
-/// `Net` comes before anything is written, reported or recorded. `Silent` comes where a read waited for the seconds of
-/// the run. [`run_till_end`] says what else is answered.
+/// Fails with `Net` before anything is written, reported or recorded. Fails with `Silent` if a read timed out, and with
+/// `Trace` if the trace cannot be written. [`run_till_end`] describes the other results.
 pub fn run_till<R, K, N, W, E>(
     rt: &R,
     alloc: Global,

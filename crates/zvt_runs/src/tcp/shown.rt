@@ -1,4 +1,4 @@
-//! The messages of a terminal, which are shown while they come.
+//! Shows the messages of a terminal as they arrive.
 ghost use Rattle.std.specs.Prelude.{◌≡◌, [], is_some};
 ghost use Rattle.zvt_grammar.specs.Lengths.{reading_of};
 ghost use Rattle.zvt_show.specs.Shown.{HasShown};
@@ -11,7 +11,8 @@ use zvt_io::{Over, Sink};
 use zvt_show::{Shown, Style};
 use zvt_text::Form;
 
-/// What shows a line on standard error in this form, if that is given. The messages have such lengths.
+/// Returns a listener that shows a line on this output in this form, if an output is given. `lengths` says how the
+/// messages are read.
 pub(crate) fn shown_by(
     alloc: Global,
     form: Form,
@@ -26,15 +27,16 @@ pub(crate) fn shown_by(
     }
 }
 
-/// What shows a line on this output in this form. Nothing is shown yet. The messages have such lengths.
+/// Returns a listener that shows a line on this output in this form. It has shown nothing yet. `lengths` says how the
+/// messages are read.
 fn shown_on<W: Sink + Drop>(alloc: Global, form: Form, lengths: Lengths, output: W) -> Shown<W>
     ensures { HasShown W.written (reading_of lengths) (style_of form) [] (W.written output) result }
 {
-    Shown::new(alloc, style_by(form), lengths, output)
+    Shown::new(alloc, style_of(form), lengths, output)
 }
 
-/// The style of the text of a line in this form.
-fn style_by(form: Form) -> Style
+/// Returns the style that shows a line in this form.
+fn style_of(form: Form) -> Style
     ensures { result ≡ style_of form }
 {
     match form {

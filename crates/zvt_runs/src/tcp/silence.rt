@@ -1,4 +1,4 @@
-//! A terminal that is silent for longer than its till waits.
+//! Finds out whether a terminal was silent for longer than its till waits.
 ghost use Rattle.std.specs.Prelude.{◌≡◌, false, Option, ℕ};
 ghost use Rattle.zvt_runs.specs.Traced.{by_silence};
 
@@ -7,7 +7,7 @@ use crate::tcp::ends::TillLine;
 use std::io::{self, ErrorKind, Read, Write};
 use std::net::TcpStream;
 
-/// A connection that knows whether its last read failed since nothing came for as long as it waits.
+/// A connection that knows whether its last read timed out.
 #[derive(Clone, Copy)]
 pub(crate) struct Socket<'a> {
     stream: &'a TcpStream,
@@ -15,7 +15,7 @@ pub(crate) struct Socket<'a> {
 }
 
 impl<'a> Socket<'a> {
-    /// This connection, before its first read.
+    /// Wraps this connection before its first read.
     pub(crate) fn new(stream: &'a TcpStream) -> Socket<'a>
         ensures { result.waited ≡ false }
     {
@@ -49,12 +49,12 @@ impl Write for Socket<'_> {
     }
 }
 
-/// Whether a read that failed so has waited for too long.
+/// Returns whether an error of this kind means that a read timed out.
 fn is_time_out(kind: ErrorKind) -> bool {
     matches!(kind, ErrorKind::WouldBlock | ErrorKind::TimedOut)
 }
 
-/// For how many seconds the last read of this end has waited, where it failed for that.
+/// Returns this number of seconds if the last read of this end timed out.
 pub(crate) fn waited(end: &TillLine<'_>, seconds: u16) -> Option<u16> {
     if end.reader.device.inner.waited {
         Some(seconds)
@@ -63,7 +63,7 @@ pub(crate) fn waited(end: &TillLine<'_>, seconds: u16) -> Option<u16> {
     }
 }
 
-/// The result of a run, given the seconds for which its last read waited, if it timed out.
+/// Returns the result of a run, given the seconds after which its last read timed out, if it did.
 pub(crate) fn by_silence(waited: Option<u16>, answer: Result<(), EndFault>) -> Result<(), EndFault>
     ensures { result ≡ by_silence waited answer }
 {

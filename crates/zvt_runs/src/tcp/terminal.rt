@@ -17,18 +17,18 @@ use zvt_io::Sink;
 use zvt_stream::LineFault;
 use zvt_term::{Served, Terminal};
 
-/// Listens, and serves tills one after another with one terminal, waiting for each without limit. The terminal's
-/// ledger carries over from till to till, but each till has to register anew.
+/// Listens, and serves tills one after another with one terminal, waiting for each without limit. The terminal's ledger
+/// carries over from till to till, but each till has to register anew.
 ///
-/// The end of a connection between two messages is no fault. A connection that breaks otherwise ends the service of its
-/// till alone. The first such fault is answered, as `Line`, once all tills were served.
+/// A connection that ends between two messages is not a fault. If a connection breaks in another way, only its own till
+/// is affected: the remaining tills are served, and then the first such fault is returned as `Line`.
 ///
-/// `Net` ends the service where the port can't be had, or where no connection can be taken. `Trace` ends it where the
-/// trace can't be written, and `Memory` where a till can't be begun with or reported.
+/// Fails with `Net` if it cannot listen on the port or accept a connection, with `Trace` if the trace cannot be
+/// written, and with `Memory` if an allocation fails while a till connects or is reported.
 ///
-/// The trace has what the terminal heard and answered, as the till sees it. `report` gets the address at which the
-/// terminal listens. For each till that disconnects it gets the rows that the ledger got from it, and the number of
-/// approvals in the ledger. All come in the form of the run.
+/// The trace contains what the terminal received and answered, as the till sees it. `report` gets the address on which
+/// the terminal listens. For each till that disconnects, it gets the rows that the ledger got from that till, and the
+/// number of approvals in the ledger. All reports have the form of the run.
 pub fn run_terminal<R, W>(
     rt: &R,
     alloc: Global,
@@ -86,8 +86,8 @@ fn serve_tills<W: Sink>(
     }
 }
 
-/// Serves the till at the other end of this connection, and answers how the line broke, if it did. The faults are
-/// `Trace`, and `Memory` where there was none to begin with.
+/// Serves the till at the other end of this connection, and returns how the line broke, if it did. Fails with `Trace`,
+/// or with `Memory` if an allocation failed before the till was served.
 fn serve_till(
     alloc: Global,
     connection: &TcpStream,

@@ -8,10 +8,10 @@ use std::fs::File;
 use zvt_io::Over;
 use zvt_trace::TraceWriter;
 
-/// Writes a trace to its file, if there is one.
+/// A writer of a trace to its file, if there is one.
 pub(crate) type FileTrace<'a> = Option<TraceWriter<Over<&'a File>>>;
 
-/// What writes a trace to this file, if there is one.
+/// Returns a writer of a trace to this file, if there is one.
 pub(crate) fn file_trace<'a>(
     alloc: Global,
     file: Option<&'a File>,
@@ -24,7 +24,7 @@ pub(crate) fn file_trace<'a>(
     }
 }
 
-/// What a run answers whose trace broke, or did not.
+/// Returns the result of a run, given whether its trace broke.
 pub(crate) fn by_trace(broken: bool, answer: Result<(), EndFault>) -> Result<(), EndFault>
     ensures { result ≡ by_trace broken answer }
 {

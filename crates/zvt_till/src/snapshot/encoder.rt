@@ -15,7 +15,7 @@ use crate::{Cause, Doubt, Entry, Happening, Order, Outcome, Till};
 use std::alloc::{AllocError, Global};
 use zvt_bcd::{Amount, Trace, put};
 
-/// What comes first: ZVT.
+/// The first bytes: ZVT.
 const MARK: [u8; 3] = [0x5A, 0x56, 0x54];
 
 /// Writes a number in that many bytes of digits.
@@ -62,7 +62,7 @@ fn put_receipt(bytes: &mut Vec<u8>, receipt: Option<[u8; 2]>) -> Result<(), Allo
     }
 }
 
-/// The number of what the reversals of an entry leave open.
+/// Returns the number of an entry's doubt.
 fn doubt_code(doubt: Doubt) -> u8
     ensures { result ≡ doubt_code doubt }
 {
@@ -73,7 +73,7 @@ fn doubt_code(doubt: Doubt) -> u8
     }
 }
 
-/// Writes what the reversals of an entry leave open, where the layout has it.
+/// Writes an entry's doubt, if the layout has it.
 fn put_doubt(bytes: &mut Vec<u8>, layout: Layout, doubt: Doubt) -> Result<(), AllocError>
     ensures { OnOk result (bytes.new.items ≡ bytes.old.items ++ doubt_bytes layout doubt) }
 {
@@ -104,7 +104,7 @@ fn put_unclear(bytes: &mut Vec<u8>, amount: Amount, cause: Cause) -> Result<(), 
     bytes.extend_from_slice(&[cause_code(cause)])
 }
 
-/// Writes an outcome of this kind, with what it has.
+/// Writes an outcome of this kind with its values.
 fn put_outcome_row(
     bytes: &mut Vec<u8>,
     kind: u8,
@@ -147,10 +147,10 @@ fn put_paid(bytes: &mut Vec<u8>, trace: Trace, receipt: Option<[u8; 2]>) -> Resu
     put_outcome_row(bytes, 2, 0, trace.get(), receipt)
 }
 
-/// The parts of a till that the loss of its connection changes.
+/// The parts of a till that losing its connection changes.
 #[derive(Clone, Copy)]
 struct Settled {
-    /// The payment that becomes unclear besides those that already are.
+    /// The payment that becomes unclear in addition to the payments that already are.
     left: Option<Amount>,
     /// The index of the entry whose last reversal becomes unclear.
     doubted: Option<usize>,
@@ -190,7 +190,7 @@ fn settle(till: &Till) -> Settled
     }
 }
 
-/// Writes what comes first, and how many rows follow.
+/// Writes the first bytes, and the numbers of rows that follow.
 fn put_counts(
     bytes: &mut Vec<u8>,
     layout: Layout,
@@ -207,7 +207,7 @@ fn put_counts(
     put_number(bytes, 3, unclear as u64)
 }
 
-/// Writes what the till was made with, and this last outcome.
+/// Writes the settings of the till, and this last outcome.
 fn put_settings(bytes: &mut Vec<u8>, till: &Till, last: Option<Outcome>) -> Result<(), AllocError>
     ensures bytes { OnOk result (bytes.new.items ≡ bytes.old.items ++ settings_bytes till.now.state.settings last) }
     ensures outcome { OnOk result (IsOutcome last) }
@@ -231,7 +231,7 @@ fn put_book(bytes: &mut Vec<u8>, layout: Layout, book: &[Entry]) -> Result<(), A
     Ok(())
 }
 
-/// Writes the rows of a book, where a reversal of this entry is open when the connection is lost.
+/// Writes the rows of a book, when a reversal of this entry is open at the loss of the connection.
 fn put_left_book(
     bytes: &mut Vec<u8>,
     layout: Layout,
@@ -265,7 +265,7 @@ fn put_rows(bytes: &mut Vec<u8>, rows: &[(Amount, Cause)]) -> Result<(), AllocEr
     Ok(())
 }
 
-/// Writes the row of a payment that is open when the connection is lost.
+/// Writes the row of a payment that is open at the loss of the connection.
 fn put_open(bytes: &mut Vec<u8>, left: Option<Amount>) -> Result<(), AllocError>
     ensures bytes { OnOk result (bytes.new.items ≡ bytes.old.items ++ flat_map unclear_bytes (open_rows left)) }
     ensures fit { OnOk result (All IsUnclear (open_rows left)) }
@@ -276,7 +276,7 @@ fn put_open(bytes: &mut Vec<u8>, left: Option<Amount>) -> Result<(), AllocError>
     }
 }
 
-/// How many rows that is.
+/// Returns the number of rows for an open payment.
 fn rows_left(left: Option<Amount>) -> usize
     ensures count { result ≡ length (open_rows left) }
     ensures few { result ≤ 1 }
@@ -287,13 +287,13 @@ fn rows_left(left: Option<Amount>) -> usize
     }
 }
 
-/// Writes the header and the rows of the till after its connection was lost.
+/// Writes the header and the rows of the till after losing its connection.
 fn put_body(bytes: &mut Vec<u8>, layout: Layout, till: &Till) -> Result<(), AllocError>
     ensures bytes { OnOk result (bytes.new.items ≡ bytes.old.items ++ body_bytes layout
         (step till.now.state Happening.Lost)) }
     ensures kept { OnOk result (IsKept (step till.now.state Happening.Lost)) }
 {
-    // by this law the rows are some that a till can have
+    // by this law, a till can have these rows
     till.can_be_restored();
     let settled = settle(till);
     let unclear = till.unclear().len() + rows_left(settled.left);

@@ -27,7 +27,7 @@ pub fn read_number(bytes: &[u8]) -> Option<u64>
     }
 }
 
-/// The amount in six bytes.
+/// Reads an amount from six bytes.
 fn read_amount(bytes: &[u8]) -> Option<Amount>
     requires { length bytes.now ≡ 6 }
     ensures { (n : ℕ) → IsAmount n → bytes.now ≡ digits 6 n → result ≡ Some n }
@@ -38,7 +38,7 @@ fn read_amount(bytes: &[u8]) -> Option<Amount>
     }
 }
 
-/// The trace number in three bytes.
+/// Reads a trace number from three bytes.
 fn read_trace(bytes: &[u8]) -> Option<Trace>
     requires { length bytes.now ≡ 3 }
     ensures { (n : ℕ) → n ≤ 999999 → bytes.now ≡ digits 3 n → result ≡ Some n }
@@ -49,7 +49,7 @@ fn read_trace(bytes: &[u8]) -> Option<Trace>
     }
 }
 
-/// The cause of this number.
+/// Returns the cause with this number.
 fn read_cause(code: u8) -> Option<Cause>
     ensures { result ≡ cause_from code }
 {
@@ -68,7 +68,7 @@ fn read_cause(code: u8) -> Option<Cause>
     }
 }
 
-/// The receipt number after its byte, if there is one.
+/// Reads a receipt number, if the byte before it says that there is one.
 fn read_receipt(bytes: &[u8]) -> Option<[u8; 2]>
     requires { length bytes.now ≡ 3 }
     ensures { (receipt : Option (List ℕ)) → IsReceipt receipt → bytes.now ≡ receipt_bytes receipt → result ≡ receipt }
@@ -80,7 +80,7 @@ fn read_receipt(bytes: &[u8]) -> Option<[u8; 2]>
     }
 }
 
-/// The doubt of this number.
+/// Returns the doubt with this number.
 fn doubt_of(code: u8) -> Option<Doubt>
     ensures { result ≡ doubt_from code }
 {
@@ -94,7 +94,7 @@ fn doubt_of(code: u8) -> Option<Doubt>
     }
 }
 
-/// What the reversals of an entry leave open, after its receipt number. The first layout says nothing of it.
+/// Reads an entry's doubt, after its receipt number. The first layout has none.
 fn read_doubt(layout: Layout, bytes: &[u8]) -> Option<Doubt>
     ensures value { (doubt : Doubt) → HasDoubtOf layout doubt → bytes.now ≡ doubt_bytes layout doubt
         → result ≡ Some doubt }
@@ -139,7 +139,7 @@ pub fn read_unclear(row: &[u8]) -> Option<(Amount, Cause)>
     Some((amount, cause))
 }
 
-/// The outcome of this kind, with what it has.
+/// Returns the outcome of this kind with these values.
 fn outcome_of(kind: u8, code: u8, trace: Trace, receipt: Option<[u8; 2]>) -> Option<Option<Outcome>>
     ensures { result ≡ outcome_from kind code trace receipt }
 {

@@ -24,7 +24,7 @@ pub enum RestoreError {
     Memory,
 }
 
-/// The trace numbers of a book in which none appears twice.
+/// Returns the trace numbers of a book in which none appears twice.
 fn traces_of(alloc: Global, book: &[Entry]) -> Result<UsedTraces, RestoreError>
     ensures traces { IfOk result (λ used. AreTracesOf used book.now) }
     ensures once { OnOk result (OnceBelow (length book.now) book.now) }
@@ -48,9 +48,9 @@ impl Till {
     ghost use Rattle.zvt_till.specs.Numbers.{no_numbers};
     ghost use Rattle.zvt_till.specs.Till.{step};
 
-    /// Creates a till with the settings of this one, whose line is down, with these booked and unclear payments and
-    /// this last outcome. The numbers that the terminal named are unknown. Fails if no till can have these rows, or if
-    /// an allocation fails.
+    /// Creates a till with the settings of this one, not connected, with these booked and unclear payments and this
+    /// last outcome. The numbers that the terminal named are unknown. Fails if no till can have these rows, or if an
+    /// allocation fails.
     pub fn restored(
         &self,
         alloc: Global,
@@ -90,12 +90,12 @@ impl Till {
         }
     }
 
-    /// A law about every till: the rows after the loss of its line can be restored, so `restored` never calls them
+    /// Law: the rows of every till after losing its line can be restored, so `restored` never reports them as
     /// impossible.
     pub fn can_be_restored(&self)
         ensures { CanStand (step self.now.state Happening.Lost).book (step self.now.state Happening.Lost).unclear }
     {
-        // The proof learns what holds of all fields from a look at one.
+        // Reading one field tells the proof the invariant of all fields.
         let _ = &self.book;
     }
 }

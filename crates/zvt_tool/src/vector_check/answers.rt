@@ -8,7 +8,7 @@ use std::fmt::Write;
 use zvt_apdu::scan;
 use zvt_grammar::Scan;
 
-/// Writes after the text what the reader of messages answers that is given these bytes.
+/// Appends the result of the message reader for these bytes.
 pub(crate) fn write_answer(alloc: Global, text: &mut String, bytes: &[u8]) -> Result<(), AllocError>
     ensures { OnOk result ((answer : List ℕ) × AnswersAs bytes.now answer
         × (string_bytes text.new ≡ string_bytes text.old ++ answer)) }

@@ -37,7 +37,7 @@ pub fn vectors<R: Source, W: Sink>(
     check_lines(alloc, form, text.as_slice(), writer)
 }
 
-/// Checks the vectors up to the first line that can't be read.
+/// Checks the vectors up to the first line that cannot be read.
 fn check_lines<W: Sink>(
     alloc: Global,
     form: Form,
@@ -63,7 +63,7 @@ fn check_lines<W: Sink>(
     Ok(Tally { messages, bad })
 }
 
-/// Checks the line of that number.
+/// Checks the line of this number.
 fn check_line<W: Sink>(
     alloc: Global,
     form: Form,
@@ -89,7 +89,7 @@ fn check_line<W: Sink>(
     }
 }
 
-/// Checks a vector, and writes the line of one that the reader answers otherwise.
+/// Checks a vector, and writes its line if the reader's result differs.
 fn check_vector<W: Sink>(
     alloc: Global,
     form: Form,

@@ -1,4 +1,4 @@
-//! Texts that have the form of an answer.
+//! Recognises texts that have the form of a result.
 ghost use Rattle.std.specs.Prelude.{◌≡◌, ◌<◌, ◌≤◌, true, false, length, take, slice_index};
 ghost use Rattle.std.specs.List.{All};
 ghost use Rattle.zvt_tool.specs.Vectors.{IsClaim, IsDigit, IsNumber, IsReason, IsRefusal};
@@ -17,7 +17,7 @@ const REASONS: [Why; 8] = [
     Why::LengthDigit,
 ];
 
-/// Whether the text is `more`, `whole N` or `refused at P: R`, with numbers N and P and the name of a reason R.
+/// Returns whether the text is `more`, `whole N` or `refused at P: R`, with numbers N and P and the name of a reason R.
 pub(crate) fn is_claim(text: &[u8]) -> bool
     ensures yes { result ≡ true → IsClaim text.now }
     ensures no { result ≡ false → IsClaim text.now → ⊥ }
@@ -34,7 +34,7 @@ pub(crate) fn is_claim(text: &[u8]) -> bool
     }
 }
 
-/// Whether the text is a place and a reason.
+/// Returns whether the text is a position and a reason.
 fn is_refusal(text: &[u8]) -> bool
     ensures yes { result ≡ true → IsRefusal text.now }
     ensures no { result ≡ false → IsRefusal text.now → ⊥ }
@@ -46,7 +46,7 @@ fn is_refusal(text: &[u8]) -> bool
     }
 }
 
-/// Whether the text is a decimal number without zeros before it.
+/// Returns whether the text is a decimal number without leading zeros.
 fn is_number(text: &[u8]) -> bool
     ensures yes { result ≡ true → IsNumber text.now }
     ensures no { result ≡ false → IsNumber text.now → ⊥ }
@@ -57,7 +57,7 @@ fn is_number(text: &[u8]) -> bool
     }
 }
 
-/// How many decimal digits come first.
+/// Returns the number of decimal digits at the beginning.
 fn count_digits(text: &[u8]) -> usize
     ensures few { result ≤ length text.now }
     ensures digits { All IsDigit (take result text.now) }
@@ -70,7 +70,7 @@ fn count_digits(text: &[u8]) -> usize
     count
 }
 
-/// Whether the text is the name of a reason.
+/// Returns whether the text is the name of a reason.
 fn is_reason(text: &[u8]) -> bool
     ensures yes { result ≡ true → IsReason text.now }
     ensures no { result ≡ false → IsReason text.now → ⊥ }

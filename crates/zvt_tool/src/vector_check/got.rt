@@ -9,7 +9,7 @@ use serde_json::{Value, json};
 use std::alloc::{AllocError, Global};
 use zvt_text::Form;
 
-/// The line in this form for a vector at that line, which the reader answers so.
+/// Returns the line in this form for a vector in that line of the file, with the reader's result.
 pub(crate) fn got(
     alloc: Global,
     form: Form,
@@ -24,14 +24,14 @@ pub(crate) fn got(
     }
 }
 
-/// The line of text for a vector at that line, which the reader answers so.
+/// Returns the line of text for a vector in that line of the file, with the reader's result.
 fn words(alloc: Global, number: u64, answer: &str) -> Result<String, AllocError>
     ensures { IfOk result (λ line. string_bytes line ≡ got_text number answer.now) }
 {
     format!(in alloc; "line {number}: got {answer}\n")
 }
 
-/// The JSON line for a vector at that line, which the reader answers so.
+/// Returns the JSON line for a vector in that line of the file, with the reader's result.
 fn object(alloc: Global, number: u64, answer: &str) -> Result<String, AllocError>
     ensures { IfOk result (λ line. string_bytes line ≡ line_text (got_value number answer.now)) }
 {
@@ -40,7 +40,7 @@ fn object(alloc: Global, number: u64, answer: &str) -> Result<String, AllocError
     Ok(line)
 }
 
-/// The JSON value for a vector at that line, which the reader answers so.
+/// Returns the JSON value for a vector in that line of the file, with the reader's result.
 fn value(alloc: Global, number: u64, answer: &str) -> Result<Value, AllocError>
     ensures { IfOk result (λ value. view value ≡ got_value number answer.now) }
 {

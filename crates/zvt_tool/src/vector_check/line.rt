@@ -14,13 +14,13 @@ use zvt_trace::{TraceLineError, spelled_bytes};
 /// A line of vectors.
 #[derive(Drop)]
 pub(crate) enum VectorLine<'a> {
-    /// Nothing.
+    /// An empty line or a comment.
     Comment,
-    /// Bytes, and the answer expected from a reader.
+    /// Bytes, and the expected result of a reader.
     Vector { bytes: Vec<u8>, claim: &'a [u8] },
 }
 
-/// Why a line has no meaning.
+/// Why a line cannot be read.
 #[derive(Clone, Copy)]
 pub(crate) enum BadLine {
     Wrong(TraceLineError),
@@ -37,7 +37,7 @@ impl From<AllocError> for BadLine {
     }
 }
 
-/// Reads a line, which has lost its line feed.
+/// Reads a line without its line feed.
 pub(crate) fn read_line<'a>(alloc: Global, line: &'a [u8]) -> Result<VectorLine<'a>, BadLine>
     ensures ok { IfOk result (λ read. Means line.now (Ok (meant_by read))) }
     ensures wrong { (what : TraceLineError) → result ≡ Err (BadLine.Wrong what) → Means line.now (Err what) }
@@ -51,7 +51,7 @@ pub(crate) fn read_line<'a>(alloc: Global, line: &'a [u8]) -> Result<VectorLine<
     }
 }
 
-/// The bytes in hexadecimal and the claim of a vector, where the line has its form.
+/// Splits a vector into its bytes in hexadecimal and its claim, if the line has this form.
 fn cut(line: &[u8]) -> Option<(&[u8], &[u8])>
     ensures some { IfSome result (λ parts. IsVector line.now parts.0.now parts.1.now) }
     ensures none { IsNone result → (spelled claim : List ℕ) → IsVector line.now spelled claim → ⊥ }
@@ -66,7 +66,7 @@ fn cut(line: &[u8]) -> Option<(&[u8], &[u8])>
     }
 }
 
-/// Whether there is text, and neither its first nor its last character is a space.
+/// Returns whether there is text, and neither its first nor its last character is a space.
 fn is_spelling(text: &[u8]) -> bool
     ensures yes { result ≡ true → IsSpelling text.now }
     ensures no { result ≡ false → IsSpelling text.now → ⊥ }
@@ -77,7 +77,7 @@ fn is_spelling(text: &[u8]) -> bool
     }
 }
 
-/// How many characters come before the first `=`.
+/// Returns the number of characters before the first `=`.
 fn count_before(line: &[u8]) -> usize
     ensures few { result ≤ length line.now }
     ensures others { All IsOther (take result line.now) }
@@ -90,7 +90,7 @@ fn count_before(line: &[u8]) -> usize
     count
 }
 
-/// The vector of these bytes in hexadecimal, with spaces.
+/// Reads a vector from bytes in hexadecimal, which spaces may separate.
 fn read_vector<'a>(
     alloc: Global,
     spelled: &[u8],

@@ -11,17 +11,17 @@ use Rattle.zvt_c.specs.Saving.{Written}
 use Rattle.zvt_c.proofs.First.{has_bytes, whole_first}
 use Rattle.zvt_c.proofs.records.zvt_record_heard.Goals as goal
 
-pub returns-then-answer-ne0 : goal.returns-then-answer-ne0
-returns-then-answer-ne0 c = not_whole c.zvt_scan.ensures c.if-answer-ne0.true refl refl
+pub returns-then-answer-ne-OK : goal.returns-then-answer-ne-OK
+returns-then-answer-ne-OK c = not_whole c.zvt_scan.ensures c.if-answer-ne-OK.true refl refl
 
 pub view-requires : goal.view-requires
 view-requires c =
-    let first = whole_first c.args.bytes.now c.zvt_scan.new.answer c.zvt_scan.ensures c.if-answer-ne0.false in
+    let first = whole_first c.args.bytes.now c.zvt_scan.new.answer c.zvt_scan.ensures c.if-answer-ne-OK.false in
     spelled_bytes first.0 _ first.1.spelled
 
 pub returns-in-Ok : goal.returns-in-Ok
 returns-in-Ok c =
-    let (message, found, says) = whole_first c.args.bytes.now c.zvt_scan.new.answer c.zvt_scan.ensures c.if-answer-ne0.false in
+    let (message, found, says) = whole_first c.args.bytes.now c.zvt_scan.new.answer c.zvt_scan.ensures c.if-answer-ne-OK.false in
     let bytes = take c.zvt_scan.new.answer.size c.args.bytes.now in
     let shown : c.view.result ≡ message = c.view.ensures message (message_loosened message bytes found.spelled) in
     let meant : c.heard_view.result ≡ heard_as message = c.heard_view.ensures ∙ ap heard_as shown in

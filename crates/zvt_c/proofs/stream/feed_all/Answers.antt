@@ -14,14 +14,14 @@ messages-init c =
       send = subst (λ (s : ZvtStep). s.send ≤ length c.args.out.now) (sym c.no_step.ensures) (omega arith);
     }
 
-pub returns-then-status-ne0 : goal.returns-then-status-ne0
-returns-then-status-ne0 c =
+pub returns-then-status-ne-OK : goal.returns-then-status-ne-OK
+returns-then-status-ne-OK c =
     let test : goes_on (length c.args.piece.now) (length c.args.out.now) c.messages.answer ≡ true = search rules in
     let one =
     subst (λ (rest : List ℕ). FeedsEnd c.messages.end rest c.feed-status.new.end (drop c.messages.answer.send c.messages.out) c.feed-status.new.out c.messages.line c.feed-status.new.line c.feed-status.new.answer c.feed-status.result) (part_end c.messages.answer.taken c.args.piece.now)
     (subst (λ (buffer : List ℕ). FeedsEnd c.messages.end (take (length c.args.piece.now - c.messages.answer.taken) (drop c.messages.answer.taken c.args.piece.now)) c.feed-status.new.end buffer c.feed-status.new.out c.messages.line c.feed-status.new.line c.feed-status.new.answer c.feed-status.result) (part_end c.messages.answer.send c.messages.out)
     c.feed-status.ensures.fed) in
-    broken c.messages.invariant.so_far test one c.if-status-ne0.true (put_end c.messages.answer.send c.messages.out c.feed-status.new.out) c.add.ensures
+    broken c.messages.invariant.so_far test one c.if-status-ne-OK.true (put_end c.messages.answer.send c.messages.out c.feed-status.new.out) c.add.ensures
 
 pub messages-preserved : goal.messages-preserved
 messages-preserved c =
@@ -35,7 +35,7 @@ messages-preserved c =
     let one =
     subst (λ (rest : List ℕ). FeedsEnd c.messages.end rest c.feed-status.new.end (drop c.messages.answer.send c.messages.out) c.feed-status.new.out c.messages.line c.feed-status.new.line c.feed-status.new.answer 0) (part_end c.messages.answer.taken c.args.piece.now)
     (subst (λ (buffer : List ℕ). FeedsEnd c.messages.end (take (length c.args.piece.now - c.messages.answer.taken) (drop c.messages.answer.taken c.args.piece.now)) c.feed-status.new.end buffer c.feed-status.new.out c.messages.line c.feed-status.new.line c.feed-status.new.answer 0) (part_end c.messages.answer.send c.messages.out)
-    (subst (λ (status : ℕ). FeedsEnd c.messages.end (take (length c.args.piece.now - c.messages.answer.taken) (drop c.messages.answer.taken c.args.piece.now)) c.feed-status.new.end (take (length c.messages.out - c.messages.answer.send) (drop c.messages.answer.send c.messages.out)) c.feed-status.new.out c.messages.line c.feed-status.new.line c.feed-status.new.answer status) c.if-status-ne0.false
+    (subst (λ (status : ℕ). FeedsEnd c.messages.end (take (length c.args.piece.now - c.messages.answer.taken) (drop c.messages.answer.taken c.args.piece.now)) c.feed-status.new.end (take (length c.messages.out - c.messages.answer.send) (drop c.messages.answer.send c.messages.out)) c.feed-status.new.out c.messages.line c.feed-status.new.line c.feed-status.new.answer status) c.if-status-ne-OK.false
     c.feed-status.ensures.fed)) in
     rw (c.add.ensures, put_end c.messages.answer.send c.messages.out c.feed-status.new.out)
     (record {

@@ -1,5 +1,5 @@
-use Rattle.zvt_kept.proofs.Crashed.{crashes_account, crashes_are_losses, crashes_keep_reversals, crashes_match, files_are_worlds}
-use Rattle.zvt_kept.proofs.laws.crashes_are_losses.Goals as goal
+use Rattle.zvt_runs.proofs.Crashed.{crashes_account, crashes_are_losses, crashes_keep_reversals, crashes_match, files_are_worlds}
+use Rattle.zvt_runs.proofs.laws.crashes_are_losses.Goals as goal
 
 pub returns-clause-same : goal.returns-clause-same
 returns-clause-same c = crashes_are_losses

@@ -3,12 +3,13 @@ use Rattle.std.proofs.Common.{◌≡◌, ℕ, false, List, ◌++◌, sym, subst}
 use Rattle.zvt_till.specs.declared.happenings.Happening.{Happening}
 use Rattle.zvt_till.specs.Sending.{Settings}
 use Rattle.zvt_journal.specs.Text.{recovered}
-use Rattle.zvt_kept.specs.Crashes.{KeptMove, kept_world}
+use Rattle.zvt_runs.specs.Crashes.{KeptMove, kept_world}
 use Rattle.zvt_kept.specs.KeptTill.{HasLog, KeptValue, has_failed}
 use Rattle.zvt_kept.specs.Logs.{StandsFor}
-use Rattle.zvt_kept.specs.Outliving.{CallsAreMoves, IsBetween, IsOfWorld}
+use Rattle.zvt_kept.specs.Outliving.{IsBetween}
+use Rattle.zvt_runs.specs.Worlds.{CallsAreMoves, IsOfWorld}
 use Rattle.zvt_kept.proofs.CallsOutlived.{calls_outlive}
-use Rattle.zvt_kept.proofs.Crashed.{files_are_worlds}
+use Rattle.zvt_runs.proofs.Crashed.{files_are_worlds}
 use Rattle.zvt_kept.proofs.Logged.{weaker}
 use Rattle.zvt_kept.proofs.Made.{records_are_kept}
 

@@ -22,7 +22,7 @@ use Rattle.zvt_term.proofs.Returned.{orderly_worlds_keep_reversals}
 use Rattle.zvt_term.proofs.WorldMeans.{worlds_match}
 use Rattle.zvt_journal.specs.Text.{recovered}
 use Rattle.zvt_kept.specs.KeptTill.{unless_up}
-use Rattle.zvt_kept.specs.Crashes.{CrashesAccount, CrashesAreLosses, CrashesKeepReversals, CrashesMatch, FilesAreWorlds, KeptEnds, KeptMove, crashed, crashes, crashes_in, kept_move, kept_world, log_after, message_logged, moved, moves, new_kept, order_logged, without_crash, without_crashes}
+use Rattle.zvt_runs.specs.Crashes.{CrashesAccount, CrashesAreLosses, CrashesKeepReversals, CrashesMatch, FilesAreWorlds, KeptEnds, KeptMove, crashed, crashes, crashes_in, kept_move, kept_world, log_after, message_logged, moved, moves, new_kept, order_logged, without_crash, without_crashes}
 use Rattle.zvt_kept.proofs.Logged.{lost_twice}
 use Rattle.zvt_kept.proofs.Recovering.{logs_are_one}
 use Rattle.zvt_kept.proofs.Relived.{heard_up}
