@@ -21,7 +21,7 @@ hears_line old event new = HearsUntil hears old.auditor event new.auditor
 
 -- what was found, and a tally
 abbrev pub with_tally : Tally → LineBooks → AuditSummary
-with_tally tally found = record { tally = tally; total = found.total; unclear = found.unclear; swapped = found.swapped }
+with_tally tally found = record { tally = tally; total = found.total; unclear = found.unclear; swapped = found.swapped; unfollowed = found.unfollowed }
 
 -- What an audit of the line's whole trace answers, apart from its tally.
 abbrev pub AnswersLine : Reading → (trace : List ℕ) → (old new : Option (List ℕ)) → Result LineBooks TraceFault → Type 0

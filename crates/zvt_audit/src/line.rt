@@ -1,4 +1,4 @@
-//! The books of a line that is heard while it goes on.
+//! The books of a running line.
 ghost use Rattle.std.specs.Prelude.{List, ℕ, IfOk};
 ghost use Rattle.std.specs.Str.Lines.{lines};
 ghost use Rattle.zvt_grammar.specs.Reading.{Reading};
@@ -33,6 +33,8 @@ pub struct LineBooks {
     pub unclear: u64,
     /// Whether orders came only from the side that is marked as the terminal's.
     pub swapped: bool,
+    /// Whether the till sent an order that moves money and that the books do not follow.
+    pub unfollowed: bool,
 }
 
 impl LineAudit {
@@ -65,6 +67,7 @@ impl LineAudit {
             total: found.total,
             unclear: found.unclear,
             swapped: found.swapped,
+            unfollowed: found.unfollowed,
         })
     }
 }
