@@ -1,3 +1,4 @@
 pub mod Settings
 pub mod Notes
 pub mod Output
+pub mod Runs

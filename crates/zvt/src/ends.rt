@@ -1,7 +1,12 @@
-//! The runs of both ends of a line and of a terminal, as the command line asks for them, and what runs have in common.
-ghost use Rattle.std.specs.Prelude.{◌≡◌, ◌≤◌, [], IfOk, is_some};
+//! The runs of both ends of a line and of a terminal, from the command line, and the parts that all runs share.
+ghost use Rattle.std.specs.Prelude.{◌≡◌, ◌<◌, ◌≤◌, [], Err, IfOk, Result, is_some};
+ghost use Rattle.zvt_runs.specs.Reporting.{ReportsNothing, ReportsRun};
+ghost use Rattle.zvt_runs.specs.declared.fault.EndFault.{EndFault};
 ghost use Rattle.zvt_till.specs.Numbers.{no_numbers};
+ghost use Rattle.zvt_till.specs.Settings.{settings_of};
 ghost use Rattle.zvt_till.specs.Till.{new_till};
+ghost use Rattle.zvt_tool.specs.Statuses.{status_of_run};
+ghost use Rattle.zvt.specs.Runs.{MakesSteps, RunsEither, RunsSteps};
 
 use crate::exit::Exit;
 use crate::finish::{finish_plan, finish_run};
@@ -14,7 +19,7 @@ use std::io;
 use zvt_io::{Over, Sink};
 use zvt_journal::FileDevice;
 use zvt_kept::KeptTill;
-use zvt_runs::tcp::{LoopRun, TerminalRun, run_loop, run_terminal};
+use zvt_runs::tcp::{LoopRun, TerminalRun, TillRun, run_loop, run_terminal, run_till};
 use zvt_runs::{Clocked, EndFault, Ends, NoNotes, NoteSource, Planned, StepOptions, plan};
 use zvt_till::{Keeper, Till, TillSettings};
 use zvt_tool::TerminalOptions;
@@ -41,34 +46,27 @@ pub fn both_ends(
     let plan = planned(rt, Ends::Both, steps)?;
     let settings = TillSettings::default();
     let RunFiles { kept, trace: file } = run_files(rt, book, trace, &settings)?;
-    let run = LoopRun {
+    let steps = TillSteps::Here(LoopRun {
         trace: file.as_ref(),
         plan: plan.as_slice(),
         options,
-    };
-    let status = run_status(rt, &run, &settings, kept)?;
-    Ok(trace_file::mend_after(rt, trace, run.trace, status)?)
+    });
+    let status = run_status(rt, &steps, &settings, kept)?;
+    Ok(trace_file::mend_after(rt, trace, file.as_ref(), status)?)
 }
 
-/// The steps of a run, for a till alone or one with a book.
-pub trait TillSteps {
-    /// Makes the steps.
-    fn make<K, N, W, E>(
-        &self,
-        rt: &HostRuntime,
-        till: &mut K,
-        notes: &N,
-        writer: &mut W,
-        report: &mut E,
-    ) -> Result<(), EndFault>
-    where
-        K: Keeper,
-        N: NoteSource<K>,
-        W: Sink,
-        E: Sink;
+/// The steps of a till, and the line on which it makes them.
+#[derive(Clone, Copy)]
+pub enum TillSteps<'a, 'f> {
+    /// The terminal is elsewhere.
+    There(TillRun<'a, 'f>),
+    /// The terminal is in this process.
+    Here(LoopRun<'a, 'f>),
 }
 
-impl TillSteps for LoopRun<'_, '_> {
+impl TillSteps<'_, '_> {
+    /// Makes the steps with this till, alone or with a book, as [`run_till`] or [`run_loop`] does. `writer` gets the
+    /// line of each step, and `report` the notes on them.
     fn make<K, N, W, E>(
         &self,
         rt: &HostRuntime,
@@ -82,33 +80,78 @@ impl TillSteps for LoopRun<'_, '_> {
         N: NoteSource<K>,
         W: Sink,
         E: Sink,
+        ensures run { MakesSteps K.connects K.orders K.hears K.is_resting K.failed K.till K.loses K.malforms N.noted
+            self.now till.old till.new (W.written writer.old) (W.written writer.new)
+            (ReportsRun (E.written report.old) (E.written report.new) (E.failures report.old) (E.failures report.new))
+            (ReportsNothing (E.written report.old) (E.written report.new) (E.failures report.old)
+            (E.failures report.new)) result }
+        ensures write { result ≡ Err EndFault.Write → W.failures writer.old < W.failures writer.new }
     {
-        run_loop(rt, rt.alloc(), self, till, notes, writer, report)
+        match self {
+            TillSteps::There(run) => run_till(rt, rt.alloc(), run, till, notes, writer, report),
+            TillSteps::Here(run) => run_loop(rt, rt.alloc(), run, till, notes, writer, report),
+        }
     }
 }
 
-/// Makes the steps with the till of a book, or with a new till, and returns the exit status.
-pub fn run_status<R: TillSteps>(
+/// How a run ended, and whether the reader of its output disconnected.
+#[derive(Drop)]
+struct RunEnd {
+    answer: Result<(), EndFault>,
+    broken_pipe: bool,
+}
+
+/// Makes the steps with this till. The lines of the steps go to standard output, and the notes to standard error.
+fn make_with<K: Keeper, N: NoteSource<K>>(
     rt: &HostRuntime,
-    run: &R,
-    settings: &TillSettings,
-    kept: Option<KeptTill<FileDevice>>,
-) -> io::Result<u8> {
+    run: &TillSteps<'_, '_>,
+    till: &mut K,
+    notes: &N,
+) -> RunEnd
+    ensures { RunsSteps K.connects K.orders K.hears K.is_resting K.failed K.till K.loses K.malforms N.noted run.now
+        till.old result.answer }
+{
     let mut writer = Over::new(Output::new(io::writer(rt)));
     let mut report = Over::new(rt.stderr());
-    let answer = match kept {
-        None => {
-            let mut till = new_till(rt, settings);
-            run.make(rt, &mut till, &NoNotes, &mut writer, &mut report)
-        }
+    let answer = run.make(rt, till, notes, &mut writer, &mut report);
+    RunEnd {
+        answer,
+        broken_pipe: writer.inner.broken_pipe,
+    }
+}
+
+/// Makes the steps with the till of a book, or with a new till. Reports why the book could not be written, if so.
+fn make_with_either(
+    rt: &HostRuntime,
+    run: &TillSteps<'_, '_>,
+    settings: &TillSettings,
+    kept: Option<KeptTill<FileDevice>>,
+) -> io::Result<RunEnd>
+    ensures { IfOk result (λ end. RunsEither run.now (settings_of settings.now) kept end.answer) }
+{
+    match kept {
+        None => Ok(make_with(rt, run, &mut new_till(rt, settings), &NoNotes)),
         Some(mut till) => {
-            let notes = Clocked { clock: rt };
-            let answer = run.make(rt, &mut till, &notes, &mut writer, &mut report);
+            let end = make_with(rt, run, &mut till, &Clocked { clock: rt });
             book::report_failure(rt, till.device())?;
-            answer
+            Ok(end)
         }
-    };
-    finish_run(rt, writer.inner.broken_pipe, answer)
+    }
+}
+
+/// Makes the steps with the till of a book, or with a new till, and returns the exit status. Reports why the run ended
+/// early, and why the book could not be written, if so.
+pub fn run_status(
+    rt: &HostRuntime,
+    run: &TillSteps<'_, '_>,
+    settings: &TillSettings,
+    kept: Option<KeptTill<FileDevice>>,
+) -> io::Result<u8>
+    ensures { IfOk result (λ status. (answer : Result Unit EndFault) × (status ≡ status_of_run answer)
+        × RunsEither run.now (settings_of settings.now) kept answer) }
+{
+    let end = make_with_either(rt, run, settings, kept)?;
+    finish_run(rt, end.broken_pipe, end.answer)
 }
 
 /// Serves tills as a simulated terminal and returns the exit status. Reports text on standard error, or JSON on
@@ -142,13 +185,9 @@ pub fn terminal(rt: &HostRuntime, options: &TerminalOptions<'_>) -> Result<u8, E
     Ok(trace_file::mend_after(rt, options.trace, trace, status)?)
 }
 
-/// A new till of these settings.
-pub fn new_till(rt: &HostRuntime, settings: &TillSettings) -> Till
-    ensures state { result.state ≡ new_till (record {
-      password = settings.now.password;
-      config = settings.now.config;
-      currency = settings.now.currency;
-    }) }
+/// Returns a new till with these settings.
+fn new_till(rt: &HostRuntime, settings: &TillSettings) -> Till
+    ensures state { result.state ≡ new_till (settings_of settings.now) }
     ensures numbers { result.numbers ≡ no_numbers }
     ensures heard { result.heard ≡ [] }
 {
@@ -160,7 +199,7 @@ pub fn new_till(rt: &HostRuntime, settings: &TillSettings) -> Till
     )
 }
 
-/// The steps that the words name. A word that names no step is reported.
+/// Parses the words as steps. Reports a word that names no step.
 pub fn planned(rt: &HostRuntime, ends: Ends, words: &[&str]) -> Result<Vec<Planned>, Exit> {
     match plan(rt.alloc(), ends, words) {
         Ok(plan) => Ok(plan),
@@ -168,8 +207,8 @@ pub fn planned(rt: &HostRuntime, ends: Ends, words: &[&str]) -> Result<Vec<Plann
     }
 }
 
-/// Opens the book and the trace of a run, where they are named. They are two files, or the run ends before either is
-/// opened.
+/// Opens the book and the trace of a run, if they are named. If both names refer to the same file, opens neither and
+/// fails.
 pub fn run_files(
     rt: &HostRuntime,
     book: Option<&str>,
@@ -185,7 +224,7 @@ pub fn run_files(
     })
 }
 
-/// The till of the book in this file, exactly where one is named. A book that can't be opened is reported.
+/// Opens the book in this file, if one is named. Reports why it cannot be opened.
 fn opened(
     rt: &HostRuntime,
     path: Option<&str>,

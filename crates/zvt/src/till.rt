@@ -1,4 +1,4 @@
-//! The run of a till, as the command line asks for it.
+//! The run of a till, from the command line.
 ghost use Rattle.std.specs.Prelude.{◌≡◌};
 ghost use Rattle.zvt.specs.Settings.{RunsAsAsked};
 
@@ -9,15 +9,13 @@ use crate::settings::settings;
 use crate::trace_file::mend_after;
 use std::fs::File;
 use std::io;
-use zvt_io::Sink;
-use zvt_runs::tcp::{TillRun, run_till};
-use zvt_runs::{EndFault, Ends, NoteSource, Planned, StepOptions};
-use zvt_till::Keeper;
+use zvt_runs::tcp::TillRun;
+use zvt_runs::{Ends, Planned, StepOptions};
 use zvt_tool::TillOptions;
 use zvt_tool::options::{form_by, lengths_by};
 use zvt_tool::statuses::WORDS;
 
-/// What is reported where a till is given no steps.
+/// The report if a till is given no steps.
 const NO_STEPS: &str = "no steps are given, so the till registers and closes the day";
 
 /// Runs a till and returns the exit status.
@@ -30,15 +28,15 @@ pub fn till(rt: &HostRuntime, options: &TillOptions<'_>) -> Result<u8, Exit> {
     }
     let plan = planned(rt, Ends::Till, options.steps.as_slice())?;
     let RunFiles { kept, trace } = run_files(rt, options.book, options.trace, &settings)?;
-    let run = till_run(rt, options, plan.as_slice(), trace.as_ref());
+    let steps = TillSteps::There(till_run(rt, options, plan.as_slice(), trace.as_ref()));
     if options.steps.is_empty() {
         report(rt, NO_STEPS)?;
     }
-    let status = run_status(rt, &run, &settings, kept)?;
-    Ok(mend_after(rt, options.trace, run.trace, status)?)
+    let status = run_status(rt, &steps, &settings, kept)?;
+    Ok(mend_after(rt, options.trace, trace.as_ref(), status)?)
 }
 
-/// The run of these steps that the options ask for.
+/// Returns the run of these steps with the options.
 fn till_run<'a, 'f>(
     rt: &HostRuntime,
     options: &'a TillOptions<'a>,
@@ -66,7 +64,7 @@ fn till_run<'a, 'f>(
     }
 }
 
-/// Whether the port or the time to wait is 0, which is reported.
+/// Returns whether the port or the timeout is 0, and reports it.
 fn report_zero(rt: &HostRuntime, options: &TillOptions<'_>) -> io::Result<bool> {
     if options.port == 0 {
         report_invalid(rt, "port", "0", TERMINAL_PORT)?;
@@ -77,23 +75,4 @@ fn report_zero(rt: &HostRuntime, options: &TillOptions<'_>) -> io::Result<bool> 
         return Ok(true);
     }
     Ok(false)
-}
-
-impl TillSteps for TillRun<'_, '_> {
-    fn make<K, N, W, E>(
-        &self,
-        rt: &HostRuntime,
-        till: &mut K,
-        notes: &N,
-        writer: &mut W,
-        report: &mut E,
-    ) -> Result<(), EndFault>
-    where
-        K: Keeper,
-        N: NoteSource<K>,
-        W: Sink,
-        E: Sink,
-    {
-        run_till(rt, rt.alloc(), self, till, notes, writer, report)
-    }
 }
