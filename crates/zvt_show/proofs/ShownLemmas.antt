@@ -1,14 +1,11 @@
 -- What is shown of a trace, once more of it has come.
-use Rattle.std.proofs.Common.{◌≡◌, ◌∙◌, ◌++◌, [], ap, subst, sym, true, false, append_assoc, is_some, List, ℕ, Option, None, Some, Result, Ok, Err}
-use Rattle.std.proofs.lemmas.List.{append-nil}
+use Rattle.std.proofs.Common.{◌≡◌, ◌∙◌, ◌++◌, ap, true, append_assoc, is_some, List, ℕ, Option, None, Some, Result, Ok, Err}
 use Rattle.std.proofs.Common.{inl, inr}
-use Rattle.std.specs.Result.{result_err}
 use Rattle.std.specs.Str.Lines.{lines}
 use Rattle.zvt_grammar.specs.Reading.{Reading}
 use Rattle.zvt_trace.specs.declared.fault.Tally.{Tally}
 use Rattle.zvt_trace.specs.declared.fault.TraceFault.{TraceFault}
 use Rattle.zvt_trace.specs.declared.listener.Scope.TheVariants.{OneSide}
-use Rattle.zvt_show.specs.Followed.{AnswersTurn, HasWritten}
 use Rattle.zvt_show.specs.declared.follow.Follower.{Follower}
 use Rattle.zvt_show.specs.declared.render.Style.{Style}
 use Rattle.zvt_show.specs.Shown.{AnswersShown, HasShownBy}
@@ -22,20 +19,6 @@ shown_still (Some fault) r style trace text first now follower e has =
     let prefix = has.1 in
     (has.0, (prefix.0 ++ text, ap (λ (xs : List ℕ). xs ++ text) prefix.1 ∙ append_assoc has.0 prefix.0 text), has.2)
 
--- what a turn of the follower leaves
-turned : (answer : Result Unit TraceFault) (r : Reading) (style : Style) (trace : List ℕ) (first now : Option (List ℕ)) (follower : Follower)
-    → AnswersTurn r OneSide style trace first now follower answer → HasShownBy (result_err answer) r style trace first now follower
-turned (Ok fed) r style trace first now follower answers = answers
-turned (Err fault) r style trace first now follower answers = (trace, ([], sym (append-nil trace)), answers)
-
-pub shown_more : (fault next : Option TraceFault) (answer : Result Unit TraceFault) (r : Reading) (style : Style) (trace text : List ℕ) (first old now : Option (List ℕ)) (before after : Follower)
-    → is_some fault ≡ false → next ≡ result_err answer
-    → (HasWritten r OneSide style trace first old before → AnswersTurn r OneSide style (trace ++ text) first now after answer)
-    → HasShownBy fault r style trace first old before → HasShownBy next r style (trace ++ text) first now after
-shown_more None next answer r style trace text first old now before after e is turns has =
-    subst (λ (f : Option TraceFault). HasShownBy f r style (trace ++ text) first now after) (sym is) (turned answer r style (trace ++ text) first now after (turns has))
-shown_more (Some fault) next answer r style trace text first old now before after e is turns has = let bad = e in cc
-
 -- ---- the end of a line
 
 -- it failed before
@@ -44,11 +27,6 @@ pub ended_before : (fault : TraceFault) (r : Reading) (style : Style) (trace tex
 ended_before fault r style trace text first now follower has =
     let prefix = has.1 in
     inr (has.0, (prefix.0 ++ text, ap (λ (xs : List ℕ). xs ++ text) prefix.1 ∙ append_assoc has.0 prefix.0 text), has.2)
-
--- it failed at the end
-pub ended_there : (fault : TraceFault) (r : Reading) (style : Style) (trace : List ℕ) (first now : Option (List ℕ)) (follower : Follower)
-    → AnswersTurn r OneSide style trace first now follower (Err fault) → AnswersShown r style trace first now (Err fault)
-ended_there fault r style trace first now follower failed = inr (trace, ([], sym (append-nil trace)), failed)
 
 -- the text was written to its end, or not
 pub ended_whole : (answer : Result Tally TraceFault) (r : Reading) (style : Style) (trace : List ℕ) (first now : Option (List ℕ))

@@ -3,11 +3,10 @@ use Rattle.std.specs.Prelude.{◌⊎◌, ◌++◌, ℕ, List, Option, None, Some
 use Rattle.std.specs.Str.Lines.{lines}
 use Rattle.zvt_grammar.specs.Reading.{Reading}
 use Rattle.zvt_io.specs.Devices.{IsPrefix}
-use Rattle.zvt_trace.specs.Chunks.{IsBetweenLines}
 use Rattle.zvt_trace.specs.declared.fault.Tally.{Tally}
 use Rattle.zvt_trace.specs.declared.fault.TraceFault.{TraceFault}
 use Rattle.zvt_trace.specs.declared.listener.Scope.TheVariants.{OneSide}
-use Rattle.zvt_show.specs.Followed.{HasWritten, IsFollowing, TurnFaults}
+use Rattle.zvt_show.specs.Followed.{HasWritten, TurnFaults}
 use Rattle.zvt_show.specs.Written.{AnswersLinesBy}
 use Rattle.zvt_show.specs.declared.follow.Follower.{Follower}
 use Rattle.zvt_show.specs.declared.render.Style.{Style}
@@ -17,11 +16,6 @@ pub record Showing (W : Type 0) : Type 0 where
   pub follower : Follower
   pub fault : Option TraceFault
   pub output : W
-
--- unless showing failed, more can be shown
-abbrev pub MayShow : Option TraceFault → Follower → Type 0
-MayShow None follower = IsFollowing follower × IsBetweenLines follower.walker
-MayShow (Some fault) follower = Unit {0}
 
 -- The text of this trace is shown, of all its whole lines; or showing failed over the last line of a prefix.
 abbrev pub HasShownBy : Option TraceFault → Reading → Style → (trace : List ℕ) → (first now : Option (List ℕ)) → Follower → Type 0

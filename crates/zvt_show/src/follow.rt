@@ -5,7 +5,6 @@ ghost use Rattle.std.specs.Str.Lines.{lines};
 ghost use Rattle.zvt_grammar.specs.Lengths.{reading_of};
 ghost use Rattle.zvt_grammar.specs.Reading.{Reading};
 ghost use Rattle.zvt_trace.specs.Chunks.{IsBetweenLines};
-ghost use Rattle.zvt_trace.specs.Lines.{piece_text};
 ghost use Rattle.zvt_trace.specs.Written.{limit};
 ghost use Rattle.zvt_show.specs.Followed.{AnswersFollow, AnswersTurn, CountsWrites, HasWritten, IsFollowing};
 ghost use Rattle.zvt_show.specs.Written.{AnswersLinesBy};
@@ -17,7 +16,7 @@ use crate::render::Style;
 use std::alloc::Global;
 use zvt_grammar::Lengths;
 use zvt_io::{Sink, Source};
-use zvt_trace::{Direction, Scope, Tally, TraceFault, Walker, read_chunk};
+use zvt_trace::{Scope, Tally, TraceFault, Walker, read_chunk};
 
 /// The number of bytes that are read at once.
 const CHUNK: usize = 65_536;
@@ -92,35 +91,6 @@ impl Follower {
             writer,
         };
         let answer = self.walker.feed(&mut printer, chunk);
-        self.pages = pages;
-        flush(&mut self.pages.block, writer)?;
-        answer
-    }
-
-    /// Writes the text of the line that spells these bytes of a side. No line may be unfinished.
-    pub fn take<W: Sink>(
-        &mut self,
-        writer: &mut W,
-        from: Direction,
-        bytes: &[u8],
-    ) -> Result<(), TraceFault>
-        requires following { IsFollowing self.old }
-        requires between { IsBetweenLines self.old.walker }
-        ensures writes { (r : Reading) (scope : Scope) (style : Style) (read : List ℕ) (first : Option (List ℕ))
-            → HasWritten r scope style read first (W.written writer.old) self.old → AnswersTurn r scope style
-            (read ++ piece_text from bytes.now) first (W.written writer.new) self.new result }
-        ensures following { OnOk result (IsFollowing self.new) }
-        ensures between { IsBetweenLines self.new.walker }
-        ensures counts { (r : Reading) (scope : Scope) (style : Style) (read : List ℕ) (first : Option (List ℕ))
-            → HasWritten r scope style read first (W.written writer.old) self.old
-            → CountsWrites (W.failures writer.old) (W.failures writer.new) result }
-    {
-        let mut pages = self.pages.take();
-        let mut printer = Printer {
-            pages: &mut pages,
-            writer,
-        };
-        let answer = self.walker.take(&mut printer, from, bytes);
         self.pages = pages;
         flush(&mut self.pages.block, writer)?;
         answer

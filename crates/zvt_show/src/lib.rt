@@ -1,17 +1,15 @@
 //! Shows the line between a till and its terminal as text.
 //!
 //! [`render_trace`] writes a trace in memory in a [`Style`]. [`follow_trace`] writes a trace while it arrives. [`Shown`]
-//! is an observer that writes a line while its chunks pass, and [`ShownBeside`] does so beside another listener.
+//! is an observer that writes a line while its chunks pass, beside another listener.
 #![tactic(auto)]
 
-mod beside;
 pub mod diagnostics;
 mod follow;
 mod pages;
 mod render;
 mod shown;
 
-pub use beside::{BesideToEnd, ShownBeside};
 pub use follow::{Follower, follow_trace};
 pub use pages::render_trace;
 pub use render::Style;

@@ -1,107 +1,121 @@
-//! The text of a running line.
-ghost use Rattle.std.specs.Prelude.{◌≡◌, ◌++◌, ◌∷◌, [], codes, ℕ, List, Option};
+//! The text of a line, which is shown while another listener hears the line.
+ghost use Rattle.std.specs.Prelude.{◌≡◌, ◌++◌, ◌∷◌, [], codes, ℕ, List, Option, None, OnOk};
+ghost use Rattle.std.specs.Result.{result_err};
 ghost use Rattle.zvt_grammar.specs.Lengths.{reading_of};
 ghost use Rattle.zvt_grammar.specs.Reading.{Reading};
-ghost use Rattle.zvt_show.specs.Shown.{AnswersShown, HasShownBy, MayShow};
+ghost use Rattle.zvt_trace.specs.Chunks.{IsBetweenLines, IsReady};
+ghost use Rattle.zvt_trace.specs.Lines.{piece_text};
+ghost use Rattle.zvt_show.specs.Beside.{AnswersTold, HasReadSome, HasTold, MayWatch, PrintsRest, Tells};
+ghost use Rattle.zvt_show.specs.Beside.{or_failed, showing_of, told_all, watching};
+ghost use Rattle.zvt_show.specs.Shown.{AnswersShown, HasShown, Shows};
 ghost use Rattle.zvt_show.specs.declared.render.Style.{Style};
 
-use crate::follow::Follower;
+use crate::pages::{Pages, Printing, flush};
 use crate::render::Style;
 use std::alloc::Global;
 use std::marker::Model;
 use zvt_grammar::Lengths;
 use zvt_io::Sink;
-use zvt_trace::{Direction, ListenerError, Observer, Scope, Tally, TraceFault};
+use zvt_trace::{
+    Alone, Both, Direction, Listener, ListenerError, Observer, Scope, Tally, TraceFault, Walker,
+};
 
-/// Shows a running line on its output, as `zvt show` prints the trace of the line. After a fault it shows nothing more,
-/// but still observes every chunk.
+/// A printing, and a listener beside it. Each stops at its own failure.
+type Listeners<W, L> = Both<Alone<Printing<W>>, Alone<L>>;
+
+/// Shows the text of a line on its output while the line goes on: what `zvt show` prints of the line's trace. Another
+/// listener hears the same events, in the scope `OneSide`. Each stops at its own failure, and the other continues.
+/// It misses nothing.
 #[derive(Drop)]
-pub struct Shown<W> {
-    follower: Follower,
+pub struct Shown<W, L> {
+    walker: Walker,
     fault: Option<TraceFault>,
-    output: W,
+    listeners: Listeners<W, L>,
 }
 
-/// The result of showing a line, and the output with its text.
+/// What came of showing a line, the output that has its text, and the listener that heard all of it.
 #[derive(Drop)]
-pub struct ShownToEnd<W> {
-    /// The number of messages shown, and of streams refused or cut off; or the first fault.
+pub struct ShownToEnd<W, L> {
+    /// How many messages were shown, and how many streams were refused or cut off.
     pub shown: Result<Tally, TraceFault>,
     pub output: W,
+    pub beside: Result<L, TraceFault>,
 }
 
-impl<W> Model for Shown<W> {
-    ghost use Rattle.zvt_show.specs.Shown.{MayShow, Showing};
-    ghost use Rattle.std.specs.Coded.{codes};
+impl<W, L> Model for Shown<W, L> {
+    ghost use Rattle.zvt_show.specs.Beside.{MayWatch, Watching};
+    ghost use Rattle.std.specs.Coded.{codes as codes_of};
     ghost use Rattle.zvt_show.specs.contracts.follow.Follower as follower_of;
 
-    ghost Value = { Showing W };
+    ghost Value = { Watching W L };
 
-    ghost coded = { Prim.hlevel (codes, follower_of.the_row.coded) };
+    ghost coded = { Prim.hlevel (codes_of, follower_of.the_row.coded) };
 
-    ghost view = { λ shown. record { follower = shown.follower; fault = shown.fault; output = shown.output } };
+    ghost view = { λ one. record {
+      follower = record { pages = one.listeners.first.listener.pages; walker = one.walker };
+      printing_fault = one.listeners.first.fault;
+      fault = one.fault;
+      output = one.listeners.first.listener.output;
+      beside = one.listeners.second.listener;
+      beside_fault = one.listeners.second.fault;
+    } };
 
-    ghost invariant = { λ shown. MayShow shown.fault shown.follower };
+    ghost invariant = { λ one. MayWatch one.listeners.first.fault one.fault one.walker
+        one.listeners.first.listener.pages };
 }
 
-impl<W: Sink + Drop> Shown<W> {
-    ghost use Rattle.zvt_show.specs.Shown.{HasShown};
-
-    /// Creates an observer that has shown nothing. `style` is the style of the text, `lengths` the accepted forms of
-    /// length.
-    pub fn new(alloc: Global, style: Style, lengths: Lengths, output: W) -> Shown<W>
-        ensures shown { HasShown W.written (reading_of lengths) style [] (W.written output) result }
+impl<W: Sink + Drop, L: Listener + Drop> Shown<W, L> {
+    /// Shows nothing yet. The text has this style, and the line's messages have such lengths.
+    pub fn new(alloc: Global, style: Style, lengths: Lengths, output: W, beside: L) -> Shown<W, L>
+        ensures shown { HasShown W.written (reading_of lengths) style [] (W.written output) (showing_of result) }
+        ensures told { HasTold L.hears (reading_of lengths) [] beside result }
         ensures output { result.output ≡ output }
     {
         Shown {
-            follower: Follower::new(alloc, style, Scope::OneSide, lengths),
+            walker: Walker::new(alloc, Scope::OneSide, lengths),
             fault: None,
-            output,
+            listeners: Both {
+                first: Alone {
+                    listener: Printing {
+                        pages: Pages::new(alloc, style),
+                        output,
+                    },
+                    fault: None,
+                },
+                second: Alone {
+                    listener: beside,
+                    fault: None,
+                },
+            },
         }
     }
 
-    /// Shows the end of the line, and the messages that it cuts off.
-    pub fn end(self) -> ShownToEnd<W>
-        ensures { (r : Reading) (style : Style) (trace : List ℕ) (first : Option (List ℕ))
-            → HasShown W.written r style trace first self → AnswersShown r style (trace ++ (codes "!" ++ 10 ∷ []))
-            first (W.written result.output) result.shown }
+    /// Shows that the line has ended, and what is cut off there. The listener hears that too.
+    pub fn end(self) -> ShownToEnd<W, L>
+        ensures shown { (r : Reading) (style : Style) (trace : List ℕ) (first : Option (List ℕ))
+            → HasShown W.written r style trace first (showing_of self) → AnswersShown r style
+            (trace ++ (codes "!" ++ 10 ∷ [])) first (W.written result.output) result.shown }
+        ensures told { (r : Reading) (trace : List ℕ) (start : L) → HasTold L.hears r trace start self
+            → AnswersTold L.hears r (trace ++ (codes "!" ++ 10 ∷ [])) start result.beside }
     {
         let Shown {
-            follower,
+            walker,
             fault,
-            mut output,
+            mut listeners,
         } = self;
-        let shown = show_end(follower, fault, &mut output);
-        ShownToEnd { shown, output }
-    }
-}
-
-/// Shows the end of the line, and the messages that it cuts off, unless showing has failed before.
-fn show_end<W: Sink>(
-    follower: Follower,
-    fault: Option<TraceFault>,
-    output: &mut W,
-) -> Result<Tally, TraceFault>
-    requires { MayShow fault follower }
-    ensures { (r : Reading) (style : Style) (trace : List ℕ) (first : Option (List ℕ))
-        → HasShownBy fault r style trace first (W.written output.old) follower → AnswersShown r style
-        (trace ++ (codes "!" ++ 10 ∷ [])) first (W.written output.new) result }
-{
-    match fault {
-        Some(fault) => Err(fault),
-        None => {
-            let mut follower = follower;
-            follower.feed(output, b"!\n")?;
-            follower.finish(output)
+        let answer = end_line(walker, fault, &mut listeners);
+        let Both { first, second } = listeners;
+        ShownToEnd {
+            shown: or_failure(first.fault, answer),
+            output: first.listener.output,
+            beside: heard_all(second, answer),
         }
     }
 }
 
-impl<W: Sink> Observer for Shown<W> {
-    ghost use Rattle.zvt_trace.specs.Lines.{piece_text};
-    ghost use Rattle.zvt_show.specs.Shown.{Shows};
-
-    ghost observes = { λ old from bytes new. Shows W.written old (piece_text from bytes) new };
+impl<W: Sink, L: Listener> Observer for Shown<W, L> {
+    ghost observes = { λ old from bytes new. Shows W.written (showing_of old) (piece_text from bytes) (showing_of new)
+        × Tells L.hears old (piece_text from bytes) new };
 
     ghost misses = { λ _ _ _ _ _. ⊥ };
 
@@ -109,7 +123,158 @@ impl<W: Sink> Observer for Shown<W> {
         if self.fault.is_some() {
             return Ok(());
         }
-        self.fault = self.follower.take(&mut self.output, from, bytes).err();
+        self.fault = show_piece(&mut self.walker, &mut self.listeners, from, bytes).err();
         Ok(())
+    }
+}
+
+/// Shows what this side sent.
+fn show_piece<W: Sink, L: Listener>(
+    walker: &mut Walker,
+    listeners: &mut Listeners<W, L>,
+    from: Direction,
+    bytes: &[u8],
+) -> Result<(), TraceFault>
+    requires ready { IsReady walker.old }
+    requires read { HasReadSome walker.old }
+    requires between { IsBetweenLines walker.old }
+    requires empty { listeners.old.first.fault ≡ None → listeners.old.first.listener.pages.block ≡ [] }
+    ensures shows { Shows W.written (showing_of (watching walker.old None listeners.old)) (piece_text from bytes.now)
+        (showing_of (watching walker.new (result_err result) listeners.new)) }
+    ensures tells { Tells L.hears (watching walker.old None listeners.old) (piece_text from bytes.now)
+        (watching walker.new (result_err result) listeners.new) }
+    ensures ready { OnOk result (IsReady walker.new) }
+    ensures read { OnOk result (HasReadSome walker.new) }
+    ensures between { IsBetweenLines walker.new }
+    ensures empty { listeners.new.first.fault ≡ None → listeners.new.first.listener.pages.block ≡ [] }
+{
+    let was_failed = listeners.first.fault.is_some();
+    let answer = walker.take(listeners, from, bytes);
+    print_rest(was_failed, &mut listeners.first);
+    answer
+}
+
+/// Shows that the connection is lost.
+fn show_loss<W: Sink, L: Listener>(
+    walker: &mut Walker,
+    listeners: &mut Listeners<W, L>,
+) -> Result<(), TraceFault>
+    requires ready { IsReady walker.old }
+    requires read { HasReadSome walker.old }
+    requires empty { listeners.old.first.fault ≡ None → listeners.old.first.listener.pages.block ≡ [] }
+    ensures shows { Shows W.written (showing_of (watching walker.old None listeners.old)) (codes "!" ++ 10 ∷ [])
+        (showing_of (watching walker.new (result_err result) listeners.new)) }
+    ensures tells { Tells L.hears (watching walker.old None listeners.old) (codes "!" ++ 10 ∷ [])
+        (watching walker.new (result_err result) listeners.new) }
+    ensures ready { OnOk result (IsReady walker.new) }
+    ensures read { OnOk result (HasReadSome walker.new) }
+    ensures empty { listeners.new.first.fault ≡ None → listeners.new.first.listener.pages.block ≡ [] }
+{
+    let was_failed = listeners.first.fault.is_some();
+    let answer = walker.feed(listeners, b"!\n");
+    print_rest(was_failed, &mut listeners.first);
+    answer
+}
+
+/// Shows that the line has ended, unless it could not be read before.
+fn end_line<W: Sink, L: Listener>(
+    walker: Walker,
+    fault: Option<TraceFault>,
+    listeners: &mut Listeners<W, L>,
+) -> Result<Tally, TraceFault>
+    requires { MayWatch listeners.old.first.fault fault walker listeners.old.first.listener.pages }
+    ensures shows { (r : Reading) (style : Style) (trace : List ℕ) (first : Option (List ℕ))
+        → HasShown W.written r style trace first (showing_of (watching walker fault listeners.old))
+        → AnswersShown r style (trace ++ (codes "!" ++ 10 ∷ [])) first (W.written listeners.new.first.listener.output)
+        (or_failed listeners.new.first.fault result) }
+    ensures tells { (r : Reading) (trace : List ℕ) (start : L)
+        → HasTold L.hears r trace start (watching walker fault listeners.old)
+        → AnswersTold L.hears r (trace ++ (codes "!" ++ 10 ∷ [])) start
+        (told_all listeners.new.second.fault result listeners.new.second.listener) }
+{
+    match fault {
+        Some(fault) => Err(fault),
+        None => show_end(walker, listeners),
+    }
+}
+
+/// Shows that the connection is lost, and what is cut off at the end of the line.
+fn show_end<W: Sink, L: Listener>(
+    walker: Walker,
+    listeners: &mut Listeners<W, L>,
+) -> Result<Tally, TraceFault>
+    requires ready { IsReady walker }
+    requires read { HasReadSome walker }
+    requires empty { listeners.old.first.fault ≡ None → listeners.old.first.listener.pages.block ≡ [] }
+    ensures shows { (r : Reading) (style : Style) (trace : List ℕ) (first : Option (List ℕ))
+        → HasShown W.written r style trace first (showing_of (watching walker None listeners.old))
+        → AnswersShown r style (trace ++ (codes "!" ++ 10 ∷ [])) first (W.written listeners.new.first.listener.output)
+        (or_failed listeners.new.first.fault result) }
+    ensures tells { (r : Reading) (trace : List ℕ) (start : L)
+        → HasTold L.hears r trace start (watching walker None listeners.old)
+        → AnswersTold L.hears r (trace ++ (codes "!" ++ 10 ∷ [])) start
+        (told_all listeners.new.second.fault result listeners.new.second.listener) }
+{
+    let mut walker = walker;
+    show_loss(&mut walker, listeners)?;
+    show_rest(walker, listeners)
+}
+
+/// Shows what is cut off at the end of the line.
+fn show_rest<W: Sink, L: Listener>(
+    walker: Walker,
+    listeners: &mut Listeners<W, L>,
+) -> Result<Tally, TraceFault>
+    requires ready { IsReady walker }
+    requires read { HasReadSome walker }
+    requires empty { listeners.old.first.fault ≡ None → listeners.old.first.listener.pages.block ≡ [] }
+    ensures shows { (r : Reading) (style : Style) (trace : List ℕ) (first : Option (List ℕ))
+        → HasShown W.written r style trace first (showing_of (watching walker None listeners.old))
+        → AnswersShown r style trace first (W.written listeners.new.first.listener.output)
+        (or_failed listeners.new.first.fault result) }
+    ensures tells { (r : Reading) (trace : List ℕ) (start : L)
+        → HasTold L.hears r trace start (watching walker None listeners.old)
+        → AnswersTold L.hears r trace start
+        (told_all listeners.new.second.fault result listeners.new.second.listener) }
+{
+    let was_failed = listeners.first.fault.is_some();
+    let answer = walker.finish(listeners);
+    print_rest(was_failed, &mut listeners.first);
+    answer
+}
+
+/// Writes the text that waits, unless printing had failed before.
+fn print_rest<W: Sink>(was_failed: bool, shown: &mut Alone<Printing<W>>)
+    ensures { PrintsRest W.written was_failed shown.old shown.new }
+{
+    if was_failed {
+        return;
+    }
+    if let Err(why) = flush(&mut shown.listener.pages.block, &mut shown.listener.output) {
+        shown.fault = Some(why);
+    }
+}
+
+/// The answer, where printing has not failed.
+fn or_failure(
+    fault: Option<ListenerError>,
+    answer: Result<Tally, TraceFault>,
+) -> Result<Tally, TraceFault>
+    ensures { result ≡ or_failed fault answer }
+{
+    match fault {
+        Some(why) => Err(TraceFault::from(why)),
+        None => answer,
+    }
+}
+
+/// The listener, where it has heard all.
+fn heard_all<L: Drop>(alone: Alone<L>, answer: Result<Tally, TraceFault>) -> Result<L, TraceFault>
+    ensures { result ≡ told_all alone.fault answer alone.listener }
+{
+    match (alone.fault, answer) {
+        (Some(why), _) => Err(TraceFault::from(why)),
+        (None, Err(fault)) => Err(fault),
+        (None, Ok(_)) => Ok(alone.listener),
     }
 }

@@ -12,13 +12,13 @@ use std::alloc::{AllocError, Global};
 use zvt_audit::{LineAudit, LineBooks};
 use zvt_grammar::Lengths;
 use zvt_io::Sink;
-use zvt_show::{BesideToEnd, ShownBeside, Style};
+use zvt_show::{ShownToEnd, Shown, Style};
 use zvt_trace::{Tally, TraceFault};
 
 /// The log of a line: a trace, and on an output the text that `show` prints for the trace, followed by its audit. The
 /// bytes are decoded once, for the text and for the audit. Each of the three stops at its own failure, and the others
 /// continue. Without memory to decode a chunk both the text and the audit stop.
-pub type TapLog<T, O> = Watched<Tracing<T>, ShownBeside<O, LineAudit>>;
+pub type TapLog<T, O> = Watched<Tracing<T>, Shown<O, LineAudit>>;
 
 /// The findings of a log, and its devices.
 #[derive(Drop)]
@@ -45,7 +45,7 @@ pub fn new_log<T: Sink + Drop, O: Sink + Drop>(
     let audit = LineAudit::new(alloc)?;
     Ok(Watched {
         recorder: tracing,
-        watcher: ShownBeside::new(alloc, Style::Show, lengths, output, audit),
+        watcher: Shown::new(alloc, Style::Show, lengths, output, audit),
     })
 }
 
@@ -64,7 +64,7 @@ pub(crate) fn end_log<T: Sink + Drop, O: Sink + Drop>(
     let Watched { recorder, watcher } = log;
     let mut tracing = recorder;
     tracing.end();
-    let BesideToEnd {
+    let ShownToEnd {
         shown,
         mut output,
         beside,

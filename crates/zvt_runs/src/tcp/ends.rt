@@ -16,7 +16,7 @@ use zvt_io::Over;
 use zvt_show::Shown;
 use zvt_stream::{Endpoint, Stream};
 use zvt_term::{DEFAULT_TID, Served, Terminal, Verdict};
-use zvt_trace::{Both, Direction, Observed, ends_lacking};
+use zvt_trace::{Both, Direction, Observed, Tally, ends_lacking};
 
 /// An end over a connection that is not recorded.
 pub(crate) type PlainEnd<'a> = Endpoint<Over<&'a TcpStream>, Over<&'a TcpStream>>;
@@ -29,7 +29,7 @@ type TcpDevice<'a> = ObservedSocket<'a, FileTrace<'a>>;
 
 /// A till's end of a connection, whose traffic goes to a trace. The bytes read may also be shown.
 pub(crate) type TillLine<'a> = Endpoint<
-    ObservedSocket<'a, Both<FileTrace<'a>, Option<Shown<Over<Stderr>>>>>,
+    ObservedSocket<'a, Both<FileTrace<'a>, Option<Shown<Over<Stderr>, Tally>>>>,
     TcpDevice<'a>,
 >;
 
@@ -86,7 +86,7 @@ pub(crate) fn till_line_of<'a>(
     connection: &'a TcpStream,
     lengths: Lengths,
     trace: Option<&'a File>,
-    shown: Option<Shown<Over<Stderr>>>,
+    shown: Option<Shown<Over<Stderr>, Tally>>,
 ) -> Result<TillLine<'a>, AllocError>
     ensures start { IfOk result (λ end. end.stream ≡ start_in (reading_of lengths)) }
     ensures sides { IfOk result (λ end. (end.reader.from ≡ Direction.FromTerminal)

@@ -1,6 +1,7 @@
 //! Shows the messages of a terminal as they arrive.
 ghost use Rattle.std.specs.Prelude.{◌≡◌, [], is_some};
 ghost use Rattle.zvt_grammar.specs.Lengths.{reading_of};
+ghost use Rattle.zvt_show.specs.Beside.{showing_of};
 ghost use Rattle.zvt_show.specs.Shown.{HasShown};
 ghost use Rattle.zvt_runs.specs.Showing.{style_of};
 
@@ -10,6 +11,7 @@ use zvt_grammar::Lengths;
 use zvt_io::{Over, Sink};
 use zvt_show::{Shown, Style};
 use zvt_text::Form;
+use zvt_trace::Tally;
 
 /// Returns a listener that shows a line on this output in this form, if an output is given. `lengths` says how the
 /// messages are read.
@@ -18,7 +20,7 @@ pub(crate) fn shown_by(
     form: Form,
     lengths: Lengths,
     output: Option<Stderr>,
-) -> Option<Shown<Over<Stderr>>>
+) -> Option<Shown<Over<Stderr>, Tally>>
     ensures { is_some result ≡ is_some output }
 {
     match output {
@@ -29,10 +31,19 @@ pub(crate) fn shown_by(
 
 /// Returns a listener that shows a line on this output in this form. It has shown nothing yet. `lengths` says how the
 /// messages are read.
-fn shown_on<W: Sink + Drop>(alloc: Global, form: Form, lengths: Lengths, output: W) -> Shown<W>
-    ensures { HasShown W.written (reading_of lengths) (style_of form) [] (W.written output) result }
+fn shown_on<W: Sink + Drop>(
+    alloc: Global,
+    form: Form,
+    lengths: Lengths,
+    output: W,
+) -> Shown<W, Tally>
+    ensures { HasShown W.written (reading_of lengths) (style_of form) [] (W.written output) (showing_of result) }
 {
-    Shown::new(alloc, style_of(form), lengths, output)
+    let count = Tally {
+        messages: 0,
+        bad: 0,
+    };
+    Shown::new(alloc, style_of(form), lengths, output, count)
 }
 
 /// Returns the style that shows a line in this form.

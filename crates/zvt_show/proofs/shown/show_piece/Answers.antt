@@ -1,7 +1,7 @@
 use Rattle.std.proofs.Common.{◌++◌, refl}
 use Rattle.zvt_trace.specs.Lines.{piece_text}
 use Rattle.zvt_show.proofs.BesideLemmas.{first_stays, read_more, rest_empty, second_stays, told_more, turn_more}
-use Rattle.zvt_show.proofs.beside.show_piece.Goals as goal
+use Rattle.zvt_show.proofs.shown.show_piece.Goals as goal
 
 pub returns-clause-shows : goal.returns-clause-shows
 returns-clause-shows g c = λ r style trace first has.

@@ -1,6 +1,6 @@
 use Rattle.std.proofs.Common.{◌++◌, ◌∷◌, [], codes, refl}
 use Rattle.zvt_show.proofs.BesideLemmas.{first_stays, read_more, rest_empty, second_stays, told_more, turn_more}
-use Rattle.zvt_show.proofs.beside.show_loss.Goals as goal
+use Rattle.zvt_show.proofs.shown.show_loss.Goals as goal
 
 pub returns-clause-shows : goal.returns-clause-shows
 returns-clause-shows g c = λ r style trace first has.

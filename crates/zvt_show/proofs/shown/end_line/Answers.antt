@@ -3,7 +3,7 @@ use Rattle.zvt_trace.specs.declared.fault.TraceFault.{TraceFault}
 use Rattle.zvt_show.specs.Beside.{HasTold, showing_of, watching}
 use Rattle.zvt_show.specs.Shown.{HasShown}
 use Rattle.zvt_show.proofs.BesideLemmas.{failed_end}
-use Rattle.zvt_show.proofs.beside.end_line.Goals as goal
+use Rattle.zvt_show.proofs.shown.end_line.Goals as goal
 
 pub returns-in-Some-clause-shows : goal.returns-in-Some-clause-shows
 returns-in-Some-clause-shows g c = λ r style trace first has.

@@ -1,5 +1,5 @@
 use Rattle.zvt_show.proofs.BesideLemmas.{all_shown, all_told, first_stands, second_stands}
-use Rattle.zvt_show.proofs.beside.show_rest.Goals as goal
+use Rattle.zvt_show.proofs.shown.show_rest.Goals as goal
 
 pub returns-clause-shows : goal.returns-clause-shows
 returns-clause-shows g c = λ r style trace first has.
