@@ -12,7 +12,7 @@ use std::alloc::{AllocError, Global};
 use zvt_audit::{LineAudit, LineBooks};
 use zvt_grammar::Lengths;
 use zvt_io::Sink;
-use zvt_show::{ShownToEnd, Shown, Style};
+use zvt_show::{Shown, ShownToEnd, Style};
 use zvt_trace::{Tally, TraceFault};
 
 /// The log of a line: a trace, and on an output the text that `show` prints for the trace, followed by its audit. The
