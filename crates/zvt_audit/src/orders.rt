@@ -74,7 +74,8 @@ fn is_order(apdu: &ApduView<'_>) -> bool
 /// Whether this message of a till moves money in a way that the books do not follow: a refund (06 31), or an order of a
 /// pre-authorisation (06 22 to 06 25).
 ///
-/// PA00P015: Refund, Pre-Authorisation, Partial-Reversal of a Pre-Authorisation, Book Total, Pre-Authorisation Reversal.
+/// PA00P015: Refund, Pre-Authorisation, Partial-Reversal of a Pre-Authorisation, Book Total, Pre-Authorisation
+/// Reversal.
 fn moves_apart(apdu: &ApduView<'_>) -> bool
     ensures { result ≡ moves_apart (control_of apdu.now) }
 {

@@ -9,7 +9,7 @@ use crate::difference::Difference;
 use zvt_apdu::ApduView;
 use zvt_field::FieldsView;
 
-/// A field with a number by which a terminal identifies a payment.
+/// A field whose number identifies a payment at its terminal.
 #[derive(Clone, Copy, Debug, Drop, PartialEq, Eq)]
 pub enum NumberField {
     /// BMP 0B, the trace number.

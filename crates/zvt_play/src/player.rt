@@ -1,5 +1,6 @@
 //! Plays a script over one connection.
-ghost use Rattle.std.specs.Prelude.{◌≡◌, ◌≢◌, ◌+◌, ◌<◌, ◌≤◌, [], ℕ, List, Option, IfErr, IfOk, MatchResult, OnOk};
+ghost use Rattle.std.specs.Prelude.{◌≡◌, ◌≢◌, ◌+◌, ◌<◌, ◌≤◌, [], ℕ, List, Option};
+ghost use Rattle.std.specs.Prelude.{IfErr, IfOk, MatchResult, OnOk};
 ghost use Rattle.std.specs.Prelude.{length, take};
 ghost use Rattle.std.specs.Io.KnownBytes.{Appends};
 ghost use Rattle.zvt_io.specs.Devices.{IsPrefix};

@@ -1,7 +1,7 @@
 //! Shows the line between a till and its terminal as text.
 //!
-//! [`render_trace`] writes a trace in memory in a [`Style`]. [`follow_trace`] writes a trace while it arrives. [`Shown`]
-//! is an observer that writes a line while its chunks pass, beside another listener.
+//! [`render_trace`] writes a trace in memory in a [`Style`]. [`follow_trace`] writes a trace while it arrives.
+//! [`Shown`] is an observer that writes a line while its chunks pass, beside another listener.
 #![tactic(auto)]
 
 pub mod diagnostics;

@@ -185,7 +185,8 @@ fn end_line<W: Sink, L: Listener>(
     requires { MayWatch listeners.old.first.fault fault walker listeners.old.first.listener.pages }
     ensures shows { (r : Reading) (style : Style) (trace : List ℕ) (first : Option (List ℕ))
         → HasShown W.written r style trace first (showing_of (watching walker fault listeners.old))
-        → AnswersShown r style (trace ++ (codes "!" ++ 10 ∷ [])) first (W.written listeners.new.first.listener.output)
+        → AnswersShown r style (trace ++ (codes "!" ++ 10 ∷ [])) first
+        (W.written listeners.new.first.listener.output)
         (or_failed listeners.new.first.fault result) }
     ensures tells { (r : Reading) (trace : List ℕ) (start : L)
         → HasTold L.hears r trace start (watching walker fault listeners.old)
@@ -208,7 +209,8 @@ fn show_end<W: Sink, L: Listener>(
     requires empty { listeners.old.first.fault ≡ None → listeners.old.first.listener.pages.block ≡ [] }
     ensures shows { (r : Reading) (style : Style) (trace : List ℕ) (first : Option (List ℕ))
         → HasShown W.written r style trace first (showing_of (watching walker None listeners.old))
-        → AnswersShown r style (trace ++ (codes "!" ++ 10 ∷ [])) first (W.written listeners.new.first.listener.output)
+        → AnswersShown r style (trace ++ (codes "!" ++ 10 ∷ [])) first
+        (W.written listeners.new.first.listener.output)
         (or_failed listeners.new.first.fault result) }
     ensures tells { (r : Reading) (trace : List ℕ) (start : L)
         → HasTold L.hears r trace start (watching walker None listeners.old)

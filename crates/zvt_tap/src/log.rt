@@ -84,8 +84,8 @@ fn write_books<O: Sink>(
     audit: Result<LineAudit, TraceFault>,
     output: &mut O,
 ) -> Result<LineBooks, TraceFault>
-    ensures { (r : Reading) (trace : List ℕ) → HasAudited r trace audit → AnswersHeard r trace (O.written output.old)
-        (O.written output.new) result }
+    ensures { (r : Reading) (trace : List ℕ) → HasAudited r trace audit → AnswersHeard r trace
+        (O.written output.old) (O.written output.new) result }
 {
     match audit {
         Ok(audit) => audit.finish(alloc, output),

@@ -13,8 +13,8 @@ use zvt_text::Text;
 use zvt_trace::{ListenerError, Scope, Tally, TraceFault, walk};
 
 /// Writes a line for each stream that was refused or cut off: the line of the trace, the sender, the name of the
-/// incomplete message, and the place in it. For a refusal it adds the fatal byte and the reason. It writes no other byte
-/// of the message, which may contain a card number.
+/// incomplete message, and the place in it. For a refusal it adds the fatal byte and the reason. It writes no other
+/// byte of the message, which may contain a card number.
 ///
 /// Another line says how many lines were not read after that, up to the next lost connection or the end. The last line
 /// has the numbers of messages and bad streams. Writes nothing if no stream is bad.
