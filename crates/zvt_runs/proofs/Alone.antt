@@ -1,5 +1,6 @@
 -- A till alone has no book, so none of its runs ends for one.
 use Rattle.std.proofs.Common.{◌≡◌, ⊎_elim, Some, Result, Ok, Err}
+use Rattle.zvt_stream.specs.EndState.{EndState}
 use Rattle.zvt_till.specs.View.{TillValue}
 use Rattle.zvt_till.specs.declared.line.RunFault.{RunFault}
 use Rattle.zvt_till.specs.declared.line.RunFault.TheVariants.{Order, Line as LineFault, Book as BookBroke}
@@ -7,7 +8,6 @@ use Rattle.zvt_till.specs.declared.outcomes.Outcome.{Outcome}
 use Rattle.zvt_runs.specs.declared.arguments.Step.{Step}
 use Rattle.zvt_runs.specs.declared.fault.EndFault.TheVariants.{Book}
 use Rattle.zvt_runs.specs.BothEnds.{Line, MakesHereAlone}
-use Rattle.zvt_runs.specs.LineEnd.{EndState}
 use Rattle.zvt_runs.specs.Made.{stop_of}
 use Rattle.zvt_runs.specs.Runs.{StepLaw}
 use Rattle.zvt_runs.specs.TillEnd.{MakesThereAlone}

@@ -3,6 +3,7 @@ use Rattle.std.proofs.Common.{◌≡◌, ◌∙◌, ◌+◌, ◌<◌, ℕ, List,
 use Rattle.std.proofs.lemmas.List.{length-append}
 use Rattle.std.specs.Result.{result_err}
 use Rattle.zvt_grammar.specs.Reading.{Reading}
+use Rattle.zvt_stream.specs.EndState.{EndState}
 use Rattle.zvt_stream.specs.LineRun.{Reported}
 use Rattle.zvt_stream.specs.StreamState.{start_in}
 use Rattle.zvt_stream.specs.declared.line.LineFault.{LineFault}
@@ -10,7 +11,6 @@ use Rattle.zvt_stream.specs.declared.line.LineFault.TheVariants.{Read, Write, En
 use Rattle.zvt_term.specs.Served.{served_loses}
 use Rattle.zvt_term.specs.Terminal.{TerminalState, lost_terminal}
 use Rattle.zvt_term.specs.declared.served.Served.{Served}
-use Rattle.zvt_runs.specs.LineEnd.{EndState}
 use Rattle.zvt_runs.specs.declared.fault.EndFault.{EndFault}
 use Rattle.zvt_runs.specs.declared.fault.EndFault.TheVariants.{BadStep, Book, Line as LineBroke, Memory as NoMemory, Net, Silent, Trace, Unsuccessful, Write as NotWritten}
 use Rattle.zvt_runs.specs.Service.{Serves}

@@ -2,6 +2,7 @@
 use Rattle.std.proofs.Common.{◌≡◌, ◌⊎◌, ⊎_elim, inl, inr, ℕ, Bool, true, false, List, [], ◌∷◌, ◌++◌, map, Option, Some, None, Result, Ok, Err, refl, sym, ap, subst, ◌∙◌, append_assoc}
 use Rattle.std.proofs.lemmas.List.{append-nil}
 use Rattle.zvt_grammar.specs.Reading.{Reading}
+use Rattle.zvt_stream.specs.EndState.{EndState}
 use Rattle.zvt_till.specs.declared.entries.Entry.{Entry}
 use Rattle.zvt_till.specs.declared.happenings.Happening.{Happening}
 use Rattle.zvt_till.specs.declared.line.RunFault.{RunFault}
@@ -20,7 +21,6 @@ use Rattle.zvt_runs.specs.declared.fault.EndFault.TheVariants.{BadStep, Book, Li
 use Rattle.zvt_runs.specs.declared.plans.Planned.{Planned}
 use Rattle.zvt_runs.specs.declared.plans.StepOptions.{StepOptions}
 use Rattle.zvt_runs.specs.TillRuns.{RunsTill}
-use Rattle.zvt_runs.specs.LineEnd.{EndState}
 use Rattle.zvt_runs.specs.Made.{Made, stop_of}
 use Rattle.zvt_runs.specs.Runs.{Answers, BreaksIn, EndsInStep, EndsInTotal, GoesOn, MakesAll, MakesTo, RunsOut, Standing, standing}
 use Rattle.zvt_runs.specs.Reporting.{ReportsRun}

@@ -1,6 +1,7 @@
 -- Runs over TCP of a till, alone or with a book.
 use Rattle.std.proofs.Common.{◌≡◌, ◌∙◌, ap, ℕ, List, Option, Some, None, Bool, true, false, Result, Ok, Err, refl, subst, inl}
 use Rattle.zvt_grammar.specs.Reading.{Reading}
+use Rattle.zvt_stream.specs.EndState.{EndState}
 use Rattle.zvt_runs.specs.declared.plans.StepOptions.{StepOptions}
 use Rattle.zvt_till.specs.View.{TillValue}
 use Rattle.zvt_till.specs.declared.entries.Entry.{Entry}
@@ -8,7 +9,6 @@ use Rattle.zvt_till.specs.declared.keeper.BookFault.{BookFault}
 use Rattle.zvt_runs.specs.declared.fault.EndFault.{EndFault}
 use Rattle.zvt_runs.specs.declared.fault.EndFault.TheVariants.{BadStep, Book, Line, Memory, Net, Silent, Trace, Unsuccessful, Write}
 use Rattle.zvt_runs.specs.declared.plans.Planned.{Planned}
-use Rattle.zvt_runs.specs.LineEnd.{EndState}
 use Rattle.zvt_runs.specs.Runs.{Law}
 use Rattle.zvt_runs.specs.TillEnd.{BeginsThere}
 use Rattle.zvt_runs.specs.TillRuns.{AnswersPlan}

@@ -2,6 +2,7 @@
 use Rattle.std.proofs.Common.{◌≡◌, sym, subst}
 use Rattle.std.specs.Prelude.{◌+◌, ◌≤◌, Bool, IfErr, IfOk, MatchResult, Result, Ok, Err}
 use Rattle.zvt_apdu.specs.Message.{Message}
+use Rattle.zvt_stream.specs.EndState.{EndState}
 use Rattle.zvt_stream.specs.Answered.{Answered}
 use Rattle.zvt_till.specs.Line.{Fails, IsOver, Runs, reads_failed, writes_failed}
 use Rattle.zvt_till.specs.View.{TillValue}
@@ -10,7 +11,6 @@ use Rattle.zvt_till.specs.declared.line.RunFault.{RunFault}
 use Rattle.zvt_till.specs.declared.orders.Order.{Order}
 use Rattle.zvt_till.specs.declared.orders.Outgoing.{Outgoing}
 use Rattle.zvt_till.specs.declared.outcomes.Outcome.{Outcome}
-use Rattle.zvt_runs.specs.LineEnd.{EndState}
 use Rattle.zvt_runs.specs.Steps.{order_of}
 use Rattle.zvt_runs.specs.TillEnd.{MakesThere}
 use Rattle.zvt_runs.specs.declared.arguments.Step.{Step}

@@ -1,12 +1,10 @@
 -- Both ends of a line, turn after turn.
-use Rattle.std.proofs.Common.{◌≡◌, ℕ, zero, suc, ◌+◌, ◌<◌, Bool, true, false, cond, List, Option, Some, None, ap₂, refl, sym, ◌∙◌, subst, add-one, inl, inr}
+use Rattle.std.proofs.Common.{◌≡◌, ℕ, ◌+◌, ◌<◌, Bool, true, false, cond, Option, Some, None, ap₂, refl, sym, ◌∙◌, subst, add-one, inl, inr}
 use Rattle.std.specs.Prelude.{Result}
 use Rattle.zvt_apdu.specs.Message.{Message}
 use Rattle.zvt_stream.specs.Answered.{Answered}
-use Rattle.zvt_stream.specs.Turns.{Ends, LineState, Waited, line_ends, line_state}
 use Rattle.zvt_stream.specs.declared.line.LineFault.{LineFault}
 use Rattle.zvt_stream.specs.declared.line.LineFault.TheVariants as faults
-use Rattle.zvt_stream.specs.declared.line.Until.TheVariants.{Sent}
 use Rattle.zvt_till.specs.Keeping.{Follows}
 use Rattle.zvt_till.specs.Line.{IsEnded, till_rests}
 use Rattle.zvt_till.specs.View.{TillValue}
@@ -25,6 +23,7 @@ use Rattle.zvt_term.specs.declared.turns.Verdict.{Verdict}
 use Rattle.zvt_runs.specs.declared.arguments.Step.{Step}
 use Rattle.zvt_runs.specs.Steps.{order_of}
 use Rattle.zvt_runs.specs.BothEnds.{Alternates, Begins, BeginsNot, BreaksOff, Comes, Fails, Line, Underway, ended_of}
+use Rattle.zvt_runs.specs.LineEnd.{Turn}
 use Rattle.zvt_runs.specs.Runs.{Standing}
 
 -- a terminal with its verdict
@@ -47,24 +46,12 @@ module _ {K : Type 0} {orders : K → Order → Result Outgoing Untaken → K �
   abbrev pub Known : K → Type 0
   Known keeper = IsKnown (till keeper).state × (failed keeper ≡ true → IsEnded (till keeper).state)
 
-  -- the till's turn came to where it was to go
-  abbrev TillEnds : (old new : Standing Line K) → Type 0
-  TillEnds old new =
-      Ends hears is_resting Sent 1000 old.line.till_end.reads new.line.till_end.reads (line_state old.line.till_end.stream old.till old.line.till_end.coming old.line.till_end.written)
-      (line_ends new.line.till_end.stream new.till new.line.till_end.coming new.line.till_end.written)
-
-  waited : (n : ℕ) (old new : LineState K) → Waited hears is_resting Sent n old new → Known old.machine → Known new.machine
-  waited zero old new w k = subst (λ (s : LineState K). Known s.machine) w k
-  waited (suc n) old new w k = hearings-stay follows w.0.machine new.machine _ _ w.2.pumped.course.heard.heard (waited n old w.0 w.1 k)
-
-  known_turn : (old new : Standing Line K) → TillEnds old new → Known old.till → Known new.till
-  known_turn old new (inl at_once) k = absurd (cc)
-  known_turn old new (inr turns) k =
-      let a = turns.1.3 in
-      hearings-stay follows a.middle.machine new.till _ _ a.last.pumped.course.heard.heard (waited a.before _ a.middle a.waited k)
+  known_turn : (old new : Standing Line K) → Turn hears is_resting old.line.till_end old.till new.line.till_end new.till → Known old.till → Known new.till
+  known_turn old new (inl stays) k = let never = stays.at_once in absurd (cc)
+  known_turn old new (inr gets) k = hearings-stay follows old.till new.till _ _ gets.1.pumped.course.heard.heard k
 
   known_after : (old new : Standing Line K) → Alternates orders hears is_resting failed till loses malforms old new → Known old.till → Known new.till
-  known_after old new a k = known_turn old new a.till_turn.ends k
+  known_after old new a k = known_turn old new a.till_turn k
 
   known_begun : (step : Step) (old new : Standing Line K) → Begins orders hears is_resting failed till loses malforms step old new → Known new.till
   known_begun step old new b = taken-stays follows old.till (order_of step) b.ordered.sends.outgoing new.till b.ordered.sends.ordered
@@ -76,7 +63,8 @@ module _ {K : Type 0} {orders : K → Order → Result Outgoing Untaken → K �
   over_broken fault old new (inl terminal) k = over_lost old.till new.till terminal.2 k
   over_broken fault old new (inr turn) k =
       let b = turn.1 in
-      let heard = heard-before hears fault _ _ b.broken.read b.broken.written old.till b.middle b.broken.breaks in
+      let broken = b.falls_short.broken in
+      let heard = heard-before hears fault _ _ broken.read broken.written old.till b.middle broken.breaks in
       reported-ended follows fault b.middle new.till b.reported (hearings-stay follows old.till b.middle heard.0 heard.1 heard.2 k).0
 
   -- ---- a step

@@ -1,6 +1,7 @@
 -- Both ends of a line, which take turns.
 use Rattle.std.specs.Prelude.{◌≡◌, ◌⊎◌, ℕ, zero, suc, ◌<◌, Bool, true, false, cond, Option, Some, None, Result, Ok, Err}
 use Rattle.zvt_apdu.specs.Message.{Message}
+use Rattle.zvt_stream.specs.EndState.{EndState}
 use Rattle.zvt_stream.specs.Answered.{Answered}
 use Rattle.zvt_stream.specs.StreamState.{at_start}
 use Rattle.zvt_stream.specs.declared.line.LineFault.{LineFault}
@@ -20,7 +21,7 @@ use Rattle.zvt_term.specs.Terminal.{new_terminal}
 use Rattle.zvt_term.specs.declared.served.Served.{Served}
 use Rattle.zvt_runs.specs.declared.both_ends.BothEnds.{BothEnds}
 use Rattle.zvt_runs.specs.declared.arguments.Step.{Step}
-use Rattle.zvt_runs.specs.LineEnd.{EndState, NotOrdered, Ordered, Turn, TurnBreaks}
+use Rattle.zvt_runs.specs.LineEnd.{NotOrdered, Ordered, Turn, TurnBreaks}
 use Rattle.zvt_runs.specs.Runs.{Standing, standing}
 use Rattle.zvt_runs.specs.Steps.{order_of, verdict_of}
 

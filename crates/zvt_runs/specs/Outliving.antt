@@ -1,6 +1,7 @@
 -- The book that a crash at any moment of a run over TCP leaves.
 use Rattle.std.specs.Prelude.{◌≡◌, ℕ, false, List, ◌∷◌, ◌++◌, map, Option, Result}
 use Rattle.zvt_grammar.specs.Reading.{Reading}
+use Rattle.zvt_stream.specs.EndState.{EndState}
 use Rattle.zvt_till.specs.declared.happenings.Happening.{Happening}
 use Rattle.zvt_till.specs.Sending.{Settings}
 use Rattle.zvt_journal.specs.Device.{LeavesOnly}
@@ -11,7 +12,6 @@ use Rattle.zvt_runs.specs.declared.fault.EndFault.{EndFault}
 use Rattle.zvt_runs.specs.declared.plans.Planned.{Planned}
 use Rattle.zvt_runs.specs.declared.plans.StepOptions.{StepOptions}
 use Rattle.zvt_runs.specs.Reporting.{ReportsNothing, ReportsRun}
-use Rattle.zvt_runs.specs.LineEnd.{EndState}
 use Rattle.zvt_runs.specs.Runs.{Law, noting}
 use Rattle.zvt_runs.specs.Steps.{order_of}
 use Rattle.zvt_runs.specs.TillEnd.{BeginsThere, MakesThere}

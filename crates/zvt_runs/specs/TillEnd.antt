@@ -2,6 +2,7 @@
 use Rattle.std.specs.Prelude.{◌≡◌, ◌+◌, ◌≤◌, Bool, Result, Ok, Err}
 use Rattle.zvt_apdu.specs.Message.{Message}
 use Rattle.zvt_grammar.specs.Reading.{Reading}
+use Rattle.zvt_stream.specs.EndState.{EndState, NoneFails}
 use Rattle.zvt_stream.specs.Answered.{Answered}
 use Rattle.zvt_stream.specs.StreamState.{start_in}
 use Rattle.zvt_till.specs.Keeping.{itself, never_failed, till_orders}
@@ -12,7 +13,6 @@ use Rattle.zvt_till.specs.declared.line.RunFault.{RunFault}
 use Rattle.zvt_till.specs.declared.orders.Order.{Order}
 use Rattle.zvt_till.specs.declared.orders.Outgoing.{Outgoing}
 use Rattle.zvt_till.specs.declared.outcomes.Outcome.{Outcome}
-use Rattle.zvt_runs.specs.LineEnd.{EndState, NoneFails}
 use Rattle.zvt_runs.specs.Steps.{order_of}
 use Rattle.zvt_runs.specs.declared.arguments.Step.{Step}
 

@@ -1,12 +1,12 @@
 -- A simulated terminal's service of one connection after another.
 use Rattle.std.specs.Prelude.{◌≡◌, ◌≤◌, ◌+◌, ℕ, List, [], ◌∷◌, length, Option, Some, None, Result, Ok, Err}
 use Rattle.zvt_grammar.specs.Reading.{Reading}
+use Rattle.zvt_stream.specs.EndState.{EndState}
 use Rattle.zvt_stream.specs.StreamState.{start_in}
 use Rattle.zvt_stream.specs.declared.line.LineFault.{LineFault}
 use Rattle.zvt_term.specs.Terminal.{TerminalState, lost_terminal, new_terminal}
 use Rattle.zvt_term.specs.declared.served.Served.{Served}
 use Rattle.zvt_term.specs.declared.turns.Verdict.{Verdict}
-use Rattle.zvt_runs.specs.LineEnd.{EndState}
 use Rattle.zvt_runs.specs.Service.{Serves}
 use Rattle.zvt_runs.specs.declared.fault.EndFault.{EndFault}
 use Rattle.zvt_runs.specs.declared.fault.EndFault.TheVariants.{Line as LineBroke, Memory, Net, Trace}

@@ -1,6 +1,7 @@
 //! One end of a connection, at which a machine takes its turns.
 ghost use Rattle.std.specs.Prelude.{MatchResult};
-ghost use Rattle.zvt_runs.specs.LineEnd.{EndState, NotOrdered, Ordered, Turn, TurnBreaks};
+ghost use Rattle.zvt_stream.specs.EndState.{EndState};
+ghost use Rattle.zvt_runs.specs.LineEnd.{NotOrdered, Ordered, TakesTurn};
 
 use std::alloc::Global;
 use zvt_io::{Sink, Source};
@@ -30,14 +31,12 @@ pub trait LineEnd {
 
     /// Lets the machine read until it has written a message or is at rest. Notifies it of a fault.
     fn turn<M: Machine>(&mut self, alloc: Global, machine: &mut M) -> Result<(), LineFault>
-        ensures { MatchResult result
-            (λ _. Turn M.hears M.is_resting (state self.old) machine.old (state self.new) machine.new)
-            (λ fault. TurnBreaks M.hears M.is_resting M.loses M.malforms fault (state self.old) machine.old
-            (state self.new) machine.new) };
+        ensures { TakesTurn M.hears M.is_resting M.loses M.malforms (state self.old) machine.old (state self.new)
+            machine.new result };
 }
 
 impl<R: Source, W: Sink> LineEnd for Endpoint<R, W> {
-    ghost use Rattle.zvt_runs.specs.LineEnd.{end_state};
+    ghost use Rattle.zvt_stream.specs.EndState.{end_state};
 
     ghost state = { λ end. end_state end.stream (R.remaining end.reader) (W.written end.writer) (R.reads end.reader)
         (R.failures end.reader) (W.failures end.writer) };

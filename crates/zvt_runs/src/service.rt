@@ -1,5 +1,5 @@
 //! A simulated terminal on a connection.
-ghost use Rattle.zvt_runs.specs.LineEnd.{end_state};
+ghost use Rattle.zvt_stream.specs.EndState.{end_state};
 ghost use Rattle.zvt_runs.specs.Service.{Serves};
 
 use std::alloc::Global;

@@ -14,7 +14,7 @@ mod silence;
 mod terminal;
 mod trace_file;
 
-pub use connection::{Door, SILENCE_SECONDS, connect, listen};
+pub use connection::{Door, PATIENCE_SECONDS, SILENCE_SECONDS, connect, listen};
 pub use laws::book_runs_outlive;
 pub use options::{LoopRun, TerminalRun, TillRun};
 pub use runs::{run_loop, run_till};

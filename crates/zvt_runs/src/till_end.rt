@@ -22,7 +22,7 @@ const READS_OF_AN_ORDER: u64 = 100_000;
 
 /// The terminal elsewhere makes its own decision on each step.
 impl<R: Source, W: Sink, K: Keeper> StepLine<K> for Endpoint<R, W> {
-    ghost use Rattle.zvt_runs.specs.LineEnd.{end_state};
+    ghost use Rattle.zvt_stream.specs.EndState.{end_state};
     ghost use Rattle.zvt_runs.specs.TillEnd.{MakesThere};
 
     ghost makes = { λ old till step result new left. MakesThere K.orders K.hears K.is_resting K.failed K.till K.loses

@@ -4,6 +4,7 @@ pub mod LentLemmas
 pub mod HearingLemmas
 pub mod LineRunLemmas
 pub mod TurnLemmas
+pub mod PumpLemmas
 pub mod CuttingLemmas
 pub mod LevelLemmas
 pub mod ContentMoves

@@ -1,13 +1,10 @@
 -- Turns, one after another.
-use Rattle.std.proofs.Common.{Result, Ok, Err, length, ◌<◌, ◌≤◌, ◌≡◌, ℕ, ◌+◌, Bool, true, false, Option, List, refl, sym, ap, ◌∙◌, subst, add-one}
-use Rattle.std.specs.Prelude.{IfOk}
-use Rattle.std.specs.Io.KnownBytes.{Consumes, Appends}
+use Rattle.std.proofs.Common.{◌≡◌, ℕ, ◌+◌, Bool, true, false, refl, sym, ap, ◌∙◌, subst, add-one}
 use Rattle.zvt_apdu.specs.Message.{Message}
-use Rattle.zvt_stream.specs.StreamState.{StreamState}
 use Rattle.zvt_stream.specs.declared.line.LineFault.{LineFault}
 use Rattle.zvt_stream.specs.declared.line.LineFault.TheVariants as faults
 use Rattle.zvt_stream.specs.Answered.{Answered}
-use Rattle.zvt_stream.specs.LineRun.{Course, Pumped, there_at_once, reached}
+use Rattle.zvt_stream.specs.LineRun.{there_at_once, reached}
 use Rattle.zvt_stream.specs.declared.line.Until.{Until}
 use Rattle.zvt_stream.specs.declared.line.Until.TheVariants.{Rest, Sent}
 use Rattle.zvt_stream.specs.Turns.{LineState, Turned, Waited, Broke, Falters}
@@ -17,11 +14,6 @@ pub waited_more : {S : Type 0} (step : S → Message → Answered → S → Type
 waited_more step resting until n old middle new w t r =
     let P : ℕ → Type 0 = λ k. Waited step resting until k old new in
     subst P (sym (add-one n)) (middle, w, t, r)
-
--- what one read brought
-pub turned : {S : Type 0} (step : S → Message → Answered → S → Type 0) (before after : StreamState) (old new : S) (coming left first last : Option (List ℕ)) (piece : List ℕ) (r : Result Bool LineFault) → Consumes coming left piece → length piece ≤ 1024 → 0 < length piece → IfOk r (λ sent. (written : List ℕ) × Appends first last written × Course step before piece after old new written sent) → IfOk r (λ sent. (pumped : Pumped step before after old new coming left first last sent) × (length pumped.read ≤ 1024) × (0 < length pumped.read))
-turned step before after old new coming left first last piece (Ok sent) k few some h = (record { read = piece; written = h.0; consumed = k; appended = h.1; course = h.2 }, few, some)
-turned step before after old new coming left first last piece (Err fault) k few some h = tt
 
 -- what a test of the machine said
 pub said : (until : Until) (resting now sent found value : Bool) → resting ≡ now → found ≡ reached until resting sent → found ≡ value → reached until now sent ≡ value

@@ -8,6 +8,8 @@ pub mod Hearing
 pub mod Replies
 pub mod LineRun
 pub mod Turns
+pub mod EndState
+pub mod Pumping
 pub mod DecoderState
 pub mod Moves
 pub mod Parts

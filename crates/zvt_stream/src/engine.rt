@@ -1,17 +1,12 @@
 //! Drives a line: reads messages, lets a machine process them, and writes its replies.
 
-ghost use Rattle.std.specs.Prelude.{◌≡◌, ◌≢◌, ℕ, ◌+◌, ◌<◌, ◌≤◌, Bool, false, true, List, [], ◌++◌, IfOk, IfErr, IsOk};
-ghost use Rattle.std.specs.Prelude.{IsSome, Some, OnOk, OnErr, MatchResult, length};
+ghost use Rattle.std.specs.Prelude.{◌≡◌, ℕ, ◌+◌, ◌≤◌, false, List, IfOk, IfErr, IsSome, Some, MatchResult};
 ghost use Rattle.std.specs.Result.{IsErrOf};
-ghost use Rattle.std.specs.Io.KnownBytes.{Consumes, Appends};
-ghost use Rattle.zvt_apdu.specs.Message.{Message};
-ghost use Rattle.zvt_stream.specs.Apdus.{Unfinished};
+ghost use Rattle.std.specs.Io.KnownBytes.{Appends};
 ghost use Rattle.zvt_stream.specs.StreamState.{IsReserved};
-ghost use Rattle.zvt_stream.specs.Answered.{Answered};
-ghost use Rattle.zvt_stream.specs.Hearing.{Heard};
-ghost use Rattle.zvt_stream.specs.LineRun.{Course, Breaks, Pumped, Broken, Reported, failed_reads, failed_writes};
-ghost use Rattle.zvt_stream.specs.LineRun.{there_at_once, reached, IsPieceFault};
-ghost use Rattle.zvt_stream.specs.Turns.{Arrives, Ends, Falters, line_state, line_ends};
+ghost use Rattle.zvt_stream.specs.EndState.{end_state};
+ghost use Rattle.zvt_stream.specs.LineRun.{Course, Breaks, Reported, failed_writes, IsPieceFault};
+ghost use Rattle.zvt_stream.specs.Pumping.{MakesTurn, MakesTurns, Pumps};
 ghost use Rattle.zvt_stream.specs.Replies.{Replies, Unanswered};
 
 use crate::line::{LineFault, Machine, Until};
@@ -112,17 +107,11 @@ fn turn<R: Source, W: Sink, M: Machine>(
     stream: &mut Stream,
     machine: &mut M,
 ) -> Result<bool, LineFault>
-    ensures ok { IfOk result (λ sent. (pumped : Pumped M.hears stream.old stream.new machine.old machine.new
-        (R.remaining reader.old) (R.remaining reader.new) (W.written writer.old) (W.written writer.new) sent)
-        × (length pumped.read ≤ 1024) × (0 < length pumped.read)) }
-    ensures err { IfErr result (λ fault. Broken M.hears fault stream.old stream.new machine.old machine.new
-        (R.remaining reader.old) (R.remaining reader.new) (W.written writer.old) (W.written writer.new)) }
-    ensures kinds { IfErr result (λ fault. fault ≢ LineFault.Turns) }
-    ensures reads { R.reads reader.new ≡ R.reads reader.old + 1 }
-    ensures reader_failures { MatchResult result (λ _. R.failures reader.new ≡ R.failures reader.old)
-        (λ fault. R.failures reader.new ≡ R.failures reader.old + failed_reads fault) }
-    ensures writer_failures { MatchResult result (λ _. W.failures writer.new ≡ W.failures writer.old)
-        (λ fault. W.failures writer.new ≡ W.failures writer.old + failed_writes fault) }
+    ensures made { MakesTurn M.hears
+        (end_state stream.old (R.remaining reader.old) (W.written writer.old) (R.reads reader.old)
+        (R.failures reader.old) (W.failures writer.old)) machine.old
+        (end_state stream.new (R.remaining reader.new) (W.written writer.new) (R.reads reader.new)
+        (R.failures reader.new) (W.failures writer.new)) machine.new result }
     ensures room { stream.old.room ≤ stream.new.room }
     ensures frugal { M.wants_memory ≡ false → IsReserved stream.old → IsErrOf result LineFault.Memory → ⊥ }
 {
@@ -147,29 +136,15 @@ fn run_turns<R: Source, W: Sink, M: Machine>(
     until: Until,
     turns: u64,
 ) -> Result<(), LineFault>
-    ensures ok { OnOk result ((sent : Bool) × Pumped M.hears stream.old stream.new machine.old machine.new
-        (R.remaining reader.old) (R.remaining reader.new) (W.written writer.old) (W.written writer.new) sent
-        × (reached until (M.is_resting machine.new) sent ≡ true)) }
-    ensures err { IfErr result (λ fault. Broken M.hears fault stream.old stream.new machine.old machine.new
-        (R.remaining reader.old) (R.remaining reader.new) (W.written writer.old) (W.written writer.new)) }
-    ensures reads { R.reads reader.new ≤ R.reads reader.old + turns }
-    // The line ends at the first turn after which it has come to where it was to go.
-    ensures first { OnOk result (Arrives M.hears M.is_resting until turns (R.reads reader.old) (R.reads reader.new)
-        (line_state stream.old machine.old (R.remaining reader.old) (W.written writer.old))
-        (line_ends stream.new machine.new (R.remaining reader.new) (W.written writer.new))) }
-    // No turn after which it had comes before a fault.
-    ensures falters { IfErr result (λ fault. Falters M.hears M.is_resting until fault turns (R.reads reader.old)
-        (R.reads reader.new)
-        (line_state stream.old machine.old (R.remaining reader.old) (W.written writer.old))
-        (line_ends stream.new machine.new (R.remaining reader.new) (W.written writer.new))) }
-    ensures reader_failures { MatchResult result (λ _. R.failures reader.new ≡ R.failures reader.old)
-        (λ fault. R.failures reader.new ≡ R.failures reader.old + failed_reads fault) }
-    ensures writer_failures { MatchResult result (λ _. W.failures writer.new ≡ W.failures writer.old)
-        (λ fault. W.failures writer.new ≡ W.failures writer.old + failed_writes fault) }
+    ensures made { MakesTurns M.hears M.is_resting until turns
+        (end_state stream.old (R.remaining reader.old) (W.written writer.old) (R.reads reader.old)
+        (R.failures reader.old) (W.failures writer.old)) machine.old
+        (end_state stream.new (R.remaining reader.new) (W.written writer.new) (R.reads reader.new)
+        (R.failures reader.new) (W.failures writer.new)) machine.new result }
     ensures room { stream.old.room ≤ stream.new.room }
     ensures frugal { M.wants_memory ≡ false → IsReserved stream.old → IsErrOf result LineFault.Memory → ⊥ }
 {
-    // What is held begins a message: nothing of it is still to be heard.
+    // For the proof: only a call tells it the stream's invariant, that what is held begins a message.
     let _ = stream.held();
     let mut sent = false;
     'turns: for made in 0..turns {
@@ -201,30 +176,15 @@ pub fn pump<R: Source, W: Sink, M: Machine>(
     until: Until,
     turns: u64,
 ) -> Result<(), LineFault>
-    ensures ok { OnOk result ((sent : Bool) × Pumped M.hears stream.old stream.new machine.old machine.new
-        (R.remaining reader.old) (R.remaining reader.new) (W.written writer.old) (W.written writer.new) sent
-        × (reached until (M.is_resting machine.new) sent ≡ true)) }
-    ensures err { IfErr result (λ fault. (middle : M) × Broken M.hears fault stream.old stream.new machine.old middle
-        (R.remaining reader.old) (R.remaining reader.new) (W.written writer.old) (W.written writer.new)
-        × Falters M.hears M.is_resting until fault turns (R.reads reader.old) (R.reads reader.new)
-        (line_state stream.old machine.old (R.remaining reader.old) (W.written writer.old))
-        (line_ends stream.new middle (R.remaining reader.new) (W.written writer.new))
-        × Reported M.loses M.malforms fault middle machine.new) }
-    ensures at_once { there_at_once until (M.is_resting machine.old) ≡ true → IsOk result
-        × (R.reads reader.new ≡ R.reads reader.old) }
-    ensures reads { R.reads reader.new ≤ R.reads reader.old + turns }
-    // The line ends at the first turn after which it has come to where it was to go.
-    ensures first { OnOk result (Ends M.hears M.is_resting until turns (R.reads reader.old) (R.reads reader.new)
-        (line_state stream.old machine.old (R.remaining reader.old) (W.written writer.old))
-        (line_ends stream.new machine.new (R.remaining reader.new) (W.written writer.new))) }
-    ensures reader_failures { MatchResult result (λ _. R.failures reader.new ≡ R.failures reader.old)
-        (λ fault. R.failures reader.new ≡ R.failures reader.old + failed_reads fault) }
-    ensures writer_failures { MatchResult result (λ _. W.failures writer.new ≡ W.failures writer.old)
-        (λ fault. W.failures writer.new ≡ W.failures writer.old + failed_writes fault) }
+    ensures pumps { Pumps M.hears M.is_resting until turns M.loses M.malforms
+        (end_state stream.old (R.remaining reader.old) (W.written writer.old) (R.reads reader.old)
+        (R.failures reader.old) (W.failures writer.old)) machine.old
+        (end_state stream.new (R.remaining reader.new) (W.written writer.new) (R.reads reader.new)
+        (R.failures reader.new) (W.failures writer.new)) machine.new result }
     ensures room { stream.old.room ≤ stream.new.room }
     ensures frugal { M.wants_memory ≡ false → IsReserved stream.old → IsErrOf result LineFault.Memory → ⊥ }
 {
-    // What is held begins a message: nothing of it is still to be heard.
+    // For the proof: only a call tells it the stream's invariant, that what is held begins a message.
     let _ = stream.held();
     if until.is_there(machine.resting()) {
         return Ok(());

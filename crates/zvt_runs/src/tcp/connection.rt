@@ -12,7 +12,10 @@ use std::os::fd::{AsRawFd, RawFd};
 use std::time::Duration;
 use zvt_io::GhostCount;
 
-/// Default timeout of a till in seconds: for connecting, for each read and for each write.
+/// Default timeout of a till in seconds, for each read and for each write (PA00P015, overall timeout of a command).
+pub const PATIENCE_SECONDS: u16 = 180;
+
+/// Timeout in seconds for connecting, and for the other ends of a line.
 pub const SILENCE_SECONDS: u16 = 60;
 
 /// The local address of this machine.
@@ -53,8 +56,8 @@ where
     Ok((till_end, terminal_end))
 }
 
-/// Connects to the terminal at this host and port. `seconds` is the timeout for connecting, for each read and for each
-/// write; zero is an error.
+/// Connects to the terminal at this host and port. `seconds` is the timeout for each read and for each write, and for
+/// connecting if it is at most `SILENCE_SECONDS`; zero is an error.
 pub fn connect<R>(rt: &R, host: &str, port: u16, seconds: u16) -> Result<TcpStream, NetFault>
 where
     R: Net<Listener = TcpListener, Stream = TcpStream>,
@@ -69,7 +72,7 @@ where
 {
     let mut last = io::Error::from(ErrorKind::NotFound);
     for address in addresses {
-        match TcpStream::connect_timeout(rt, &address, silence(seconds)) {
+        match TcpStream::connect_timeout(rt, &address, silence(seconds.min(SILENCE_SECONDS))) {
             Ok(end) => {
                 limit(&end, seconds)?;
                 return Ok(end);

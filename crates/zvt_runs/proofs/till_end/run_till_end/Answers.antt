@@ -1,4 +1,4 @@
-use Rattle.zvt_runs.specs.LineEnd.{end_state}
+use Rattle.zvt_stream.specs.EndState.{end_state}
 use Rattle.zvt_runs.specs.TillEnd.{BeginsThere, MakesThere}
 use Rattle.zvt_runs.proofs.Seen.{plan_seen}
 use Rattle.zvt_runs.proofs.till_end.run_till_end.Goals as goal

@@ -1,4 +1,4 @@
-use Rattle.zvt_runs.specs.LineEnd.{end_state}
+use Rattle.zvt_stream.specs.EndState.{end_state}
 use Rattle.zvt_runs.proofs.There.{made_there}
 use Rattle.zvt_runs.proofs.till_end.EndpointStepLine.make.Goals as goal
 
