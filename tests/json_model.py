@@ -2,8 +2,9 @@
 """A model of what `show` and `show --json` write, after docs/FORMAT.md and docs/JSON.md alone: no code of the program was
 looked at.
 
-`events_of` reads the bytes of a trace and gives an object for each thing that `show` says. `json_of` and `text_of` write
-such an object as `show --json` and as `show` do. `receipts_of` leaves those of `receipts`. A trace with a line that can't be
+`events_of` reads the bytes of a trace and gives an object for each thing that `show` says. `text_of` writes such an object as
+`show` does. `safe_of` hides what the safe form hides: `json_of` and `text_of` of it are what `show --json` and `show --safe`
+write. `receipts_of` leaves those of `receipts`. A trace with a line that can't be
 read ends with `Fault`, after the events of the lines before. With files as arguments the events of each are written as
 JSON, with `--loose` of padded lengths, and with `--resync` after refused messages too.
 """
@@ -28,6 +29,7 @@ for _shape, _names in (
 ):
     FIELDS.update({int(_one[:2], 16): (_one[3:], _shape) for _one in _names.split(", ")})
 DIGITS = {0x0D, 0x49, 0x0B, 0x0C, 0xAA, 0x29, 0x04}
+SECRET_TAGS = {"57", "5A"}
 CONTAINER, AMOUNT, RESULT, TEXTS, HIDDEN = 0x06, 0x04, 0x27, {0x2A, 0x8B}, {0x22, 0x23, 0x24, 0x2D, 0x3A, 0x3D}
 
 # The messages: how many bytes come first in their data, and whether fields or any bytes come then.
@@ -353,6 +355,26 @@ def receipts_of(events):
     return (event for event in events if event.get("kind") == "PrintLine" and event["from"] == "terminal")
 
 
+# ---- the safe form
+
+def safe_of_object(one):
+    if "objects" in one:
+        return {**one, "objects": [safe_of_object(inner) for inner in one["objects"]]}
+    if one["tag"] in SECRET_TAGS:
+        return {"tag": one["tag"], "hidden": len(one["content"]) // 2}
+    return one
+
+
+def safe_of(said):
+    """An event without its secrets."""
+    said = dict(said)
+    if said.get("kind") == "Other":
+        said["data_size"] = len(said.pop("data", "")) // 2
+    if "fields" in said:
+        said["fields"] = [safe_of_object(field) if "objects" in field else field for field in said["fields"]]
+    return said
+
+
 # ---- writers
 
 def json_of(value):
@@ -365,7 +387,8 @@ def words_of(said):
 
 def text_of_objects(found, depth):
     for one in found:
-        yield f"{'  ' * (depth + 1)}{one['tag']} {'constructed' if 'objects' in one else one['content'] or '-'}"
+        shown = "constructed" if "objects" in one else f"hidden {one['hidden']}" if "hidden" in one else one["content"] or "-"
+        yield f"{'  ' * (depth + 1)}{one['tag']} {shown}"
         yield from text_of_objects(one.get("objects", ()), depth + 1)
 
 
@@ -380,7 +403,7 @@ def text_of_field(said):
 
 
 def text_of(said):
-    """The lines of `show` for an event."""
+    """The lines of `show` for an event, or of `show --safe` for one of `safe_of`."""
     if "lost" in said:
         return ["! line lost"]
     mark = MARKS[said["from"]]
@@ -397,7 +420,7 @@ def text_of(said):
         "Other": lambda: f" {said['control']}", "PrintLine": lambda: f' {said["attribute"]} "{said["text"]}"',
         "Registration": lambda: f" config {said['config']}" + (f" currency {said['currency']}" if "currency" in said else ""),
     }.get(said["kind"], str)()
-    data = f" data {said['data']}" if "data" in said else ""
+    data = f" data {said['data']}" if "data" in said else f" data hidden {said['data_size']}" if said.get("data_size") else ""
     return [f"{mark} {said['kind']}{head}{data}", *(row for one in said.get("fields", ()) for row in text_of_field(one))]
 
 
@@ -406,7 +429,7 @@ def main():
     for path in (word for word in words if not word.startswith("--")):
         with open(path, "rb") as file:
             for event in events_of(file.read(), "--loose" in words, "--resync" in words):
-                print(json_of(event))
+                print(json_of(safe_of(event)))
     return 0
 
 

@@ -1,6 +1,6 @@
 #!/usr/bin/env python3
 """Compares `show` and `receipts`, as text and as JSON, with the model of `json_model.py`, byte for byte, strictly and with
-`--loose`, and `show` with `--resync` too.
+`--loose`, and `show` with `--resync` and with `--safe` too.
 
     tests/json_output.py [--text] [PROGRAM]
 
@@ -127,7 +127,7 @@ def hold_resync(name, trace, loose):
     if notes_in(noted) != sorted(map(note_of, filter(is_bad, events))):
         check.differs(name, "standard error with --resync")
     if not TEXT_ALONE:
-        lines = [json_model.json_of(event) for event in events]
+        lines = [json_model.json_of(json_model.safe_of(event)) for event in events]
         compare(name, ["show", "--json", "--resync", *loose], trace, [status, "".join(line + "\n" for line in lines).encode("ascii")])
         validated.extend(line for line, event in zip(lines, events) if "resumed" in event)
 
@@ -136,11 +136,13 @@ def hold(name, trace):
     """The program writes of a trace what the model does."""
     for loose in ([], ["--loose"]):
         events, status = told(trace, bool(loose))
-        lines = [json_model.json_of(event) for event in events]
+        lines = [json_model.json_of(json_model.safe_of(event)) for event in events]
         text = "".join(row + "\n" for event in events for row in json_model.text_of(event))
         noted = compare(name, ["show", *loose], trace, [status, text.encode("ascii")])
         hold_to_others(name, trace, loose, events, noted)
         printed = list(json_model.receipts_of(events))
+        safe = "".join(row + "\n" for event in events for row in json_model.text_of(json_model.safe_of(event)))
+        compare(name, ["show", "--safe", *loose], trace, [status, safe.encode("ascii")])
         compare(name, ["receipts", *loose], trace, [status, "".join(event["text"] + "\n" for event in printed).encode("ascii")])
         if not TEXT_ALONE:
             receipts = "".join(json_model.json_of(event) + "\n" for event in printed)

@@ -1,11 +1,12 @@
 -- The numbers of what a message says are small, and its objects nest little.
-use Rattle.std.proofs.Common.{◌≡◌, ℕ, ◌+◌, ◌^◌, ◌<◌, ◌≤◌, ◌==◌, ◌&&◌, if◌then◌else◌, Bool, true, false, Some, None, Option, List, [], ◌∷◌, length, refl, ◌∙◌, ap, subst, arith, length-append}
+use Rattle.std.proofs.Common.{◌≡◌, ℕ, suc, ◌+◌, ◌^◌, ◌<◌, ◌≤◌, ◌==◌, ◌&&◌, if◌then◌else◌, Bool, true, false, Some, None, Option, List, [], ◌∷◌, length, refl, ◌∙◌, ap, subst, arith, length-append}
 use Rattle.std.proofs.lemmas.Bool.{and_from, eqb-true, lt-ltb}
 use Rattle.std.proofs.lemmas.List.Elements.{All-head, All-tail}
 use Rattle.serde_json.specs.Data.{Data}
 use Rattle.zvt_bcd.specs.Digits.{AreDigits, IsDigitPair, number_of}
 use Rattle.zvt_grammar.specs.Reading.{shortest}
-use Rattle.zvt_tlv.specs.Grammar.{Objects, none, primitive, constructed}
+use Rattle.zvt_tlv.specs.Grammar.{IsLength, Objects, none, primitive, constructed}
+use Rattle.zvt_tlv.specs.Grammar as tlv
 use Rattle.zvt_field.specs.Grammar.{Field, plain, tree, FieldList, Plain}
 use Rattle.zvt_field.proofs.ViewLemmas.{amount_parts}
 use Rattle.zvt_field.specs.Shapes.{format_of}
@@ -13,7 +14,8 @@ use Rattle.zvt_field.proofs.TableLemmas.{of_amount}
 use Rattle.zvt_field.specs.declared.shapes.Format.{Format}
 use Rattle.zvt_field.specs.declared.shapes.Format.TheVariants.{Amount, Bytes, Hidden, Result, Text}
 use Rattle.zvt_text.specs.Results.{meaning_of}
-use Rattle.zvt_json.specs.Fields.{amount_value, content_value, field_values, hidden_value, object_values, plain_value, quoted_value, result_value, value_in}
+use Rattle.zvt_text.specs.Secrets.{is_secret_tag}
+use Rattle.zvt_json.specs.Fields.{amount_value, content_value, field_values, hidden_object, hidden_value, object_values, plain_value, primitive_value, quoted_value, result_value, shown_object, value_in}
 use Rattle.zvt_json.specs.Reading.{fits, items_fit}
 
 -- ---- numbers
@@ -40,10 +42,25 @@ amount_small (a ∷ b ∷ c ∷ d ∷ e ∷ f ∷ []) h six =
     omega (arith, pa.0, pa.1, pb.0, pb.1, pc.0, pc.1, pd.0, pd.1, pe.0, pe.1, pf.0, pf.1)
 amount_small (a ∷ b ∷ c ∷ d ∷ e ∷ f ∷ g ∷ more) h six = absurd (omega arith)
 
-objects_fit : (f : Objects) → items_fit (object_values f) ≡ true
-objects_fit none = refl
-objects_fit (primitive tag content rest) = objects_fit rest
-objects_fit (constructed tag inner rest) = ap (λ (b : Bool). (b && true) && items_fit (object_values rest)) (objects_fit inner) ∙ objects_fit rest
+length_small : (n : ℕ) (size : List ℕ) → IsLength shortest n size → n < 2 ^ 64
+length_small n [] is = absurd is
+length_small n (a ∷ []) is = omega arith
+length_small n (a ∷ b ∷ []) is = omega arith
+length_small n (a ∷ high ∷ low ∷ []) is = omega arith
+length_small n (a ∷ b ∷ c ∷ d ∷ more) is = absurd is
+
+object_fits : (secret : Bool) (tag content : List ℕ) → length content < 2 ^ 64 → fits (if secret then hidden_object tag (length content) else shown_object tag content) ≡ true
+object_fits true tag content small = ap (λ (b : Bool). b && true) (lt-ltb (length content) (2 ^ 64) small)
+object_fits false tag content small = refl
+
+objects_fit : (depth : ℕ) (f : Objects) (bytes : List ℕ) → tlv.Spells shortest depth f bytes → items_fit (object_values f) ≡ true
+objects_fit depth none bytes spelled = refl
+objects_fit depth (primitive tag content rest) bytes spelled =
+    let size = length_small (length spelled.content) spelled.size spelled.is_length in
+    let small : length content < 2 ^ 64 = omega (arith, size, ap length spelled.inside.0) in
+    and_from (fits (primitive_value tag content)) (items_fit (object_values rest)) (object_fits (is_secret_tag tag) tag content small) (objects_fit depth rest spelled.after spelled.others)
+objects_fit depth (constructed tag inner rest) bytes spelled =
+    ap (λ (b : Bool). (b && true) && items_fit (object_values rest)) (objects_fit (suc depth) inner spelled.content spelled.inside.1) ∙ objects_fit depth rest spelled.after spelled.others
 
 coded_fits : (bmp code : ℕ) (meaning : Option (List ℕ)) → meaning ≡ meaning_of code → fits (result_value bmp (code ∷ [])) ≡ true
 coded_fits bmp code None is = rw (← is) refl
@@ -85,4 +102,4 @@ fields_fit (plain bmp content ∷ fields) bytes (one, after, whole, spelled, mor
     and_from (fits (plain_value bmp content)) (items_fit (field_values fields)) (plain_fits bmp content one spelled (omega (arith, sizes, small))) (fields_fit fields after more (omega (arith, sizes, small)))
 fields_fit (tree bmp objects ∷ fields) bytes (one, after, whole, spelled, more) small =
     let sizes : length bytes ≡ length one + length after = ap length whole ∙ length-append one after in
-    ap (λ (b : Bool). (b && true) && items_fit (field_values fields)) (objects_fit objects) ∙ fields_fit fields after more (omega (arith, sizes, small))
+    ap (λ (b : Bool). (b && true) && items_fit (field_values fields)) (objects_fit 1 objects spelled.sized.content spelled.sized.inside) ∙ fields_fit fields after more (omega (arith, sizes, small))

@@ -15,8 +15,9 @@ use Rattle.zvt_field.specs.declared.shapes.Format.{Format}
 use Rattle.zvt_field.specs.declared.shapes.Format.TheVariants.{Amount, Bytes, Hidden, Result, Text}
 use Rattle.zvt_text.specs.MessageTexts.{fields_of}
 use Rattle.zvt_text.specs.Results.{meaning_of}
+use Rattle.zvt_text.specs.Secrets.{is_secret_tag}
 use Rattle.zvt_trace.specs.declared.direction.Direction.{Direction}
-use Rattle.zvt_json.specs.Fields.{amount_value, content_value, field_values, hidden_value, object_values, plain_value, quoted_value, result_value, words_of, value_in}
+use Rattle.zvt_json.specs.Fields.{amount_value, content_value, field_values, hidden_object, hidden_value, object_values, plain_value, primitive_value, quoted_value, result_value, shown_object, words_of, value_in}
 use Rattle.zvt_json.specs.Messages.{about, first_members, last_members, message_value, with_data}
 use Rattle.zvt_trace.specs.TraceEvent as trace_event
 use Rattle.zvt_trace.specs.TraceEvent.{TraceEvent}
@@ -30,20 +31,24 @@ most a b n p q = omega (arith, p, q)
 
 -- ---- fields
 
+either_depth : (b : Bool) (x y : Data) (n : ℕ) → depth x ≤ n → depth y ≤ n → depth (if b then x else y) ≤ n
+either_depth true x y n p q = p
+either_depth false x y n p q = q
+
+primitive_depth : (tag content : List ℕ) → depth (primitive_value tag content) ≤ 1
+primitive_depth tag content = either_depth (is_secret_tag tag) (hidden_object tag (length content)) (shown_object tag content) 1 (omega arith) (omega arith)
+
 -- objects at a depth
 objects_depth : (at : ℕ) (f : Objects) → at ≤ 6 → is_shallow at f ≡ true → items_depth (object_values f) + 2 * at ≤ 13
 objects_depth at none most_at h = omega arith
 objects_depth at (primitive tag content rest) most_at h =
-    let others = objects_depth at rest most_at h in omega (arith, others, most_at)
+    let first = primitive_depth tag content in
+    let others = objects_depth at rest most_at h in omega (arith, first, others, most_at)
 objects_depth at (constructed tag inner rest) most_at h =
     let both = and_parts (nat_lt at 6 && is_shallow (suc at) inner) (is_shallow at rest) h in
     let parts = and_parts (nat_lt at 6) (is_shallow (suc at) inner) both.0 in
     let inside = objects_depth (suc at) inner (omega (arith, ltb-true at 6 parts.0)) parts.1 in
     let others = objects_depth at rest most_at both.1 in omega (arith, inside, others)
-
-either_depth : (b : Bool) (x y : Data) (n : ℕ) → depth x ≤ n → depth y ≤ n → depth (if b then x else y) ≤ n
-either_depth true x y n p q = p
-either_depth false x y n p q = q
 
 coded_depth : (bmp code : ℕ) (meaning : Option (List ℕ)) → meaning ≡ meaning_of code → depth (result_value bmp (code ∷ [])) ≤ 1
 coded_depth bmp code None is = rw (← is) (omega arith)
@@ -111,22 +116,31 @@ data_fit : (payload : List ℕ) (later : Members) → members_fit later ≡ true
 data_fit [] later h = h
 data_fit (byte ∷ bytes) later h = h
 
-first_fit : (m : Message) (later : Members) → items_fit (field_values (fields_of m)) ≡ true → members_fit later ≡ true → members_fit (first_members m later) ≡ true
-first_fit (ack payload) later f h = data_fit payload later h
-first_fit (nack code payload) later f h = data_fit payload later h
-first_fit (registration password config None) later f h = h
-first_fit (registration password config (Some rest)) later f h = and_from (items_fit (field_values rest.1)) (members_fit later) f h
-first_fit (authorisation fields) later f h = and_from (items_fit (field_values fields)) (members_fit later) f h
-first_fit (reversal password fields) later f h = and_from (items_fit (field_values fields)) (members_fit later) f h
-first_fit (end_of_day password fields) later f h = and_from (items_fit (field_values fields)) (members_fit later) f h
-first_fit (abort_order fields) later f h = and_from (items_fit (field_values fields)) (members_fit later) f h
-first_fit (status fields) later f h = and_from (items_fit (field_values fields)) (members_fit later) f h
-first_fit (intermediate step payload) later f h = data_fit payload later h
-first_fit (print_line attribute text) later f h = h
-first_fit (text_block fields) later f h = and_from (items_fit (field_values fields)) (members_fit later) f h
-first_fit (completion fields) later f h = and_from (items_fit (field_values fields)) (members_fit later) f h
-first_fit (abort code payload) later f h = data_fit payload later h
-first_fit (other high low payload) later f h = data_fit payload later h
+-- the size of the data of a message outside the profile
+abbrev data_size : Message → ℕ
+data_size (other high low payload) = length payload
+data_size m = 0
+
+data_short : (m : Message) (bytes : List ℕ) → Content shortest m bytes → data_size m ≤ length bytes
+data_short (other high low payload) bytes h = omega (arith, ap length h.0)
+data_short m bytes h = omega arith
+
+first_fit : (m : Message) (later : Members) → items_fit (field_values (fields_of m)) ≡ true → data_size m < 2 ^ 64 → members_fit later ≡ true → members_fit (first_members m later) ≡ true
+first_fit (ack payload) later f small h = data_fit payload later h
+first_fit (nack code payload) later f small h = data_fit payload later h
+first_fit (registration password config None) later f small h = h
+first_fit (registration password config (Some rest)) later f small h = and_from (items_fit (field_values rest.1)) (members_fit later) f h
+first_fit (authorisation fields) later f small h = and_from (items_fit (field_values fields)) (members_fit later) f h
+first_fit (reversal password fields) later f small h = and_from (items_fit (field_values fields)) (members_fit later) f h
+first_fit (end_of_day password fields) later f small h = and_from (items_fit (field_values fields)) (members_fit later) f h
+first_fit (abort_order fields) later f small h = and_from (items_fit (field_values fields)) (members_fit later) f h
+first_fit (status fields) later f small h = and_from (items_fit (field_values fields)) (members_fit later) f h
+first_fit (intermediate step payload) later f small h = data_fit payload later h
+first_fit (print_line attribute text) later f small h = h
+first_fit (text_block fields) later f small h = and_from (items_fit (field_values fields)) (members_fit later) f h
+first_fit (completion fields) later f small h = and_from (items_fit (field_values fields)) (members_fit later) f h
+first_fit (abort code payload) later f small h = data_fit payload later h
+first_fit (other high low payload) later f small h = and_from (nat_lt (length payload) (2 ^ 64)) (members_fit later) (lt-ltb (length payload) (2 ^ 64) small) h
 
 -- the last member is flat, and has no number
 flat_words : (meaning : Option (List ℕ)) → (members_fit (words_of meaning) ≡ true) × (members_depth (words_of meaning) ≡ 0)
@@ -176,7 +190,7 @@ first_depth (print_line attribute text) later f h = omega (arith, h)
 first_depth (text_block fields) later f h = listed_depth fields later f h
 first_depth (completion fields) later f h = listed_depth fields later f h
 first_depth (abort code payload) later f h = let inside = data_depth payload later h in omega (arith, inside)
-first_depth (other high low payload) later f h = let inside = data_depth payload later h in omega (arith, inside)
+first_depth (other high low payload) later f h = omega (arith, h)
 
 -- a message is short
 control_short : (m : Message) (control : List ℕ) → IsControl m control → length control ≤ 2
@@ -213,10 +227,11 @@ message_fits from line m bytes s small =
     let inside = has_fields m s.content s.is_content in
     let short = message_short m bytes s in
     let size = size_short (length s.content) s.size s.is_size in
+    let payload = data_short m s.content s.is_content in
     let last = flat_last m in
     let about_depth : members_depth (about from m line (length bytes) (last_members m)) ≤ 15 = omega (arith, last.1) in
     let depths = first_depth m (about from m line (length bytes) (last_members m)) (fields_depth (fields_of m) inside.listed inside.spelled) about_depth in (
-      first_fit m (about from m line (length bytes) (last_members m)) (fields_fit (fields_of m) inside.listed inside.spelled (omega (arith, inside.short, size.0)))
+      first_fit m (about from m line (length bytes) (last_members m)) (fields_fit (fields_of m) inside.listed inside.spelled (omega (arith, inside.short, size.0))) (omega (arith, payload, size.0))
           (about_fits from m line (length bytes) (last_members m) small (omega (arith, short)) last.0),
       omega (arith, depths),
     )

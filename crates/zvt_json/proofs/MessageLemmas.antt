@@ -1,5 +1,5 @@
 -- The text of a message is that of its value.
-use Rattle.std.proofs.Common.{◌≡◌, ℕ, true, false, Some, None, Option, List, [], ◌∷◌, ◌++◌, codes, refl, sym, ◌∙◌, ap, append_assoc}
+use Rattle.std.proofs.Common.{◌≡◌, ℕ, true, false, Some, None, Option, List, [], ◌∷◌, ◌++◌, length, codes, refl, sym, ◌∙◌, ap, append_assoc}
 use Rattle.std.specs.Fmt.{decimal}
 use Rattle.hex.specs.Hex.{encode_upper}
 use Rattle.json.specs.Print.{escape_byte}
@@ -17,8 +17,8 @@ use Rattle.zvt_text.specs.Results.{meaning_of}
 use Rattle.zvt_trace.specs.declared.direction.Direction.{Direction}
 use Rattle.zvt_trace.specs.declared.direction.Direction.TheVariants.{FromTill, FromTerminal}
 use Rattle.zvt_json.specs.Fields.{field_values}
-use Rattle.zvt_json.specs.Messages.{about, first_members, last_members, message_value, with_currency, with_data, with_fields}
-use Rattle.zvt_json.specs.Texts.{about_text, config_led, control_led, currency_led, data_led, fields_led, first_text, from_text, kind_led, last_text, message_text, registered_led, shut}
+use Rattle.zvt_json.specs.Messages.{about, first_members, last_members, message_value, with_currency, with_data, with_fields, with_size}
+use Rattle.zvt_json.specs.Texts.{about_text, config_led, control_led, currency_led, data_led, fields_led, first_text, from_text, kind_led, last_text, message_text, registered_led, shut, size_led}
 use Rattle.zvt_json.proofs.EscapeLemmas.{four_plain, kind_plain}
 use Rattle.zvt_json.proofs.TextLemmas.{words_said}
 
@@ -30,7 +30,7 @@ registration_first (registration w g None) config currency fields k a b c = rw (
 registration_first (registration w g (Some s)) config currency fields k a b c = rw (a, b, c) refl
 registration_first m config currency fields k a b c = absurd (cc (k))
 
-pub other_first : (m : Message) (control : List ℕ) (payload : Option (List ℕ)) → kind.Other ≡ kind_of m → control ≡ control_of m → payload ≡ payload_in m → control_led control ++ part_text data_led payload ≡ first_text m
+pub other_first : (m : Message) (control : List ℕ) (payload : Option (List ℕ)) → kind.Other ≡ kind_of m → control ≡ control_of m → payload ≡ payload_in m → control_led control ++ part_text size_led payload ≡ first_text m
 other_first (other high low x) control payload k a b = rw (a, b) refl
 other_first m control payload k a b = absurd (cc (k))
 
@@ -62,6 +62,15 @@ with_payload name text payload key value later =
     ∙ ap (λ (l : List ℕ). (name ++ (text ++ 44 ∷ [])) ++ l) (data_said payload key value later)
     ∙ led_before name text (members_text false (with_data payload (member key value later)))
     ∙ ap (λ (l : List ℕ). name ++ (text ++ l)) (data_later payload key value later)
+
+-- the size of a payload after another member
+with_payload_size : (name text payload key : List ℕ) (value : Data) (later : Members) →
+    (name ++ (text ++ 44 ∷ []) ++ size_led payload) ++ members_text false (member key value later) ≡ name ++ (text ++ members_text true (with_size payload (member key value later)))
+unfolding escape_byte
+with_payload_size name text payload key value later =
+    append_assoc (name ++ (text ++ 44 ∷ [])) (size_led payload) (members_text false (member key value later))
+    ∙ ap (λ (l : List ℕ). (name ++ (text ++ 44 ∷ [])) ++ l) (led_before (codes "\"data_size\":") (decimal (length payload)) (members_text false (member key value later)))
+    ∙ led_before name text (members_text false (with_size payload (member key value later)))
 
 currency_said : (currency : ℕ) (later : List ℕ) → (codes "\"currency\":\"" ++ (four_digits currency ++ codes "\",")) ++ later ≡ codes "\"currency\":\"" ++ (shut (four_digits currency) ++ 44 ∷ later)
 currency_said currency later =
@@ -99,7 +108,7 @@ first_said (print_line attribute text) key value later = led_before (codes "\"at
 first_said (text_block fields) key value later = fields_said fields key value later
 first_said (completion fields) key value later = fields_said fields key value later
 first_said (abort code payload) key value later = with_payload (codes "\"code\":\"") (shut (hex_of code)) payload key value later
-first_said (other high low payload) key value later = with_payload (codes "\"control\":\"") (shut (encode_upper (high ∷ low ∷ []))) payload key value later
+first_said (other high low payload) key value later = with_payload_size (codes "\"control\":\"") (shut (encode_upper (high ∷ low ∷ []))) payload key value later
 
 -- ---- the members that each has
 

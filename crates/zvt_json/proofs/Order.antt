@@ -9,17 +9,22 @@ use Rattle.zvt_field.specs.Shapes.{format_of}
 use Rattle.zvt_field.specs.declared.shapes.Format.{Format}
 use Rattle.zvt_field.specs.declared.shapes.Format.TheVariants.{Amount, Bytes, Hidden, Result, Text}
 use Rattle.zvt_text.specs.Results.{meaning_of}
+use Rattle.zvt_text.specs.Secrets.{is_secret_tag}
 use Rattle.zvt_trace.specs.declared.direction.Direction.{Direction}
 use Rattle.zvt_trace.specs.TraceEvent as trace_event
 use Rattle.zvt_trace.specs.TraceEvent.{TraceEvent}
-use Rattle.zvt_json.specs.Fields.{amount_value, content_value, field_value, field_values, hidden_value, object_values, quoted_value, result_value, value_in}
+use Rattle.zvt_json.specs.Fields.{amount_value, content_value, field_value, field_values, hidden_object, hidden_value, object_values, primitive_value, quoted_value, result_value, shown_object, value_in}
 use Rattle.zvt_json.specs.Messages.{message_value}
 use Rattle.zvt_json.specs.Events.{EventValue}
 use Rattle.zvt_json.specs.Reading.{items_ordered, ordered}
 
+object_ordered : (secret : Bool) (tag content : List ℕ) → ordered (if secret then hidden_object tag (length content) else shown_object tag content) ≡ true
+object_ordered true tag content = refl
+object_ordered false tag content = refl
+
 objects_ordered : (f : Objects) → items_ordered (object_values f) ≡ true
 objects_ordered none = refl
-objects_ordered (primitive tag content rest) = objects_ordered rest
+objects_ordered (primitive tag content rest) = and_from (ordered (primitive_value tag content)) (items_ordered (object_values rest)) (object_ordered (is_secret_tag tag) tag content) (objects_ordered rest)
 objects_ordered (constructed tag inner rest) = ap (λ (b : Bool). (b && true) && items_ordered (object_values rest)) (objects_ordered inner) ∙ objects_ordered rest
 
 coded_ordered : (bmp code : ℕ) (meaning : Option (List ℕ)) → meaning ≡ meaning_of code → ordered (result_value bmp (code ∷ [])) ≡ true
@@ -74,8 +79,7 @@ message_ordered from line size (print_line attribute text) = refl
 message_ordered from line size (text_block fields) = listed fields
 message_ordered from line size (completion fields) = listed fields
 message_ordered from line size (abort code payload) = given_up from line size code payload (meaning_of code) refl
-message_ordered from line size (other high low []) = refl
-message_ordered from line size (other high low (byte ∷ bytes)) = refl
+message_ordered from line size (other high low payload) = refl
 
 -- the same value, by other words
 along : (a b : Data) → a ≡ b → ordered b ≡ true → ordered a ≡ true

@@ -6,7 +6,7 @@ use Rattle.json.specs.Print.{escape_byte}
 use Rattle.zvt_grammar.specs.declared.why.Why.TheVariants.{UnknownField}
 use Rattle.zvt_tlv.specs.Grammar.{none, primitive, constructed}
 use Rattle.zvt_field.specs.Grammar.{plain, tree}
-use Rattle.zvt_apdu.specs.Message.{abort, intermediate, print_line, registration, status}
+use Rattle.zvt_apdu.specs.Message.{abort, intermediate, other, print_line, registration, status}
 use Rattle.zvt_trace.specs.declared.direction.Direction.TheVariants.{FromTill, FromTerminal}
 use Rattle.zvt_json.specs.Strings.{line_text}
 use Rattle.zvt_json.specs.Messages.{message_value}
@@ -59,3 +59,14 @@ truncated = refl
 pub lost : line_text (lost_value 7) ≡ codes "{\"line\":7,\"lost\":true}\n"
 unfolding digits escape_byte
 lost = refl
+
+-- 06 93 03 12 34 56
+pub unknown : line_text (message_value FromTill 1 6 (other 0x06 0x93 (0x12 ∷ 0x34 ∷ 0x56 ∷ []))) ≡ codes "{\"control\":\"0693\",\"data_size\":3,\"from\":\"till\",\"kind\":\"Other\",\"line\":1,\"size\":6}\n"
+unfolding encode_with digits escape_byte
+unknown = refl
+
+-- 04 0F 05 06 03 5A 01 CD
+pub card : line_text (message_value FromTerminal 1 8 (status (tree 0x06 (primitive (0x5A ∷ []) (0xCD ∷ []) none) ∷ [])))
+    ≡ codes "{\"fields\":[{\"bmp\":\"06\",\"name\":\"container\",\"objects\":[{\"hidden\":1,\"tag\":\"5A\"}]}],\"from\":\"terminal\",\"kind\":\"Status\",\"line\":1,\"size\":8}\n"
+unfolding encode_with digits escape_byte
+card = refl

@@ -1,5 +1,5 @@
 -- The texts of fields and objects are those of their values.
-use Rattle.std.proofs.Common.{◌≡◌, ℕ, true, false, Some, None, Option, List, [], ◌∷◌, ◌++◌, length, codes, refl, sym, ◌∙◌, ap}
+use Rattle.std.proofs.Common.{◌≡◌, ℕ, Bool, true, false, if◌then◌else◌, Some, None, Option, List, [], ◌∷◌, ◌++◌, length, codes, refl, sym, ◌∙◌, ap}
 use Rattle.std.specs.Fmt.{decimal}
 use Rattle.std.proofs.lemmas.Bool.{ne_eqb}
 use Rattle.hex.specs.Hex.{encode_upper, encode_with}
@@ -10,8 +10,9 @@ use Rattle.zvt_bcd.specs.Digits.{number_of}
 use Rattle.zvt_tlv.specs.Grammar.{Objects}
 use Rattle.zvt_text.specs.Bytes.{escaped_text, hex_of}
 use Rattle.zvt_text.specs.Results.{meaning_of}
-use Rattle.zvt_json.specs.Fields.{amount_value, constructed_value, content_value, field_name, hidden_value, named, object_values, plain_value, primitive_value, quoted_value, result_value, tag_member, tree_value, words_of}
-use Rattle.zvt_json.specs.Texts.{amount_text, code_text, content_text, hidden_text, name_text, opened_text, primitive_text, quoted_text, result_text, shut, tag_text, tree_text, words_text}
+use Rattle.zvt_text.specs.Secrets.{is_secret_tag}
+use Rattle.zvt_json.specs.Fields.{amount_value, constructed_value, content_value, field_name, hidden_object, hidden_value, named, object_values, plain_value, primitive_value, quoted_value, result_value, shown_object, tag_member, tree_value, words_of}
+use Rattle.zvt_json.specs.Texts.{amount_text, code_text, content_text, hidden_object_text, hidden_text, name_text, opened_text, primitive_text, quoted_text, result_text, shown_text, shut, tag_text, tree_text, words_text}
 use Rattle.zvt_json.proofs.EscapeLemmas.{meaning_plain, name_plain}
 
 pub words_said : (code : ℕ) (meaning : Option (List ℕ)) → meaning ≡ meaning_of code → words_text meaning ≡ members_text true (words_of meaning)
@@ -66,9 +67,14 @@ pub tag_said : (tag : List ℕ) → tag_text tag ≡ members_text true (tag_memb
 unfolding escape_byte
 tag_said tag = refl
 
-pub primitive_said : (tag content : List ℕ) → primitive_text tag content ≡ compact_text (primitive_value tag content)
+object_said : (secret : Bool) (tag content : List ℕ) → (if secret then hidden_object_text tag (length content) else shown_text tag content)
+    ≡ compact_text (if secret then hidden_object tag (length content) else shown_object tag content)
 unfolding escape_byte
-primitive_said tag content = refl
+object_said true tag content = refl
+object_said false tag content = refl
+
+pub primitive_said : (tag content : List ℕ) → primitive_text tag content ≡ compact_text (primitive_value tag content)
+primitive_said tag content = object_said (is_secret_tag tag) tag content
 
 pub constructed_said : (tag : List ℕ) (inner : Items) → compact_text (constructed_value tag inner) ≡ codes "{\"objects\":[" ++ (items_text false inner ++ tag_text tag)
 unfolding escape_byte

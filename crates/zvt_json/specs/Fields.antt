@@ -1,5 +1,5 @@
 -- The JSON of fields, and of the objects of a container. The members of an object come in the order of their names.
-use Rattle.std.specs.Prelude.{ℕ, List, [], ◌∷◌, length, Option, Some, None, unwrap_or, codes}
+use Rattle.std.specs.Prelude.{ℕ, if◌then◌else◌, List, [], ◌∷◌, length, Option, Some, None, unwrap_or, codes}
 use Rattle.serde_json.specs.Data.{Data, string, array, object, Items, no_items, item, Members, no_members, member}
 use Rattle.zvt_bcd.specs.Digits.{number_of}
 use Rattle.zvt_tlv.specs.Grammar.{Objects, none, primitive, constructed}
@@ -8,14 +8,22 @@ use Rattle.zvt_field.specs.Shapes.{format_of, name_of}
 use Rattle.zvt_field.specs.declared.shapes.Format.{Format}
 use Rattle.zvt_field.specs.declared.shapes.Format.TheVariants.{Amount, Bytes, Hidden, Result, Text}
 use Rattle.zvt_text.specs.Results.{meaning_of}
+use Rattle.zvt_text.specs.Secrets.{is_secret_tag}
 use Rattle.zvt_json.specs.Strings.{byte_value, count_value, hex_value, text_value}
 
 -- the last member of an object
 abbrev pub tag_member : List ℕ → Members
 tag_member tag = member (codes "tag") (hex_value tag) no_members
 
+abbrev pub shown_object : (tag content : List ℕ) → Data
+shown_object tag content = object (member (codes "content") (hex_value content) (tag_member tag))
+
+-- only the size of an object with card data
+abbrev pub hidden_object : (tag : List ℕ) → (size : ℕ) → Data
+hidden_object tag size = object (member (codes "hidden") (count_value size) (tag_member tag))
+
 abbrev pub primitive_value : (tag content : List ℕ) → Data
-primitive_value tag content = object (member (codes "content") (hex_value content) (tag_member tag))
+primitive_value tag content = if is_secret_tag tag then hidden_object tag (length content) else shown_object tag content
 
 abbrev pub constructed_value : List ℕ → Items → Data
 constructed_value tag inner = object (member (codes "objects") (array inner) (tag_member tag))

@@ -1,4 +1,4 @@
--- The values that no JSON contains.
+-- What no JSON says.
 use Rattle.std.specs.Prelude.{◌≡◌, ◌<◌, ◌^◌, ℕ, Option, Some, List, ◌∷◌, ◌++◌, length}
 use Rattle.serde_json.specs.Data.{Data}
 use Rattle.serde_json.specs.Read.{read}
@@ -6,7 +6,8 @@ use Rattle.serde_json.specs.Written.{compact_text}
 use Rattle.zvt_field.specs.Grammar.{Field, plain}
 use Rattle.zvt_field.specs.Shapes.{format_of}
 use Rattle.zvt_field.specs.declared.shapes.Format.TheVariants.{Hidden}
-use Rattle.zvt_apdu.specs.Message.{registration, reversal, end_of_day}
+use Rattle.zvt_apdu.specs.Message.{Message, registration, reversal, end_of_day}
+use Rattle.zvt_text.specs.Secrets.{blanked}
 use Rattle.zvt_trace.specs.declared.direction.Direction.{Direction}
 use Rattle.zvt_trace.specs.TraceEvent.{TraceEvent, message, refused, unread, resumed, cut_off, lost}
 use Rattle.zvt_json.specs.Events.{EventValue}
@@ -29,6 +30,10 @@ StaysHidden bmp =
 -- Whatever the table of BMPs hides.
 abbrev pub SecretsStayHidden : Type 0
 SecretsStayHidden = (bmp : ℕ) → format_of bmp ≡ Hidden → StaysHidden bmp
+
+-- Two messages that differ only in their secrets, in contents of the same size, have one value.
+abbrev pub SafeValuesAgree : Type 0
+SafeValuesAgree = (from : Direction) (line size : ℕ) (one other : Message) → blanked one ≡ blanked other → message_value from line size one ≡ message_value from line size other
 
 -- A place, a size and a count fit into 64 bits, as they do in the program.
 abbrev pub NumbersFit : TraceEvent → Type 0

@@ -1,5 +1,5 @@
 -- The JSON of a message. The members of an object come in the order of their names.
-use Rattle.std.specs.Prelude.{ℕ, List, [], ◌∷◌, Option, Some, None, codes}
+use Rattle.std.specs.Prelude.{ℕ, List, [], ◌∷◌, length, Option, Some, None, codes}
 use Rattle.serde_json.specs.Data.{Data, string, array, object, Members, no_members, member}
 use Rattle.zvt_field.specs.Grammar.{Field}
 use Rattle.zvt_apdu.specs.Message.{Message, ack, nack, registration, authorisation, reversal, end_of_day, abort_order, status, intermediate, print_line, text_block, completion, abort, other}
@@ -25,6 +25,10 @@ abbrev pub with_data : List ℕ → Members → Members
 with_data [] later = later
 with_data (byte ∷ bytes) later = member (codes "data") (hex_value (byte ∷ bytes)) later
 
+-- the size of a payload that is not shown
+abbrev pub with_size : List ℕ → Members → Members
+with_size payload later = member (codes "data_size") (count_value (length payload)) later
+
 abbrev pub with_fields : List Field → Members → Members
 with_fields fields later = member (codes "fields") (array (field_values fields)) later
 
@@ -33,7 +37,7 @@ abbrev pub with_currency : Option (ℕ × List Field) → Members → Members
 with_currency None later = later
 with_currency (Some rest) later = member (codes "currency") (string (four_digits rest.0)) (with_fields rest.1 later)
 
--- the members before the members of `about`; a password is never one of them
+-- the members before the members of `about`; neither a password nor the data of a message outside the profile is one
 abbrev pub first_members : Message → Members → Members
 first_members (ack payload) later = with_data payload later
 first_members (nack code payload) later = member (codes "code") (byte_value code) (with_data payload later)
@@ -48,7 +52,7 @@ first_members (print_line attribute text) later = member (codes "attribute") (by
 first_members (text_block fields) later = with_fields fields later
 first_members (completion fields) later = with_fields fields later
 first_members (abort code payload) later = member (codes "code") (byte_value code) (with_data payload later)
-first_members (other high low payload) later = member (codes "control") (hex_value (high ∷ low ∷ [])) (with_data payload later)
+first_members (other high low payload) later = member (codes "control") (hex_value (high ∷ low ∷ [])) (with_size payload later)
 
 -- the members after them
 abbrev pub last_members : Message → Members

@@ -1,5 +1,5 @@
 -- The text of the values, part by part, for the clauses of private functions.
-use Rattle.std.specs.Prelude.{ℕ, false, Some, None, List, [], ◌∷◌, ◌++◌, Option, option_map, unwrap_or, codes}
+use Rattle.std.specs.Prelude.{ℕ, false, if◌then◌else◌, length, Some, None, List, [], ◌∷◌, ◌++◌, Option, option_map, unwrap_or, codes}
 use Rattle.std.specs.Fmt.{decimal}
 use Rattle.hex.specs.Hex.{encode_upper}
 use Rattle.json.specs.Print.{escape}
@@ -14,6 +14,7 @@ use Rattle.zvt_apdu.specs.Message.{Message, ack, nack, registration, authorisati
 use Rattle.zvt_text.specs.Bytes.{escaped_text, hex_of}
 use Rattle.zvt_text.specs.MessageTexts.{four_digits, kind_name}
 use Rattle.zvt_text.specs.Results.{meaning_of}
+use Rattle.zvt_text.specs.Secrets.{is_secret_tag}
 use Rattle.zvt_trace.specs.declared.direction.Direction.{Direction}
 use Rattle.zvt_trace.specs.declared.direction.Direction.TheVariants.{FromTill, FromTerminal}
 use Rattle.zvt_json.specs.Fields.{field_name, field_values, object_values}
@@ -43,6 +44,12 @@ abbrev pub data_led : List ℕ → List ℕ
 data_led [] = []
 data_led (byte ∷ bytes) = codes "\"data\":\"" ++ (shut (encode_upper (byte ∷ bytes)) ++ codes ",")
 
+abbrev pub size_member : ℕ → List ℕ
+size_member size = codes "\"data_size\":" ++ (decimal size ++ codes ",")
+
+abbrev pub size_led : List ℕ → List ℕ
+size_led payload = size_member (length payload)
+
 abbrev pub fields_led : List Field → List ℕ
 fields_led fields = codes "\"fields\":[" ++ (items_text false (field_values fields) ++ codes ",")
 
@@ -64,7 +71,7 @@ first_text (print_line attribute text) = attribute_led attribute
 first_text (text_block fields) = fields_led fields
 first_text (completion fields) = fields_led fields
 first_text (abort code payload) = code_led code ++ data_led payload
-first_text (other high low payload) = control_led (high ∷ low ∷ []) ++ data_led payload
+first_text (other high low payload) = control_led (high ∷ low ∷ []) ++ size_led payload
 
 -- ---- messages: the members that each has
 
@@ -176,5 +183,11 @@ tree_text bmp objects = opened_text bmp ++ (name_text bmp ++ (codes ",\"objects\
 abbrev pub tag_text : List ℕ → List ℕ
 tag_text tag = codes ",\"tag\":\"" ++ (shut (encode_upper tag) ++ codes "}")
 
+abbrev pub hidden_object_text : (tag : List ℕ) → (size : ℕ) → List ℕ
+hidden_object_text tag size = codes "{\"hidden\":" ++ (decimal size ++ tag_text tag)
+
+abbrev pub shown_text : (tag content : List ℕ) → List ℕ
+shown_text tag content = codes "{\"content\":\"" ++ (shut (encode_upper content) ++ tag_text tag)
+
 abbrev pub primitive_text : (tag content : List ℕ) → List ℕ
-primitive_text tag content = codes "{\"content\":\"" ++ (shut (encode_upper content) ++ tag_text tag)
+primitive_text tag content = if is_secret_tag tag then hidden_object_text tag (length content) else shown_text tag content

@@ -6,7 +6,8 @@ ghost use Rattle.zvt_text.specs.MessageTexts.{part_text};
 ghost use Rattle.zvt_text.specs.Writing.{Puts};
 ghost use Rattle.zvt_json.specs.Texts.{about_text, attribute_led, code_led, coded_text, config_led, control_led};
 ghost use Rattle.zvt_json.specs.Texts.{currency_led, data_led, ended, fields_led, first_text, from_text, kind_led};
-ghost use Rattle.zvt_json.specs.Texts.{last_text, message_text, printed_text, status_text};
+ghost use Rattle.zvt_json.specs.Texts.{status_text};
+ghost use Rattle.zvt_json.specs.Texts.{last_text, message_text, printed_text, size_led, size_member};
 
 use crate::fields::fields;
 use crate::parts::words;
@@ -95,7 +96,7 @@ fn first(buffer: &mut [u8], at: usize, message: &ApduView<'_>) -> Result<usize, 
         Kind::PrintLine => attribute(buffer, at, message.attribute()),
         Kind::Other => {
             let at = control(buffer, at, message.control())?;
-            data(buffer, at, message.payload())
+            data_size(buffer, at, message.payload())
         }
         _ => listed(buffer, at, message.fields()),
     }
@@ -133,6 +134,26 @@ fn payload_data(buffer: &mut [u8], at: usize, payload: &[u8]) -> Result<usize, F
     }
     let at = fixed(buffer, at, *b"\"data\":\"")?;
     let at = bytes(buffer, at, payload)?;
+    push(buffer, at, b',')
+}
+
+/// Writes the size of a payload that is not shown.
+fn data_size(buffer: &mut [u8], at: usize, payload: Option<&[u8]>) -> Result<usize, Full>
+    requires { at ≤ length buffer.old }
+    ensures { Puts result at buffer.old buffer.new (part_text size_led (option_copied payload.entry)) }
+{
+    match payload {
+        Some(payload) => size_member(buffer, at, payload.len() as u64),
+        None => Ok(at),
+    }
+}
+
+fn size_member(buffer: &mut [u8], at: usize, size: u64) -> Result<usize, Full>
+    requires { at ≤ length buffer.old }
+    ensures { Puts result at buffer.old buffer.new (size_member size) }
+{
+    let at = fixed(buffer, at, *b"\"data_size\":")?;
+    let at = decimal(buffer, at, size)?;
     push(buffer, at, b',')
 }
 

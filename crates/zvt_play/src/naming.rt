@@ -22,8 +22,8 @@ pub enum NameFault {
     /// No earlier `bind` has the name.
     #[error("the name is not bound before: write e.g. '#~ bind 87 n1' after the line whose message has the number")]
     Unbound,
-    /// The name has a number of another size than the field.
-    #[error("the name has a number of another size: those of 0B and 37 have three bytes, and that of 87 has two")]
+    /// The named number and the field differ in size.
+    #[error("the named number has another size: fields 0B and 37 have three bytes, and field 87 has two")]
     Size,
     /// A `use` does not come before an own line that ends with the field.
     #[error("no own line that ends with this field comes next: give one, of 258 bytes at most, e.g. '> 06 30 06 \

@@ -14,7 +14,7 @@ use Rattle.zvt_trace.specs.declared.chunks.Walker.{Walker}
 use Rattle.zvt_trace.specs.declared.fault.TraceFault.{TraceFault}
 use Rattle.zvt_trace.specs.declared.listener.ListenerError.{ListenerError}
 use Rattle.zvt_trace.specs.declared.listener.ListenerError.TheVariants as failure
-use Rattle.zvt_trace.specs.declared.listener.Scope.TheVariants.{OneSide}
+use Rattle.zvt_trace.specs.declared.listener.Scope.{Scope}
 use Rattle.zvt_show.specs.Shown.{Showing}
 use Rattle.zvt_show.specs.declared.follow.Follower.{Follower}
 use Rattle.zvt_show.specs.declared.pages.Pages.{Pages}
@@ -75,26 +75,26 @@ PrintsRest written false old new =
 -- ---- the other listener
 
 -- it has heard all whole lines of these bytes
-pub record HearsRead {L : Type 0} (hears : Hears L) (r : Reading) (bytes : List ℕ) (start now : L) (walker : Walker) : Type 0 where
+pub record HearsRead {L : Type 0} (hears : Hears L) (r : Reading) (scope : Scope) (bytes : List ℕ) (start now : L) (walker : Walker) : Type 0 where
   pub events : List At
-  pub read : HasRead r OneSide bytes events walker
+  pub read : HasRead r scope bytes events walker
   pub heard : HearsAll hears start events now
   pub reading : walker_reading walker ≡ r
-  pub by_scope : walker_scope walker ≡ OneSide
+  pub by_scope : walker_scope walker ≡ scope
 
 -- unless it failed, or the line can't be read
-abbrev pub HasToldBy : {L : Type 0} → Option TraceFault → Option ListenerError → Hears L → Reading → List ℕ → (start now : L) → Walker → Type 0
-HasToldBy None None hears r bytes start now walker = HearsRead hears r bytes start now walker
-HasToldBy None (Some why) hears r bytes start now walker = Unit {0}
-HasToldBy (Some fault) failed hears r bytes start now walker = Unit {0}
+abbrev pub HasToldBy : {L : Type 0} → Option TraceFault → Option ListenerError → Hears L → Reading → Scope → List ℕ → (start now : L) → Walker → Type 0
+HasToldBy None None hears r scope bytes start now walker = HearsRead hears r scope bytes start now walker
+HasToldBy None (Some why) hears r scope bytes start now walker = Unit {0}
+HasToldBy (Some fault) failed hears r scope bytes start now walker = Unit {0}
 
 -- the listener became that of what these lines of a trace say
-abbrev pub HasTold : {W L : Type 0} → Hears L → Reading → (trace : List ℕ) → (start : L) → Watching W L → Type 0
-HasTold hears r trace start one = HasToldBy one.fault one.beside_fault hears r trace start one.beside one.follower.walker
+abbrev pub HasTold : {W L : Type 0} → Hears L → Reading → Scope → (trace : List ℕ) → (start : L) → Watching W L → Type 0
+HasTold hears r scope trace start one = HasToldBy one.fault one.beside_fault hears r scope trace start one.beside one.follower.walker
 
 -- it hears what these lines of the trace say besides
 abbrev pub Tells : {W L : Type 0} → Hears L → (old : Watching W L) → (text : List ℕ) → (new : Watching W L) → Type 0
-Tells {L = L} hears old text new = (r : Reading) (trace : List ℕ) (start : L) → HasTold hears r trace start old → HasTold hears r (trace ++ text) start new
+Tells {L = L} hears old text new = (r : Reading) (scope : Scope) (trace : List ℕ) (start : L) → HasTold hears r scope trace start old → HasTold hears r scope (trace ++ text) start new
 
 -- a listener that has heard all, or why it has not
 abbrev pub told_all : {X L : Type 0} → Option ListenerError → Result X TraceFault → L → Result L TraceFault
@@ -103,6 +103,6 @@ told_all None (Ok done) listener = Ok listener
 told_all None (Err fault) listener = Err fault
 
 -- A listener that has heard all events of the whole trace.
-abbrev pub AnswersTold : {L : Type 0} → Hears L → Reading → (trace : List ℕ) → (start : L) → Result L TraceFault → Type 0
-AnswersTold hears r trace start (Ok now) = (events : List At) × WholeTrace r OneSide (lines trace) events × HearsAll hears start events now
-AnswersTold hears r trace start (Err fault) = Unit {0}
+abbrev pub AnswersTold : {L : Type 0} → Hears L → Reading → Scope → (trace : List ℕ) → (start : L) → Result L TraceFault → Type 0
+AnswersTold hears r scope trace start (Ok now) = (events : List At) × WholeTrace r scope (lines trace) events × HearsAll hears start events now
+AnswersTold hears r scope trace start (Err fault) = Unit {0}

@@ -126,11 +126,17 @@ side_mark WholeLine side = []
 abbrev pub unread_count : Scope → Direction → ℕ → List ℕ
 unread_count scope side count = codes "zvt: " ++ counted count (codes "line") ++ side_mark scope side
 
-abbrev pub last_text : ℕ → List ℕ
-last_text last = codes " not read after that, up to line " ++ decimal last ++ 10 ∷ []
+-- how to read on, where a refusal leaves more than its message unread
+abbrev pub advice : Scope → List ℕ
+advice OneMessage = []
+advice OneSide = codes ": 'show', 'audit' and 'receipts' read on with --open"
+advice WholeLine = codes ": 'show', 'audit' and 'receipts' read on with --open"
+
+abbrev pub last_text : Scope → ℕ → List ℕ
+last_text scope last = codes " not read after that, up to line " ++ decimal last ++ advice scope ++ 10 ∷ []
 
 abbrev pub unread_words : Scope → Direction → (count last : ℕ) → List ℕ
-unread_words scope side count last = unread_count scope side count ++ last_text last
+unread_words scope side count last = unread_count scope side count ++ last_text scope last
 
 abbrev pub unread_note : Scope → Direction → (count last : ℕ) → List ℕ
 unread_note scope side zero last = []

@@ -7,6 +7,7 @@ use Rattle.zvt_apdu.specs.Message.{Message, ack, nack, registration, authorisati
 use Rattle.zvt_apdu.specs.Views.{text_in}
 use Rattle.zvt_text.specs.Bytes.{escaped_text}
 use Rattle.zvt_text.specs.MessageTexts.{said}
+use Rattle.zvt_text.specs.declared.privacy.Privacy.{Privacy}
 use Rattle.zvt_trace.specs.Lines.{direction_text}
 use Rattle.zvt_trace.specs.TraceEvent.{At, TraceEvent}
 use Rattle.zvt_trace.specs.TraceEvent as trace_event
@@ -20,8 +21,8 @@ use Rattle.zvt_show.specs.declared.render.Style.TheVariants.{Join, Json, JsonRec
 -- ---- one message
 
 -- a message is shown; or its bytes are in one line of a trace; or it is a line of a receipt
-abbrev pub shown : Direction → Message → List ℕ
-shown from message = direction_text from ++ 32 ∷ said message
+abbrev pub shown : Privacy → Direction → Message → List ℕ
+shown privacy from message = direction_text from ++ 32 ∷ said privacy message
 
 abbrev pub joined : Direction → List ℕ → List ℕ
 joined from bytes = direction_text from ++ 32 ∷ encode_upper bytes ++ 10 ∷ []
@@ -46,7 +47,7 @@ receipt FromTerminal (other high low payload) = []
 
 -- in the styles that write JSON a message has no text but that
 abbrev pub MessageText : Style → Direction → Message → List ℕ → Type 0
-MessageText Show from message text = text ≡ shown from message
+MessageText (Show privacy) from message text = text ≡ shown privacy from message
 MessageText Join from message text =
     (bytes : List ℕ) × Spells shortest message bytes × (text ≡ joined from bytes)
 MessageText Receipts from message text = text ≡ receipt from message
@@ -79,7 +80,7 @@ PrintedLine None event text = text ≡ []
 PrintedLine (Some line) event text = EventLine event text
 
 abbrev pub EventText : Style → At → List ℕ → Type 0
-EventText Show event text = PlainText Show event.trace_event text
+EventText (Show privacy) event text = PlainText (Show privacy) event.trace_event text
 EventText Join event text = PlainText Join event.trace_event text
 EventText Receipts event text = PlainText Receipts event.trace_event text
 EventText Json event text = EventLine event text

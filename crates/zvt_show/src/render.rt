@@ -14,14 +14,14 @@ ghost use Rattle.zvt_show.specs.declared.render.Style.TheVariants.{Join, JsonRec
 use std::alloc::{AllocError, Global};
 use zvt_apdu::{ApduView, encode, owned};
 use zvt_grammar::{Lengths, Why};
-use zvt_text::Text;
+use zvt_text::{Privacy, Text};
 use zvt_trace::{Direction, Refusal, TraceEvent};
 
 /// The styles in which the events of a trace are written.
 #[derive(Clone, Copy, Debug, PartialEq, Eq)]
 pub enum Style {
     /// Each message with its fields, and each event of a side or of the line.
-    Show,
+    Show(Privacy),
     /// Each message as a line of a trace, and each event of a side as a comment.
     Join,
     /// The text of the terminal's print lines, and nothing else.
@@ -41,7 +41,7 @@ impl Style {
         ensures { option_map (λ mark. mark.now) result ≡ mark_of self }
     {
         match self {
-            Style::Show => Some(""),
+            Style::Show(_) => Some(""),
             Style::Join => Some("# "),
             Style::Receipts | Style::Json | Style::JsonReceipts => None,
         }
@@ -64,7 +64,7 @@ pub(crate) fn render_event(
     match style {
         Style::Json => json(text, alloc, line, trace_event),
         Style::JsonReceipts => json_receipt(text, alloc, line, trace_event),
-        Style::Show | Style::Join | Style::Receipts => plain(text, alloc, style, trace_event),
+        Style::Show(_) | Style::Join | Style::Receipts => plain(text, alloc, style, trace_event),
     }
 }
 
@@ -135,7 +135,7 @@ fn plain(
             bytes,
             lengths,
         } => match style {
-            Style::Show => show(text, *from, apdu),
+            Style::Show(privacy) => show(text, privacy, *from, apdu),
             Style::Join => join(text, alloc, *from, apdu, bytes, *lengths),
             Style::Receipts => receipt(text, *from, apdu),
             Style::Json | Style::JsonReceipts => Ok(()),
@@ -153,10 +153,15 @@ fn plain(
 
 /// Adds a message with its direction and its fields.
 #[inline(always)]
-fn show(text: &mut Text, from: Direction, apdu: &ApduView<'_>) -> Result<(), AllocError>
-    ensures { Adds result text.old text.new (shown from apdu.now) }
+fn show(
+    text: &mut Text,
+    privacy: Privacy,
+    from: Direction,
+    apdu: &ApduView<'_>,
+) -> Result<(), AllocError>
+    ensures { Adds result text.old text.new (shown privacy from apdu.now) }
 {
-    zvt_text::message(text, prefix(from), apdu)
+    zvt_text::message(text, privacy, prefix(from), apdu)
 }
 
 /// The direction of a line, and a space.
@@ -306,7 +311,7 @@ fn lost(text: &mut Text, style: Style) -> Result<(), AllocError>
     ensures { Adds result text.old text.new (lost_text style) }
 {
     match style {
-        Style::Show => text.word(b"! line lost\n"),
+        Style::Show(_) => text.word(b"! line lost\n"),
         Style::Join => text.word(b"!\n"),
         Style::Receipts | Style::Json | Style::JsonReceipts => Ok(()),
     }

@@ -5,6 +5,7 @@ ghost use Rattle.zvt_grammar.specs.Lengths.{reading_of};
 ghost use Rattle.zvt_grammar.specs.Reading.{Reading};
 ghost use Rattle.zvt_trace.specs.Chunks.{IsBetweenLines, IsReady};
 ghost use Rattle.zvt_trace.specs.Lines.{piece_text};
+ghost use Rattle.zvt_trace.specs.declared.listener.Scope.{Scope};
 ghost use Rattle.zvt_show.specs.Beside.{AnswersTold, HasReadSome, HasTold, MayWatch, PrintsRest, Tells};
 ghost use Rattle.zvt_show.specs.Beside.{or_failed, showing_of, told_all, watching};
 ghost use Rattle.zvt_show.specs.Shown.{AnswersShown, HasShown, Shows};
@@ -24,7 +25,7 @@ use zvt_trace::{
 type Listeners<W, L> = Both<Alone<Printing<W>>, Alone<L>>;
 
 /// Shows the text of a line on its output while the line goes on: what `zvt show` prints of the line's trace. Another
-/// listener hears the same events, in the scope `OneSide`. Each stops at its own failure, and the other continues.
+/// listener hears the same events. Each stops at its own failure, and the other continues.
 /// It misses nothing.
 #[derive(Drop)]
 pub struct Shown<W, L> {
@@ -65,14 +66,23 @@ impl<W, L> Model for Shown<W, L> {
 }
 
 impl<W: Sink + Drop, L: Listener + Drop> Shown<W, L> {
-    /// Shows nothing yet. The text has this style, and the line's messages have such lengths.
-    pub fn new(alloc: Global, style: Style, lengths: Lengths, output: W, beside: L) -> Shown<W, L>
-        ensures shown { HasShown W.written (reading_of lengths) style [] (W.written output) (showing_of result) }
-        ensures told { HasTold L.hears (reading_of lengths) [] beside result }
+    /// Shows nothing yet. The text has this style. `scope` says how much of the line is not read after a refused
+    /// message, and `lengths` selects the accepted forms of length.
+    pub fn new(
+        alloc: Global,
+        style: Style,
+        scope: Scope,
+        lengths: Lengths,
+        output: W,
+        beside: L,
+    ) -> Shown<W, L>
+        ensures shown { HasShown W.written (reading_of lengths) scope style [] (W.written output)
+            (showing_of result) }
+        ensures told { HasTold L.hears (reading_of lengths) scope [] beside result }
         ensures output { result.output ≡ output }
     {
         Shown {
-            walker: Walker::new(alloc, Scope::OneSide, lengths),
+            walker: Walker::new(alloc, scope, lengths),
             fault: None,
             listeners: Both {
                 first: Alone {
@@ -92,11 +102,12 @@ impl<W: Sink + Drop, L: Listener + Drop> Shown<W, L> {
 
     /// Shows that the line has ended, and what is cut off there. The listener hears that too.
     pub fn end(self) -> ShownToEnd<W, L>
-        ensures shown { (r : Reading) (style : Style) (trace : List ℕ) (first : Option (List ℕ))
-            → HasShown W.written r style trace first (showing_of self) → AnswersShown r style
+        ensures shown { (r : Reading) (scope : Scope) (style : Style) (trace : List ℕ) (first : Option (List ℕ))
+            → HasShown W.written r scope style trace first (showing_of self) → AnswersShown r scope style
             (trace ++ (codes "!" ++ 10 ∷ [])) first (W.written result.output) result.shown }
-        ensures told { (r : Reading) (trace : List ℕ) (start : L) → HasTold L.hears r trace start self
-            → AnswersTold L.hears r (trace ++ (codes "!" ++ 10 ∷ [])) start result.beside }
+        ensures told { (r : Reading) (scope : Scope) (trace : List ℕ) (start : L)
+            → HasTold L.hears r scope trace start self
+            → AnswersTold L.hears r scope (trace ++ (codes "!" ++ 10 ∷ [])) start result.beside }
     {
         let Shown {
             walker,
@@ -183,14 +194,14 @@ fn end_line<W: Sink, L: Listener>(
     listeners: &mut Listeners<W, L>,
 ) -> Result<Tally, TraceFault>
     requires { MayWatch listeners.old.first.fault fault walker listeners.old.first.listener.pages }
-    ensures shows { (r : Reading) (style : Style) (trace : List ℕ) (first : Option (List ℕ))
-        → HasShown W.written r style trace first (showing_of (watching walker fault listeners.old))
-        → AnswersShown r style (trace ++ (codes "!" ++ 10 ∷ [])) first
+    ensures shows { (r : Reading) (scope : Scope) (style : Style) (trace : List ℕ) (first : Option (List ℕ))
+        → HasShown W.written r scope style trace first (showing_of (watching walker fault listeners.old))
+        → AnswersShown r scope style (trace ++ (codes "!" ++ 10 ∷ [])) first
         (W.written listeners.new.first.listener.output)
         (or_failed listeners.new.first.fault result) }
-    ensures tells { (r : Reading) (trace : List ℕ) (start : L)
-        → HasTold L.hears r trace start (watching walker fault listeners.old)
-        → AnswersTold L.hears r (trace ++ (codes "!" ++ 10 ∷ [])) start
+    ensures tells { (r : Reading) (scope : Scope) (trace : List ℕ) (start : L)
+        → HasTold L.hears r scope trace start (watching walker fault listeners.old)
+        → AnswersTold L.hears r scope (trace ++ (codes "!" ++ 10 ∷ [])) start
         (told_all listeners.new.second.fault result listeners.new.second.listener) }
 {
     match fault {
@@ -207,14 +218,14 @@ fn show_end<W: Sink, L: Listener>(
     requires ready { IsReady walker }
     requires read { HasReadSome walker }
     requires empty { listeners.old.first.fault ≡ None → listeners.old.first.listener.pages.block ≡ [] }
-    ensures shows { (r : Reading) (style : Style) (trace : List ℕ) (first : Option (List ℕ))
-        → HasShown W.written r style trace first (showing_of (watching walker None listeners.old))
-        → AnswersShown r style (trace ++ (codes "!" ++ 10 ∷ [])) first
+    ensures shows { (r : Reading) (scope : Scope) (style : Style) (trace : List ℕ) (first : Option (List ℕ))
+        → HasShown W.written r scope style trace first (showing_of (watching walker None listeners.old))
+        → AnswersShown r scope style (trace ++ (codes "!" ++ 10 ∷ [])) first
         (W.written listeners.new.first.listener.output)
         (or_failed listeners.new.first.fault result) }
-    ensures tells { (r : Reading) (trace : List ℕ) (start : L)
-        → HasTold L.hears r trace start (watching walker None listeners.old)
-        → AnswersTold L.hears r (trace ++ (codes "!" ++ 10 ∷ [])) start
+    ensures tells { (r : Reading) (scope : Scope) (trace : List ℕ) (start : L)
+        → HasTold L.hears r scope trace start (watching walker None listeners.old)
+        → AnswersTold L.hears r scope (trace ++ (codes "!" ++ 10 ∷ [])) start
         (told_all listeners.new.second.fault result listeners.new.second.listener) }
 {
     let mut walker = walker;
@@ -230,13 +241,13 @@ fn show_rest<W: Sink, L: Listener>(
     requires ready { IsReady walker }
     requires read { HasReadSome walker }
     requires empty { listeners.old.first.fault ≡ None → listeners.old.first.listener.pages.block ≡ [] }
-    ensures shows { (r : Reading) (style : Style) (trace : List ℕ) (first : Option (List ℕ))
-        → HasShown W.written r style trace first (showing_of (watching walker None listeners.old))
-        → AnswersShown r style trace first (W.written listeners.new.first.listener.output)
+    ensures shows { (r : Reading) (scope : Scope) (style : Style) (trace : List ℕ) (first : Option (List ℕ))
+        → HasShown W.written r scope style trace first (showing_of (watching walker None listeners.old))
+        → AnswersShown r scope style trace first (W.written listeners.new.first.listener.output)
         (or_failed listeners.new.first.fault result) }
-    ensures tells { (r : Reading) (trace : List ℕ) (start : L)
-        → HasTold L.hears r trace start (watching walker None listeners.old)
-        → AnswersTold L.hears r trace start
+    ensures tells { (r : Reading) (scope : Scope) (trace : List ℕ) (start : L)
+        → HasTold L.hears r scope trace start (watching walker None listeners.old)
+        → AnswersTold L.hears r scope trace start
         (told_all listeners.new.second.fault result listeners.new.second.listener) }
 {
     let was_failed = listeners.first.fault.is_some();

@@ -1,25 +1,33 @@
--- What no text says.
+-- What no text says, and what no safe text says.
 use Rattle.std.specs.Prelude.{◌≡◌, ℕ, Option, List, ◌∷◌, ◌++◌, length}
 use Rattle.zvt_field.specs.Grammar.{Field, plain}
 use Rattle.zvt_field.specs.Shapes.{format_of}
 use Rattle.zvt_field.specs.declared.shapes.Format.TheVariants.{Hidden}
-use Rattle.zvt_apdu.specs.Message.{registration, reversal, end_of_day}
+use Rattle.zvt_apdu.specs.Message.{Message, registration, reversal, end_of_day}
 use Rattle.zvt_text.specs.Lines.{field_lines}
 use Rattle.zvt_text.specs.MessageTexts.{said}
+use Rattle.zvt_text.specs.Secrets.{blanked}
+use Rattle.zvt_text.specs.declared.privacy.Privacy.{Privacy}
+use Rattle.zvt_text.specs.declared.privacy.Privacy.TheVariants.{Safe}
 
 -- Two messages that differ in their passwords alone have one text.
 abbrev pub PasswordsStayHidden : Type 0
 PasswordsStayHidden =
-    (one other : List ℕ) (config : ℕ) (rest : Option (ℕ × List Field)) (fields : List Field) →
-    (said (registration one config rest) ≡ said (registration other config rest))
-    × (said (reversal one fields) ≡ said (reversal other fields))
-    × (said (end_of_day one fields) ≡ said (end_of_day other fields))
+    (privacy : Privacy) (one other : List ℕ) (config : ℕ) (rest : Option (ℕ × List Field)) (fields : List Field) →
+    (said privacy (registration one config rest) ≡ said privacy (registration other config rest))
+    × (said privacy (reversal one fields) ≡ said privacy (reversal other fields))
+    × (said privacy (end_of_day one fields) ≡ said privacy (end_of_day other fields))
 
 -- Two contents of one size have one line, wherever they are among other fields.
 abbrev pub StaysHidden : (bmp : ℕ) → Type 0
 StaysHidden bmp =
-    (before after : List Field) (one other : List ℕ) → length one ≡ length other → field_lines (before ++ plain bmp one ∷ after) ≡ field_lines (before ++ plain bmp other ∷ after)
+    (privacy : Privacy) (before after : List Field) (one other : List ℕ) → length one ≡ length other
+    → field_lines privacy (before ++ plain bmp one ∷ after) ≡ field_lines privacy (before ++ plain bmp other ∷ after)
 
 -- Whatever the table of BMPs hides.
 abbrev pub SecretsStayHidden : Type 0
 SecretsStayHidden = (bmp : ℕ) → format_of bmp ≡ Hidden → StaysHidden bmp
+
+-- Two messages that differ only in their secrets, in contents of the same size, have one safe text.
+abbrev pub SafeTextsAgree : Type 0
+SafeTextsAgree = (one other : Message) → blanked one ≡ blanked other → said Safe one ≡ said Safe other

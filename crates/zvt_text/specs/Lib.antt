@@ -2,6 +2,7 @@ pub mod Bytes
 pub mod Numbers
 pub mod Words
 pub mod Results
+pub mod Secrets
 pub mod Lines
 pub mod MessageTexts
 pub mod Writing

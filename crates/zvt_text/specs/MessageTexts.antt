@@ -9,11 +9,24 @@ use Rattle.zvt_apdu.specs.Message.{Message, ack, nack, registration, authorisati
 use Rattle.zvt_text.specs.Bytes.{hex_of, quoted}
 use Rattle.zvt_text.specs.Results.{result_words}
 use Rattle.zvt_text.specs.Lines.{field_lines}
+use Rattle.zvt_text.specs.Secrets.{hidden_text}
+use Rattle.zvt_text.specs.declared.privacy.Privacy.{Privacy}
+use Rattle.zvt_text.specs.declared.privacy.Privacy.TheVariants.{Plain, Safe}
 
 -- the payload of a message, if there is any
 abbrev pub data_text : List ℕ → List ℕ
 data_text [] = []
 data_text (byte ∷ bytes) = codes " data " ++ encode_upper (byte ∷ bytes)
+
+-- the size of a payload, if there is any
+abbrev pub hidden_data : List ℕ → List ℕ
+hidden_data [] = []
+hidden_data (byte ∷ bytes) = codes " data " ++ hidden_text (byte ∷ bytes)
+
+-- the payload of a message outside the profile: a safe text has its size alone
+abbrev pub unknown_text : Privacy → List ℕ → List ℕ
+unknown_text Plain payload = data_text payload
+unknown_text Safe payload = hidden_data payload
 
 -- four decimal digits
 abbrev pub four_digits : ℕ → List ℕ
@@ -64,24 +77,24 @@ abbrev pub kind_text : Message → List ℕ
 kind_text message = kind_name (kind_of message)
 
 -- what a head says after the name; a password is never written
-abbrev pub detail_text : Message → List ℕ
-detail_text (ack payload) = data_text payload
-detail_text (nack code payload) = hex_part code ++ data_text payload
-detail_text (registration password config rest) = config_text config ++ currency_text rest
-detail_text (authorisation fields) = []
-detail_text (reversal password fields) = []
-detail_text (end_of_day password fields) = []
-detail_text (abort_order fields) = []
-detail_text (status fields) = []
-detail_text (intermediate step payload) = hex_part step ++ data_text payload
-detail_text (print_line attribute text) = hex_part attribute ++ quoted_part text
-detail_text (text_block fields) = []
-detail_text (completion fields) = []
-detail_text (abort code payload) = words_part code ++ data_text payload
-detail_text (other high low payload) = 32 ∷ encode_upper (high ∷ low ∷ []) ++ data_text payload
+abbrev pub detail_text : Privacy → Message → List ℕ
+detail_text privacy (ack payload) = data_text payload
+detail_text privacy (nack code payload) = hex_part code ++ data_text payload
+detail_text privacy (registration password config rest) = config_text config ++ currency_text rest
+detail_text privacy (authorisation fields) = []
+detail_text privacy (reversal password fields) = []
+detail_text privacy (end_of_day password fields) = []
+detail_text privacy (abort_order fields) = []
+detail_text privacy (status fields) = []
+detail_text privacy (intermediate step payload) = hex_part step ++ data_text payload
+detail_text privacy (print_line attribute text) = hex_part attribute ++ quoted_part text
+detail_text privacy (text_block fields) = []
+detail_text privacy (completion fields) = []
+detail_text privacy (abort code payload) = words_part code ++ data_text payload
+detail_text privacy (other high low payload) = 32 ∷ encode_upper (high ∷ low ∷ []) ++ unknown_text privacy payload
 
-abbrev pub head_text : Message → List ℕ
-head_text message = kind_text message ++ detail_text message
+abbrev pub head_text : Privacy → Message → List ℕ
+head_text privacy message = kind_text message ++ detail_text privacy message
 
 abbrev pub registered_fields : Option (ℕ × List Field) → List Field
 registered_fields None = []
@@ -105,5 +118,5 @@ fields_of (abort code payload) = []
 fields_of (other high low payload) = []
 
 -- the head, the end of its line, and the lines of the fields
-abbrev pub said : Message → List ℕ
-said message = head_text message ++ 10 ∷ field_lines (fields_of message)
+abbrev pub said : Privacy → Message → List ℕ
+said privacy message = head_text privacy message ++ 10 ∷ field_lines privacy (fields_of message)

@@ -2,8 +2,9 @@
 ghost use Rattle.std.specs.Prelude.{◌≡◌, ◌≤◌, length, take};
 ghost use Rattle.zvt_text.specs.Writing.{Puts};
 ghost use Rattle.zvt_text.specs.Bytes.{escaped, escaped_text, hex_or_dash, is_plain, quoted};
+ghost use Rattle.zvt_text.specs.Secrets.{hidden_text};
 
-use crate::cursor::{Full, byte, fixed, hexadecimal, push, word};
+use crate::cursor::{Full, byte, decimal, fixed, hexadecimal, push, word};
 
 /// The bytes in hexadecimal, or a dash.
 pub(crate) fn bytes_or_dash(buffer: &mut [u8], at: usize, bytes: &[u8]) -> Result<usize, Full>
@@ -14,6 +15,16 @@ pub(crate) fn bytes_or_dash(buffer: &mut [u8], at: usize, bytes: &[u8]) -> Resul
         return push(buffer, at, b'-');
     }
     hexadecimal(buffer, at, bytes)
+}
+
+/// The size of bytes that are hidden.
+pub(crate) fn hidden(buffer: &mut [u8], at: usize, bytes: &[u8]) -> Result<usize, Full>
+    requires { at ≤ length buffer.old }
+    ensures { Puts result at buffer.old buffer.new (hidden_text bytes.now) }
+{
+    let at = fixed(buffer, at, *b"hidden ")?;
+    let size = bytes.len() as u64;
+    decimal(buffer, at, size)
 }
 
 /// The bytes between quotation marks, with escapes.

@@ -3,11 +3,12 @@ ghost use Rattle.std.specs.Prelude.{◌≤◌, ◌∷◌, length};
 ghost use Rattle.std.specs.Option.{option_copied};
 ghost use Rattle.hex.specs.Hex.{encode_upper};
 ghost use Rattle.zvt_text.specs.MessageTexts.{config_text, data_text, hex_part, named_currency, part_text, quoted_part};
-ghost use Rattle.zvt_text.specs.MessageTexts.{words_part};
+ghost use Rattle.zvt_text.specs.MessageTexts.{hidden_data, unknown_text, words_part};
 ghost use Rattle.zvt_text.specs.Writing.{Puts};
 
-use crate::bytes::quote;
+use crate::bytes::{hidden, quote};
 use crate::cursor::{Full, byte, fixed, four_digits, hexadecimal, push};
+use crate::privacy::Privacy;
 use crate::write::put_result;
 use zvt_bcd::Currency;
 
@@ -32,6 +33,34 @@ fn payload_data(buffer: &mut [u8], at: usize, payload: &[u8]) -> Result<usize, F
     }
     let at = fixed(buffer, at, *b" data ")?;
     hexadecimal(buffer, at, payload)
+}
+
+/// The payload of a message outside the profile, if there is any: a safe text has only its size.
+pub(crate) fn unknown(
+    buffer: &mut [u8],
+    at: usize,
+    privacy: Privacy,
+    payload: Option<&[u8]>,
+) -> Result<usize, Full>
+    requires { at ≤ length buffer.old }
+    ensures { Puts result at buffer.old buffer.new (part_text (unknown_text privacy) (option_copied payload.entry)) }
+{
+    match (privacy, payload) {
+        (_, None) => Ok(at),
+        (Privacy::Plain, Some(payload)) => payload_data(buffer, at, payload),
+        (Privacy::Safe, Some(payload)) => payload_size(buffer, at, payload),
+    }
+}
+
+fn payload_size(buffer: &mut [u8], at: usize, payload: &[u8]) -> Result<usize, Full>
+    requires { at ≤ length buffer.old }
+    ensures { Puts result at buffer.old buffer.new (hidden_data payload.now) }
+{
+    if payload.is_empty() {
+        return Ok(at);
+    }
+    let at = fixed(buffer, at, *b" data ")?;
+    hidden(buffer, at, payload)
 }
 
 /// A code, a status or an attribute, in hexadecimal.

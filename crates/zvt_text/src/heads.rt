@@ -5,13 +5,19 @@ ghost use Rattle.zvt_text.specs.MessageTexts.{detail_text, head_text, kind_name}
 ghost use Rattle.zvt_text.specs.Writing.{Puts};
 
 use crate::cursor::{Full, fixed, word};
-use crate::details::{byte_part, config, control, currency, data, outcome, printed};
+use crate::details::{byte_part, config, control, currency, data, outcome, printed, unknown};
+use crate::privacy::Privacy;
 use zvt_apdu::{ApduView, Kind};
 
 /// Writes the name of a message's kind, and what the message says after it.
-pub(crate) fn head(buffer: &mut [u8], at: usize, message: &ApduView<'_>) -> Result<usize, Full>
+pub(crate) fn head(
+    buffer: &mut [u8],
+    at: usize,
+    privacy: Privacy,
+    message: &ApduView<'_>,
+) -> Result<usize, Full>
     requires { at ≤ length buffer.old }
-    ensures { Puts result at buffer.old buffer.new (head_text message.now) }
+    ensures { Puts result at buffer.old buffer.new (head_text privacy message.now) }
 {
     match message.kind() {
         Kind::Ack => {
@@ -31,7 +37,7 @@ pub(crate) fn head(buffer: &mut [u8], at: usize, message: &ApduView<'_>) -> Resu
         Kind::Completion => fixed(buffer, at, *b"Completion"),
         kind => {
             let at = word(buffer, at, kind_name(kind).as_bytes())?;
-            detail(buffer, at, message)
+            detail(buffer, at, privacy, message)
         }
     }
 }
@@ -59,11 +65,16 @@ pub fn kind_name(kind: Kind) -> &'static str
 }
 
 /// Writes what the heads of all other kinds say after the name.
-fn detail(buffer: &mut [u8], at: usize, message: &ApduView<'_>) -> Result<usize, Full>
+fn detail(
+    buffer: &mut [u8],
+    at: usize,
+    privacy: Privacy,
+    message: &ApduView<'_>,
+) -> Result<usize, Full>
     requires inside { at ≤ length buffer.old }
     requires no_ack { kind_of message.now ≢ Kind.Ack }
     requires no_line { kind_of message.now ≢ Kind.PrintLine }
-    ensures { Puts result at buffer.old buffer.new (detail_text message.now) }
+    ensures { Puts result at buffer.old buffer.new (detail_text privacy message.now) }
 {
     match message.kind() {
         Kind::Nack => {
@@ -84,7 +95,7 @@ fn detail(buffer: &mut [u8], at: usize, message: &ApduView<'_>) -> Result<usize,
         }
         Kind::Other => {
             let at = control(buffer, at, message.control())?;
-            data(buffer, at, message.payload())
+            unknown(buffer, at, privacy, message.payload())
         }
         _ => Ok(at),
     }

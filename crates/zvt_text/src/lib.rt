@@ -10,6 +10,7 @@ mod heads;
 pub mod laws;
 mod lines;
 mod objects;
+mod privacy;
 mod text;
 mod values;
 pub mod words;
@@ -18,6 +19,7 @@ mod write;
 pub use bytes::{is_plain, plain_first};
 pub use form::Form;
 pub use heads::kind_name;
+pub use privacy::{Privacy, is_secret_tag};
 pub use text::{Says, Text};
 pub use write::{
     currency_digits, escaped_line, hexadecimal, line, meaning, message, numbers, result_words,

@@ -7,6 +7,7 @@ ghost use Rattle.zvt_text.specs.Writing.{Puts};
 
 use crate::cursor::{Full, byte, fixed, push, word};
 use crate::objects::object_lines;
+use crate::privacy::Privacy;
 use crate::values::value;
 use zvt_field::{FieldView, FieldsView, name};
 
@@ -14,22 +15,28 @@ use zvt_field::{FieldView, FieldsView, name};
 pub(crate) fn field_lines(
     buffer: &mut [u8],
     at: usize,
+    privacy: Privacy,
     fields: FieldsView<'_>,
 ) -> Result<usize, Full>
     requires { at ≤ length buffer.old }
-    ensures { Puts result at buffer.old buffer.new (field_lines fields.entry) }
+    ensures { Puts result at buffer.old buffer.new (field_lines privacy fields.entry) }
 {
     let mut end = at;
     for field in fields {
-        end = field_line(buffer, end, &field)?;
+        end = field_line(buffer, end, privacy, &field)?;
     }
     Ok(end)
 }
 
 #[inline(always)]
-fn field_line(buffer: &mut [u8], at: usize, field: &FieldView<'_>) -> Result<usize, Full>
+fn field_line(
+    buffer: &mut [u8],
+    at: usize,
+    privacy: Privacy,
+    field: &FieldView<'_>,
+) -> Result<usize, Full>
     requires { at ≤ length buffer.old }
-    ensures { Puts result at buffer.old buffer.new (field_line (shown field.now)) }
+    ensures { Puts result at buffer.old buffer.new (field_line privacy (shown field.now)) }
 {
     let at = named(buffer, at, field.bmp)?;
     match field.tree() {
@@ -40,7 +47,7 @@ fn field_line(buffer: &mut [u8], at: usize, field: &FieldView<'_>) -> Result<usi
         }
         Some(objects) => {
             let at = push(buffer, at, b'\n')?;
-            object_lines(buffer, at, objects, 1)
+            object_lines(buffer, at, privacy, objects, 1)
         }
     }
 }

@@ -1,40 +1,60 @@
 //! The lines of a container's objects.
 ghost use Rattle.std.specs.Prelude.{◌≡◌, ◌+◌, ◌≤◌, true, length};
 ghost use Rattle.zvt_tlv.specs.Checks.{is_shallow};
-ghost use Rattle.zvt_text.specs.Lines.{object_head, object_lines};
+ghost use Rattle.zvt_text.specs.Lines.{object_head, object_lines, object_text};
 ghost use Rattle.zvt_text.specs.Writing.{Puts};
 
-use crate::bytes::bytes_or_dash;
+use crate::bytes::{bytes_or_dash, hidden};
 use crate::cursor::{Full, fixed, hexadecimal, push, repeat};
+use crate::privacy::{Privacy, hides_tag};
 use zvt_tlv::ForestView;
 
 /// A line for each object at this depth. The lines of the objects inside a constructed one follow its own line.
 pub(crate) fn object_lines(
     buffer: &mut [u8],
     at: usize,
+    privacy: Privacy,
     objects: ForestView<'_>,
     depth: usize,
 ) -> Result<usize, Full>
     requires shallow { is_shallow depth objects ≡ true }
     requires most { depth ≤ 6 }
     requires inside { at ≤ length buffer.old }
-    ensures { Puts result at buffer.old buffer.new (object_lines depth objects.entry) }
+    ensures { Puts result at buffer.old buffer.new (object_lines privacy depth objects.entry) }
 {
     let mut end = at;
     for object in objects {
         let at = head(buffer, end, object.tag, depth)?;
         match object.children() {
             None => {
-                let at = bytes_or_dash(buffer, at, object.content)?;
+                let at = content(buffer, at, privacy, object.tag, object.content)?;
                 end = push(buffer, at, b'\n')?;
             }
             Some(inner) => {
                 let at = fixed(buffer, at, *b"constructed\n")?;
-                end = object_lines(buffer, at, inner, depth + 1)?;
+                end = object_lines(buffer, at, privacy, inner, depth + 1)?;
             }
         }
     }
     Ok(end)
+}
+
+/// An object's content, or its size if the text hides it.
+fn content(
+    buffer: &mut [u8],
+    at: usize,
+    privacy: Privacy,
+    tag: &[u8],
+    content: &[u8],
+) -> Result<usize, Full>
+    requires { at ≤ length buffer.old }
+    ensures { Puts result at buffer.old buffer.new (object_text privacy tag.now content.now) }
+{
+    if hides_tag(privacy, tag) {
+        hidden(buffer, at, content)
+    } else {
+        bytes_or_dash(buffer, at, content)
+    }
 }
 
 /// What comes before an object's content.

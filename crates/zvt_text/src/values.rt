@@ -5,8 +5,8 @@ ghost use Rattle.zvt_field.specs.Views.{PlainBytes};
 ghost use Rattle.zvt_text.specs.Lines.{result_text, value_text};
 ghost use Rattle.zvt_text.specs.Writing.{Puts};
 
-use crate::bytes::{bytes_or_dash, quote};
-use crate::cursor::{Full, decimal, fixed};
+use crate::bytes::{bytes_or_dash, hidden, quote};
+use crate::cursor::{Full, decimal};
 use crate::write::put_result;
 use zvt_bcd::number;
 use zvt_field::{Format, format};
@@ -24,11 +24,7 @@ pub(crate) fn value(buffer: &mut [u8], at: usize, bmp: u8, content: &[u8]) -> Re
         }
         Format::Result => outcome(buffer, at, content),
         Format::Text => quote(buffer, at, content),
-        Format::Hidden => {
-            let at = fixed(buffer, at, *b"hidden ")?;
-            let hidden = content.len() as u64;
-            decimal(buffer, at, hidden)
-        }
+        Format::Hidden => hidden(buffer, at, content),
         Format::Bytes => bytes_or_dash(buffer, at, content),
     }
 }

@@ -11,6 +11,7 @@ use crate::bytes::{bytes_or_dash, escape_all};
 use crate::cursor::{self, Full, byte, fixed, push, repeat, word};
 use crate::heads::head;
 use crate::lines::field_lines;
+use crate::privacy::Privacy;
 use crate::text::{Says, Text};
 use itoa::Buffer;
 use std::alloc::AllocError;
@@ -21,12 +22,21 @@ use zvt_bcd::{Currency, Trace};
 
 /// Writes a prefix and a message: a line with the name of its kind and its values, then a line for each field. Every
 /// line ends in a line feed. Never writes the password of a message, and writes only the size of the fields 22, 23,
-/// 24, 2D, 3A and 3D (card number, tracks, verification value, password).
+/// 24, 2D, 3A and 3D (card number, tracks, verification value, password). A safe text hides more: [`Privacy`].
 #[inline(always)]
-pub fn message(text: &mut Text, prefix: &[u8], message: &ApduView<'_>) -> Result<(), AllocError>
-    ensures { Adds result text.old text.new (prefix.now ++ said message.now) }
+pub fn message(
+    text: &mut Text,
+    privacy: Privacy,
+    prefix: &[u8],
+    message: &ApduView<'_>,
+) -> Result<(), AllocError>
+    ensures { Adds result text.old text.new (prefix.now ++ said privacy message.now) }
 {
-    text.add(&MessageText { prefix, message })
+    text.add(&MessageText {
+        privacy,
+        prefix,
+        message,
+    })
 }
 
 /// Writes a result code and its meaning, such as `6F wrong currency`. A code without a meaning is written as `code`
@@ -78,29 +88,35 @@ pub fn line(text: &mut Text, prefix: &[u8], bytes: &[u8]) -> Result<(), AllocErr
 /// A message after a prefix.
 #[derive(Drop)]
 struct MessageText<'a> {
+    privacy: Privacy,
     prefix: &'a [u8],
     message: &'a ApduView<'a>,
 }
 
 impl Says for MessageText<'_> {
-    ghost said = { λ m. m.prefix.now ++ said m.message.now };
+    ghost said = { λ m. m.prefix.now ++ said m.privacy m.message.now };
 
     #[inline(always)]
     fn put(&self, buffer: &mut [u8]) -> Result<usize, Full> {
         let at = word(buffer, 0, self.prefix)?;
-        put_message(buffer, at, self.message)
+        put_message(buffer, at, self.privacy, self.message)
     }
 }
 
 /// Puts a message with its fields into the buffer.
-fn put_message(buffer: &mut [u8], at: usize, message: &ApduView<'_>) -> Result<usize, Full>
+fn put_message(
+    buffer: &mut [u8],
+    at: usize,
+    privacy: Privacy,
+    message: &ApduView<'_>,
+) -> Result<usize, Full>
     requires { at ≤ length buffer.old }
-    ensures { Puts result at buffer.old buffer.new (said message.now) }
+    ensures { Puts result at buffer.old buffer.new (said privacy message.now) }
 {
-    let at = head(buffer, at, message)?;
+    let at = head(buffer, at, privacy, message)?;
     let at = push(buffer, at, b'\n')?;
     match message.fields() {
-        Some(fields) => field_lines(buffer, at, fields),
+        Some(fields) => field_lines(buffer, at, privacy, fields),
         None => Ok(at),
     }
 }

@@ -3,6 +3,7 @@ ghost use Rattle.std.specs.Prelude.{◌≡◌, [], is_some};
 ghost use Rattle.zvt_grammar.specs.Lengths.{reading_of};
 ghost use Rattle.zvt_show.specs.Beside.{showing_of};
 ghost use Rattle.zvt_show.specs.Shown.{HasShown};
+ghost use Rattle.zvt_trace.specs.declared.listener.Scope.TheVariants.{OneSide};
 ghost use Rattle.zvt_runs.specs.Showing.{style_of};
 
 use std::alloc::Global;
@@ -10,8 +11,8 @@ use std::io::Stderr;
 use zvt_grammar::Lengths;
 use zvt_io::{Over, Sink};
 use zvt_show::{Shown, Style};
-use zvt_text::Form;
-use zvt_trace::Tally;
+use zvt_text::{Form, Privacy};
+use zvt_trace::{Scope, Tally};
 
 /// Returns a listener that shows a line on this output in this form, if an output is given. `lengths` says how the
 /// messages are read.
@@ -37,13 +38,21 @@ fn shown_on<W: Sink + Drop>(
     lengths: Lengths,
     output: W,
 ) -> Shown<W, Tally>
-    ensures { HasShown W.written (reading_of lengths) (style_of form) [] (W.written output) (showing_of result) }
+    ensures { HasShown W.written (reading_of lengths) OneSide (style_of form) [] (W.written output)
+        (showing_of result) }
 {
     let count = Tally {
         messages: 0,
         bad: 0,
     };
-    Shown::new(alloc, style_of(form), lengths, output, count)
+    Shown::new(
+        alloc,
+        style_of(form),
+        Scope::OneSide,
+        lengths,
+        output,
+        count,
+    )
 }
 
 /// Returns the style that shows a line in this form.
@@ -51,7 +60,7 @@ fn style_of(form: Form) -> Style
     ensures { result ≡ style_of form }
 {
     match form {
-        Form::Text => Style::Show,
+        Form::Text => Style::Show(Privacy::Safe),
         Form::Json => Style::Json,
     }
 }

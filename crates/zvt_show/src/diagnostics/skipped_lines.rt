@@ -2,7 +2,8 @@
 ghost use Rattle.std.specs.Prelude.{◌≡◌, ◌++◌, [], ◌∷◌, ℕ, List, OnOk};
 ghost use Rattle.zvt_trace.specs.TraceEvent.{At, on};
 ghost use Rattle.zvt_trace.specs.TraceEvent as trace_event;
-ghost use Rattle.zvt_show.specs.Notes.{counted_side, last_text, side_mark, unread_count, unread_note, unread_of};
+ghost use Rattle.zvt_show.specs.Notes.{advice, counted_side, last_text, side_mark, unread_count, unread_note};
+ghost use Rattle.zvt_show.specs.Notes.{unread_of};
 ghost use Rattle.zvt_show.specs.Noting.{CountsAfter, one_more};
 
 use crate::diagnostics::plural::put_many;
@@ -41,7 +42,7 @@ impl Unread {
             return Ok(());
         }
         put_count(text, self.count, scope, side)?;
-        put_last(text, self.last)
+        put_last(text, scope, self.last)
     }
 }
 
@@ -54,13 +55,26 @@ fn put_count(text: &mut Text, count: u64, scope: Scope, side: Direction) -> Resu
     put_mark(text, scope, side)
 }
 
-/// Adds the last line.
-fn put_last(text: &mut Text, last: u64) -> Result<(), AllocError>
-    ensures { OnOk result (text.new ≡ text.old ++ last_text last) }
+/// Adds the last line, and how to read on.
+fn put_last(text: &mut Text, scope: Scope, last: u64) -> Result<(), AllocError>
+    ensures { OnOk result (text.new ≡ text.old ++ last_text scope last) }
 {
     text.word(b" not read after that, up to line ")?;
     text.number(last)?;
+    put_advice(text, scope)?;
     text.push(b'\n')
+}
+
+/// Adds how to read on, if a refusal leaves more than its message unread.
+fn put_advice(text: &mut Text, scope: Scope) -> Result<(), AllocError>
+    ensures { OnOk result (text.new ≡ text.old ++ advice scope) }
+{
+    match scope {
+        Scope::OneMessage => Ok(()),
+        Scope::OneSide | Scope::WholeLine => {
+            text.word(b": 'show', 'audit' and 'receipts' read on with --open")
+        }
+    }
 }
 
 /// Adds the side, if the other one is still read.

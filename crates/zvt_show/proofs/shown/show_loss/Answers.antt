@@ -3,17 +3,17 @@ use Rattle.zvt_show.proofs.BesideLemmas.{first_stays, read_more, rest_empty, sec
 use Rattle.zvt_show.proofs.shown.show_loss.Goals as goal
 
 pub returns-clause-shows : goal.returns-clause-shows
-returns-clause-shows g c = λ r style trace first has.
+returns-clause-shows g c = λ r scope style trace first has.
     let some = c.requires.read in
-    turn_more g.W.Sink.written g.W.Sink.failures g.L.Listener.hears g.L.Listener.fails c.args.walker.now c.feed-answer.new.self trace (trace ++ (codes "!" ++ 10 ∷ [])) c.feed-answer.result c.args.listeners.now c.feed-answer.new.listener r style first c.print_rest.new.shown
+    turn_more g.W.Sink.written g.W.Sink.failures g.L.Listener.hears g.L.Listener.fails c.args.walker.now c.feed-answer.new.self trace (trace ++ (codes "!" ++ 10 ∷ [])) c.feed-answer.result c.args.listeners.now c.feed-answer.new.listener r scope style first c.print_rest.new.shown
     ((codes "!" ++ 10 ∷ [])) refl c.is_some-was_failed.result c.is_some-was_failed.ensures
     (first_stays g.W.Sink.written g.W.Sink.failures g.L.Listener.hears g.L.Listener.fails c.args.walker.now c.feed-answer.new.self some.0 (some.0 ++ (codes "!" ++ 10 ∷ [])) c.feed-answer.result c.args.listeners.now c.feed-answer.new.listener some.1 some.2 (c.feed-answer.ensures.reads some.0))
     c.requires.empty c.feed-answer.ensures.reading c.feed-answer.ensures.scope (c.feed-answer.ensures.reads trace) c.print_rest.ensures has
 
 pub returns-clause-tells : goal.returns-clause-tells
-returns-clause-tells g c = λ r trace start has.
+returns-clause-tells g c = λ r scope trace start has.
     let some = c.requires.read in
-    told_more g.W.Sink.written g.W.Sink.failures g.L.Listener.hears g.L.Listener.fails c.args.walker.now c.feed-answer.new.self trace (trace ++ (codes "!" ++ 10 ∷ [])) c.feed-answer.result c.args.listeners.now c.feed-answer.new.listener r start
+    told_more g.W.Sink.written g.W.Sink.failures g.L.Listener.hears g.L.Listener.fails c.args.walker.now c.feed-answer.new.self trace (trace ++ (codes "!" ++ 10 ∷ [])) c.feed-answer.result c.args.listeners.now c.feed-answer.new.listener r scope start
     (second_stays g.W.Sink.written g.W.Sink.failures g.L.Listener.hears g.L.Listener.fails c.args.walker.now c.feed-answer.new.self some.0 (some.0 ++ (codes "!" ++ 10 ∷ [])) c.feed-answer.result c.args.listeners.now c.feed-answer.new.listener some.1 some.2 (c.feed-answer.ensures.reads some.0))
     c.feed-answer.ensures.reading c.feed-answer.ensures.scope (c.feed-answer.ensures.reads trace) has
 

@@ -4,17 +4,17 @@ use Rattle.zvt_show.proofs.BesideLemmas.{first_stays, read_more, rest_empty, sec
 use Rattle.zvt_show.proofs.shown.show_piece.Goals as goal
 
 pub returns-clause-shows : goal.returns-clause-shows
-returns-clause-shows g c = λ r style trace first has.
+returns-clause-shows g c = λ r scope style trace first has.
     let some = c.requires.read in
-    turn_more g.W.Sink.written g.W.Sink.failures g.L.Listener.hears g.L.Listener.fails c.args.walker.now c.take-answer.new.self trace (trace ++ piece_text c.args.from c.args.bytes.now) c.take-answer.result c.args.listeners.now c.take-answer.new.listener r style first c.print_rest.new.shown
+    turn_more g.W.Sink.written g.W.Sink.failures g.L.Listener.hears g.L.Listener.fails c.args.walker.now c.take-answer.new.self trace (trace ++ piece_text c.args.from c.args.bytes.now) c.take-answer.result c.args.listeners.now c.take-answer.new.listener r scope style first c.print_rest.new.shown
     (piece_text c.args.from c.args.bytes.now) refl c.is_some-was_failed.result c.is_some-was_failed.ensures
     (first_stays g.W.Sink.written g.W.Sink.failures g.L.Listener.hears g.L.Listener.fails c.args.walker.now c.take-answer.new.self some.0 (some.0 ++ piece_text c.args.from c.args.bytes.now) c.take-answer.result c.args.listeners.now c.take-answer.new.listener some.1 some.2 (c.take-answer.ensures.reads some.0))
     c.requires.empty c.take-answer.ensures.reading c.take-answer.ensures.scope (c.take-answer.ensures.reads trace) c.print_rest.ensures has
 
 pub returns-clause-tells : goal.returns-clause-tells
-returns-clause-tells g c = λ r trace start has.
+returns-clause-tells g c = λ r scope trace start has.
     let some = c.requires.read in
-    told_more g.W.Sink.written g.W.Sink.failures g.L.Listener.hears g.L.Listener.fails c.args.walker.now c.take-answer.new.self trace (trace ++ piece_text c.args.from c.args.bytes.now) c.take-answer.result c.args.listeners.now c.take-answer.new.listener r start
+    told_more g.W.Sink.written g.W.Sink.failures g.L.Listener.hears g.L.Listener.fails c.args.walker.now c.take-answer.new.self trace (trace ++ piece_text c.args.from c.args.bytes.now) c.take-answer.result c.args.listeners.now c.take-answer.new.listener r scope start
     (second_stays g.W.Sink.written g.W.Sink.failures g.L.Listener.hears g.L.Listener.fails c.args.walker.now c.take-answer.new.self some.0 (some.0 ++ piece_text c.args.from c.args.bytes.now) c.take-answer.result c.args.listeners.now c.take-answer.new.listener some.1 some.2 (c.take-answer.ensures.reads some.0))
     c.take-answer.ensures.reading c.take-answer.ensures.scope (c.take-answer.ensures.reads trace) has
 

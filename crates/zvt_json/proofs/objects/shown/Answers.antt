@@ -2,7 +2,7 @@ use Rattle.std.proofs.Common.{codes}
 use Rattle.hex.specs.Hex.{encode_upper}
 use Rattle.zvt_text.proofs.RoomLemmas.{puts_more}
 use Rattle.zvt_json.specs.Texts.{shut, tag_text}
-use Rattle.zvt_json.proofs.objects.primitive.Goals as goal
+use Rattle.zvt_json.proofs.objects.shown.Goals as goal
 
 pub returns : goal.returns
 returns c =

@@ -1,0 +1,34 @@
+//! What a safe text hides. The table of BMPs lists the fields whose content no text shows, and this module adds the
+//! tags of objects with card data. In messages outside the payment profile nothing is known to be harmless, since the
+//! data of many commands begins with a password: a safe text has only their size.
+ghost use Rattle.std.specs.Prelude.{◌≡◌};
+ghost use Rattle.zvt_text.specs.Secrets.{hides_tag, is_secret_tag};
+
+/// How much of a message a text shows.
+#[derive(Clone, Copy, Debug, PartialEq, Eq)]
+pub enum Privacy {
+    /// Everything except passwords and the contents of the fields that the table of BMPs hides.
+    Plain,
+    /// Also hides the contents of objects with card data, and the data of messages outside the payment profile.
+    Safe,
+}
+
+/// Returns whether a text hides the content of objects with this tag.
+pub(crate) fn hides_tag(privacy: Privacy, tag: &[u8]) -> bool
+    ensures { result ≡ hides_tag privacy tag.now }
+{
+    match privacy {
+        Privacy::Plain => false,
+        Privacy::Safe => is_secret_tag(tag),
+    }
+}
+
+/// Returns whether objects with this tag have card data: the track 2 of a card (57), or its number (5A).
+pub fn is_secret_tag(tag: &[u8]) -> bool
+    ensures { result ≡ is_secret_tag tag.now }
+{
+    match tag {
+        [tag] => *tag == 0x57 || *tag == 0x5A,
+        _ => false,
+    }
+}
