@@ -11,6 +11,8 @@ import json_model
 
 ORDERS = ("Registration", "Authorisation", "Reversal", "EndOfDay", "Other")
 RESULT, AMOUNT, TRACE, CURRENCY, RECEIPT, ORIGINAL = "27", "04", "0B", "49", "87", "37"
+# A refund, and the orders of a pre-authorisation.
+UNFOLLOWED = {"0631", "0622", "0623", "0624", "0625"}
 DECLINING = ("declines", None)
 
 
@@ -31,12 +33,12 @@ def amount_of(message):
 
 
 class Audit:
-    def __init__(self, trace, loose=False):
-        self.booked, self.unclear, self.messages, self.bad = [], [], 0, 0
+    def __init__(self, trace, loose=False, is_open=False):
+        self.booked, self.unclear, self.messages, self.bad, self.passed, self.unfollowed = [], [], 0, 0, 0, False
         self.lines_of_booked, self.lines_of_unclear = [], []
         self.amount, self.statuses, self.taken_up, self.currency, self.named = None, [], False, None, set()
-        self.sides = {sign: json_model.Side(name, loose, False) for sign, name in json_model.SIDES.items()}
-        self.malformed = False
+        self.sides = {sign: json_model.Side(name, loose, is_open) for sign, name in json_model.SIDES.items()}
+        self.malformed, self.is_open = False, is_open
         for number, row in json_model.lines_of(trace):
             if row == b"!":
                 self.cut()
@@ -53,7 +55,13 @@ class Audit:
         if self.malformed:
             return
         for event in self.sides[sign].feed(piece, number):
-            if "refused" in event:
+            if "refused" in event and self.is_open:
+                self.bad += 1
+                self.passed += 1
+                self.known(sign, self.sides[sign].first, number)
+            elif "resumed" in event or "stopped" in event:
+                continue
+            elif "refused" in event:
                 self.malformed = True
                 self.bad += 1
                 self.cut()
@@ -61,6 +69,15 @@ class Audit:
             else:
                 self.messages += 1
                 (self.sent if sign == b">" else self.heard)(event)
+
+    def known(self, sign, first, line):
+        """A refused message, of which only the control bytes are known."""
+        control = first[:2].hex().upper()
+        kind = json_model.KINDS.get(control, ("Nack" if first[0] == 0x84 else "Other",))[0]
+        if kind in ("Registration", "Authorisation", "Reversal", "EndOfDay", "Other") and sign == b">":
+            self.sent({"kind": kind, "line": line, "control": control})
+        elif kind in ("Status", "Completion", "Abort") and sign == b"<":
+            self.heard({"kind": kind, "line": line})
 
     def cut(self):
         """Both streams start anew."""
@@ -70,6 +87,7 @@ class Audit:
         if message["kind"] not in ORDERS:
             return
         self.ends("Unfinished", message["line"])
+        self.unfollowed |= message.get("control") in UNFOLLOWED or message["kind"] == "Authorisation" and amount_of(message) is None
         if message["kind"] == "Authorisation":
             self.amount, self.statuses, self.taken_up = amount_of(message), [], False
         if message["kind"] == "Registration":

@@ -1,12 +1,12 @@
 #!/usr/bin/env python3
-"""Compares `audit` and `audit --json` with the model of `audit_model.py`, byte for byte, strictly and with `--loose`.
+"""Compares `audit` and `audit --json` with the model of `audit_model.py`, byte for byte, strictly, with `--loose` and with `--open`.
 
     tests/audit_output.py [--text] [PROGRAM]
 
 PROGRAM is the one that `rt ci` built, unless another is named. With `--text` what a program without `--json` writes is
 compared alone. The traces are those of examples/, the journals of fifteen dialogues, random dialogues of payments whose
 messages are left out, doubled, changed, cut and refused, and the hostile traces of `random_traces.py`. Of `audit --check` the
-status is compared: 1 where a payment is unclear. The counts of `--json` are those that standard error says. The lines of
+status is compared: 1 where a payment is unclear, or an order is not followed. The counts of `--json` are those that standard error says. The lines of
 books in docs/JSON.md are held too. The status is 1 where anything differs.
 """
 import concurrent.futures
@@ -101,7 +101,7 @@ class Dialogue:
 
 class Trial:
     def __init__(self):
-        self.wrong, self.audits, self.causes, self.booked = 0, 0, set(), 0
+        self.wrong, self.audits, self.causes, self.booked, self.passed = 0, 0, set(), 0, 0
 
     def differs(self, *what):
         self.wrong += 1
@@ -122,24 +122,31 @@ class Trial:
         if found != ([(audit.messages, audit.bad)] if audit.bad else []):
             self.differs("the counts", found, "instead of", audit.messages, audit.bad)
 
-    def hold(self, trace, loose=()):
+    def hold(self, trace, words=()):
+        self.hold_by(trace, words)
+        if not TEXT_ALONE:
+            self.hold_by(trace, [*words, "--open"])
+
+    def hold_by(self, trace, words):
         self.audits += 1
         try:
-            audit = audit_model.Audit(trace, bool(loose))
+            audit = audit_model.Audit(trace, "--loose" in words, "--open" in words)
         except json_model.Fault:
-            self.run(loose, trace, (3, b""))
+            self.run(words, trace, (3, b""))
             return
         said = list(audit.objects())
         self.booked += len(audit.booked)
         self.causes |= {cause for _, cause in audit.unclear}
-        status = 1 if audit.bad else 0
+        status = 1 if audit.bad > audit.passed else 0
+        checked = 1 if audit.unclear or audit.unfollowed else status
+        self.passed += audit.passed
         text = "".join(audit_model.text_of(one) + "\n" for one in said).encode()
-        self.counted(audit, self.run(loose, trace, (status, text)))
+        self.counted(audit, self.run(words, trace, (status, text)))
         if not TEXT_ALONE:
             lines = "".join(json_model.json_of(one) + "\n" for one in said).encode()
-            self.counted(audit, self.run(["--json", *loose], trace, (status, lines)))
-            self.run(["--check", *loose], trace, (1 if audit.unclear else status, text))
-            self.run(["--check", "--json", *loose], trace, (1 if audit.unclear else status, lines))
+            self.counted(audit, self.run(["--json", *words], trace, (status, lines)))
+            self.run(["--check", *words], trace, (checked, text))
+            self.run(["--check", "--json", *words], trace, (checked, lines))
 
 
 def documented(trial):
@@ -179,7 +186,7 @@ def main():
         list(pool.map(lambda one: trial.hold(*one), list(traces(random.Random(SEED)))))
     if trial.causes != CAUSES:
         trial.differs("no payment is unclear by", CAUSES - trial.causes)
-    print(f"{'NOT AS EXPECTED' if trial.wrong else 'ok'}: {trial.audits} audits, {trial.booked} payments booked, {len(trial.causes)} causes"
+    print(f"{'NOT AS EXPECTED' if trial.wrong else 'ok'}: {trial.audits} audits, {trial.booked} payments booked, {len(trial.causes)} causes, {trial.passed} messages passed over"
           f"{', the text alone' if TEXT_ALONE else ''}: {trial.wrong} wrong")
     return 1 if trial.wrong else 0
 

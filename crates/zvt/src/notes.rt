@@ -54,8 +54,8 @@ pub fn report_notes(
 
 /// The note about an order that the audit does not follow.
 pub const UNFOLLOWED: &str =
-    "the till sent a refund or an order of a pre-authorisation, which the audit does not \
-    follow: find 'Other 0631' and 'Other 0622' to 'Other 0625' in 'zvt show'";
+    "the till sent a refund, an order of a pre-authorisation, or a payment without an amount, which the audit does \
+    not follow: find 'Other 0631', 'Other 0622' to 'Other 0625' and 'Authorisation' in 'zvt show --open'";
 
 /// Reports how much of a followed trace is bad, and whether an order was not followed. Its output shows where.
 pub fn report_counts(
@@ -110,8 +110,7 @@ fn scope_of(command: &TraceCommand<'_>) -> Option<Scope>
     ensures { result ≡ scope_of command.now }
 {
     match command.work {
-        TraceWork::Render(_) => Some(command.scope()),
-        TraceWork::Audit(_) => Some(Scope::WholeLine),
+        TraceWork::Render(_) | TraceWork::Audit(_) => Some(command.scope()),
         TraceWork::Vectors(_) => None,
     }
 }

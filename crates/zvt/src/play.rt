@@ -252,10 +252,10 @@ fn play_line<'s>(
     }
 }
 
-/// Ends a connection between the steps that were played and those after, and answers what is left of these.
+/// Ends a connection after the steps that were played, and returns the steps that are left.
 ///
-/// Before a break what comes after an own line may be the answer to it, and is no difference. After the last line it is
-/// one, but for an acknowledgement.
+/// Before a break, bytes after an own line may be the answer to it, and are no difference. After the last line they are
+/// a difference, except for an acknowledgement.
 fn end_line<'s>(
     rt: &HostRuntime,
     connection: &TcpStream,

@@ -146,6 +146,7 @@ fn tap_all<W: Write + Drop>(
                 let line = Line {
                     till: &till,
                     terminal: &terminal,
+                    reads_on: options.reads_on,
                     lengths: lengths_by(options.loose),
                 };
                 let answer = tap_one(rt, &line, waiting, trace, screen);
@@ -170,11 +171,12 @@ fn tap_all<W: Write + Drop>(
     status
 }
 
-/// Both connections of a line, and the lengths of its messages.
+/// Both connections of a line, whether it is read on after a refused message, and the lengths of its messages.
 #[derive(Clone, Copy)]
 struct Line<'a> {
     till: &'a TcpStream,
     terminal: &'a TcpStream,
+    reads_on: bool,
     lengths: Lengths,
 }
 
@@ -241,7 +243,7 @@ fn tap_into<W: Write + Drop>(
 ) -> (u8, bool) {
     let failed = tracing.failed;
     let output = Over::new(Output::new(screen));
-    let Ok(log) = new_log(rt.alloc(), line.lengths, tracing, output) else {
+    let Ok(log) = new_log(rt.alloc(), line.reads_on, line.lengths, tracing, output) else {
         return (report_fault(rt, &TraceFault::Memory), failed);
     };
     let _ = waiting.door.set_nonblocking(true);
@@ -341,12 +343,17 @@ fn report_found<W: Write + Drop>(
     found: Found<Over<Noted<'_>>, Over<Output<W>>>,
 ) -> u8 {
     let is_pipe_closed = found.output.inner.broken_pipe;
+    let passed = match &found.audited {
+        Ok(audited) => audited.passed,
+        Err(_) => 0,
+    };
     let shown = match found.shown {
-        Ok(tally) if tally.bad > 0 => {
-            let _ = report_tally(rt, tally);
-            BAD
+        Ok(tally) => {
+            if tally.bad > 0 {
+                let _ = report_tally(rt, tally);
+            }
+            if tally.bad > passed { BAD } else { DONE }
         }
-        Ok(_) => DONE,
         Err(TraceFault::Write) if is_pipe_closed => return DEVICE,
         Err(fault) => return report_fault(rt, &fault),
     };

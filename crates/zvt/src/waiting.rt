@@ -7,10 +7,10 @@ use std::time::Duration;
 use zvt_runs::tcp::Door;
 use zvt_tap::Arrivals;
 
-/// How long the tap waits after the system refused it a connection, as where it has no descriptor left.
+/// Seconds before the tap tries again after the system refused it a connection, for example for want of a descriptor.
 const REFUSED_SECONDS: u64 = 1;
 
-/// Where tills connect, and those of them that connected while another line went on.
+/// The port where tills connect, and the tills that connected while another line went on.
 #[derive(Drop)]
 pub struct Waiting<'a> {
     pub door: &'a mut Door,

@@ -11,15 +11,18 @@ use Rattle.zvt_till.specs.declared.happenings.Happening.{Happening}
 use Rattle.zvt_till.specs.declared.happenings.Happening.TheVariants.{Connected}
 use Rattle.zvt_trace.specs.Listening.{AnswersWalk, HearsAll, Stops}
 use Rattle.zvt_trace.specs.TraceEvent.{At, Tallies}
-use Rattle.zvt_trace.specs.Emitting.{EventsSoFar}
-use Rattle.zvt_trace.specs.Written.{limit}
+use Rattle.zvt_trace.specs.Emitting.{EventsSoFar, WholeTrace}
+use Rattle.zvt_trace.specs.Written.{AppendsPrefix, limit}
 use Rattle.zvt_trace.specs.declared.direction.Direction.TheVariants.{FromTill, FromTerminal}
 use Rattle.zvt_trace.specs.declared.fault.Tally.{Tally}
 use Rattle.zvt_trace.specs.declared.fault.TraceFault.{TraceFault}
 use Rattle.zvt_trace.specs.declared.fault.TraceFault.TheVariants.{Memory, Read, TooLong, Trace, Write}
 use Rattle.zvt_trace.specs.declared.listener.ListenerError.TheVariants as failure
+use Rattle.zvt_trace.specs.declared.listener.Scope.{Scope}
 use Rattle.zvt_trace.specs.declared.listener.Scope.TheVariants.{WholeLine}
-use Rattle.zvt_audit.specs.Audited.{AnswersAuditBy, AnswersBooks, AnswersReadBy, Takes, hears, wants_memory}
+use Rattle.zvt_audit.specs.Audited.{AnswersAuditBy, AnswersBooks, AnswersReadBy, IsConnected, StartsIn, Takes, hears, hears_by, wants_memory_by}
+use Rattle.zvt_audit.specs.ByControl.{passed_after, seen}
+use Rattle.zvt_audit.specs.Booked.{books_text}
 use Rattle.zvt_audit.specs.Currencies.{agreed, currencies_of, named_by, one_currency}
 use Rattle.zvt_audit.specs.Ends.{AreEndLines, lines_of}
 use Rattle.zvt_audit.specs.Json.{books_in}
@@ -28,12 +31,14 @@ use Rattle.zvt_text.specs.declared.form.Form.TheVariants.{Text}
 use Rattle.zvt_audit.specs.Happened.{happenings_of, log_of}
 use Rattle.zvt_audit.specs.Orders.{are_swapped, has_unfollowed, is_order_from, is_unfollowed, orders_from}
 use Rattle.zvt_audit.specs.declared.auditor.Auditor.{Auditor}
+use Rattle.zvt_audit.specs.declared.by_control.ByControl.{ByControl}
 use Rattle.zvt_audit.specs.declared.currencies.NamedCurrency.{NamedCurrency}
 use Rattle.zvt_audit.specs.declared.currencies.NamedCurrency.TheVariants.{Absent}
 use Rattle.zvt_audit.specs.declared.summary.AuditSummary.{AuditSummary}
 use Rattle.zvt_audit.specs.declared.orders.Orders.{Orders}
 use Rattle.zvt_audit.proofs.EndLemmas.{log_more}
 use Rattle.zvt_audit.proofs.BecomeLemmas.{takes_more, takes_none}
+use Rattle.zvt_audit.proofs.ControlLemmas.{all_seen, seen_whole}
 use Rattle.zvt_audit.proofs.CurrencyLemmas.{after_all, all_agreed, one_more}
 
 -- ---- what is heard
@@ -110,75 +115,89 @@ pub keeps_same : (held : Option (List ℕ)) → Keeps held held
 keeps_same None = tt
 keeps_same (Some bytes) = refl
 
-pub audited : {r : Reading} (trace : List ℕ) (form : Form) (tally : Tally) (answer : Result AuditSummary TraceFault) (old new : Option (List ℕ)) (connected closed : Auditor)
-    → HasJudged (Connected ∷ []) connected.books → connected.orders.till ≡ false → connected.orders.terminal ≡ false → connected.named ≡ Absent → AreEndLines [] (lines_of connected.ends) → connected.orders.unfollowed ≡ false → AnswersWalk r hears wants_memory WholeLine (lines trace) connected closed (Ok tally)
-    → ((log : List Happening) → HasJudged log closed.books → AnswersBooks form log tally closed.orders (agreed closed.named) (lines_of closed.ends) old new answer) → AnswersReadBy r form trace old new answer
-audited {r = r} trace form tally answer old new connected closed start till terminal unnamed unended unfollowed walked closes =
-    by answer (subst (λ (c : Option ℕ). AnswersBooks form (log_of walked.0) tally closed.orders c (lines_of closed.ends) old new answer) (currency_heard walked.0 connected closed unnamed walked.2) (closes (log_of walked.0) (log_judged walked.0 connected closed start walked.2)))
-  where
-    ended : AreEndLines walked.0 (lines_of closed.ends)
-    ended = all_ended [] walked.0 connected closed start unended walked.2
+-- the answer for the events of a trace, after an auditor heard what is seen of them
+module _ (r : Reading) (scope : Scope) (trace : List ℕ) (form : Form) (tally : Tally) (events : List At) (whole : WholeTrace r scope (lines trace) events) (tallies : Tallies tally events) (connected closed : Auditor)
+    (start : IsConnected connected) (heard : HearsAll hears connected (seen scope events) closed) (passed : ℕ) (counted : passed ≡ passed_after scope 0 events) (old new : Option (List ℕ)) where
+  abbrev done : List At
+  done = seen scope events
 
-    by : (answer : Result AuditSummary TraceFault) → AnswersBooks form (log_of walked.0) tally closed.orders (one_currency (currencies_of walked.0)) (lines_of closed.ends) old new answer → AnswersReadBy r form trace old new answer
-    by (Ok audited) (appended, same, is_swapped, sums, is_unfollowed) = (
-      walked.0,
-      lines_of closed.ends,
-      walked.1,
-      ended,
-      subst (λ (t : Tally). Appends old new (books_in form t (one_currency (currencies_of walked.0)) (lines_of closed.ends) (books (log_of walked.0)))) (sym same) appended,
-      subst (λ (t : Tally). Tallies t walked.0) (sym same) walked.3,
-      is_swapped ∙ swapped walked.0 connected closed till terminal walked.2,
-      sums,
-      is_unfollowed ∙ unfollowed_noticed walked.0 connected closed walked.2 ∙ ap (λ (b : Bool). b || has_unfollowed walked.0) unfollowed,
-    )
-    by (Err Memory) kept = kept
-    by (Err Write) prefix = (walked.0, tally, lines_of closed.ends, walked.1, ended, prefix, walked.3)
-    by (Err (Trace number what)) never = absurd never
-    by (Err TooLong) never = absurd never
-    by (Err Read) never = absurd never
+  ended : AreEndLines done (lines_of closed.ends)
+  ended = all_ended [] done connected closed start.0 start.4 heard
+
+  by : (answer : Result AuditSummary TraceFault) → AnswersBooks form (log_of done) tally closed.orders (one_currency (currencies_of done)) (lines_of closed.ends) passed old new answer → AnswersReadBy r scope form trace old new answer
+  by (Ok audited) (appended, same, is_swapped, sums, is_unfollowed, is_passed) = (
+    events,
+    lines_of closed.ends,
+    whole,
+    ended,
+    subst (λ (t : Tally). Appends old new (books_in form t (one_currency (currencies_of done)) (lines_of closed.ends) (books (log_of done)))) (sym same) appended,
+    subst (λ (t : Tally). Tallies t events) (sym same) tallies,
+    is_swapped ∙ swapped done connected closed start.1 start.2 heard,
+    sums,
+    is_unfollowed ∙ unfollowed_noticed done connected closed heard ∙ ap (λ (b : Bool). b || has_unfollowed done) start.5,
+    is_passed ∙ counted,
+  )
+  by (Err Memory) kept = kept
+  by (Err Write) prefix = (events, tally, lines_of closed.ends, whole, ended, prefix, tallies)
+  by (Err (Trace number what)) never = absurd never
+  by (Err TooLong) never = absurd never
+  by (Err Read) never = absurd never
+
+  pub audited_events : (answer : Result AuditSummary TraceFault) → ((log : List Happening) → HasJudged log closed.books → AnswersBooks form log tally closed.orders (agreed closed.named) (lines_of closed.ends) passed old new answer)
+      → AnswersReadBy r scope form trace old new answer
+  audited_events answer closes =
+      by answer (subst (λ (c : Option ℕ). AnswersBooks form (log_of done) tally closed.orders c (lines_of closed.ends) passed old new answer) (currency_heard done connected closed start.3 heard) (closes (log_of done) (log_judged done connected closed start.0 heard)))
+
+pub audited : (r : Reading) (scope : Scope) (trace : List ℕ) (form : Form) (tally : Tally) (answer : Result AuditSummary TraceFault) (old new : Option (List ℕ)) (connected closed : ByControl Auditor)
+    → StartsIn scope connected → AnswersWalk r hears_by wants_memory_by scope (lines trace) connected closed (Ok tally)
+    → ((log : List Happening) → HasJudged log closed.listener.books → AnswersBooks form log tally closed.listener.orders (agreed closed.listener.named) (lines_of closed.listener.ends) closed.passed old new answer)
+    → AnswersReadBy r scope form trace old new answer
+audited r scope trace form tally answer old new connected closed starts walked closes =
+    let all = all_seen hears scope walked.0 connected closed starts.1 walked.2 in
+    audited_events r scope trace form tally walked.0 walked.1 walked.3 connected.listener closed.listener starts.0 all.0 closed.passed (all.1 ∙ ap (λ (n : ℕ). passed_after scope n walked.0) starts.2) old new answer closes
 
 -- ---- where the walk fails
 
 -- an auditor writes nothing, so no write fails
-pub no_write : {r : Reading} (lines : List (List ℕ)) (old new : Auditor) → AnswersWalk r hears wants_memory WholeLine lines old new (Err Write) → ⊥
-no_write {r = r} lines old new failed = by failed.stops
+pub no_write : {r : Reading} {scope : Scope} (lines : List (List ℕ)) (old new : ByControl Auditor) → AnswersWalk r hears_by wants_memory_by scope lines old new (Err Write) → ⊥
+no_write {r = r} {scope = scope} lines old new failed = by failed.stops
   where
     differ : failure.Write ≡ failure.Memory → ⊥
     differ e = cc
 
-    by : Stops {S = Auditor} wants_memory failure.Write (EventsSoFar r WholeLine lines) failed.events failed.middle new → ⊥
+    by : Stops {S = ByControl Auditor} wants_memory_by failure.Write (EventsSoFar r scope lines) failed.events failed.middle new → ⊥
     by (inl (is, so_far, same)) = differ is
     by (inr (event, so_far, left)) = differ left
 
-pub none_written : (r : Reading) (lines : List (List ℕ)) (old new : Auditor) (fault : TraceFault) → AnswersWalk r hears wants_memory WholeLine lines old new (Err fault) → fault ≡ Write → ⊥
-none_written r lines old new fault failed is = no_write lines old new (subst (λ (f : TraceFault). AnswersWalk r hears wants_memory WholeLine lines old new (Err f)) is failed)
+pub none_written : (r : Reading) (scope : Scope) (lines : List (List ℕ)) (old new : ByControl Auditor) (fault : TraceFault) → AnswersWalk r hears_by wants_memory_by scope lines old new (Err fault) → fault ≡ Write → ⊥
+none_written r scope lines old new fault failed is = no_write lines old new (subst (λ (f : TraceFault). AnswersWalk r hears_by wants_memory_by scope lines old new (Err f)) is failed)
 
-pub walk_failed : (r : Reading) (form : Form) (trace : List ℕ) (fault : TraceFault) (held : Option (List ℕ)) (old new : Auditor)
-    → AnswersWalk r hears wants_memory WholeLine (lines trace) old new (Err fault) → AnswersReadBy r form trace held held (Err fault)
-walk_failed r form trace (Trace number what) held old new walked = (walked.0, walked.1, keeps_same held)
-walk_failed r form trace Memory held old new walked = keeps_same held
-walk_failed r form trace Write held old new walked = absurd (no_write (lines trace) old new walked)
-walk_failed r form trace TooLong held old new never = absurd never
-walk_failed r form trace Read held old new never = absurd never
+pub walk_failed : (r : Reading) (scope : Scope) (form : Form) (trace : List ℕ) (fault : TraceFault) (held : Option (List ℕ)) (old new : ByControl Auditor)
+    → AnswersWalk r hears_by wants_memory_by scope (lines trace) old new (Err fault) → AnswersReadBy r scope form trace held held (Err fault)
+walk_failed r scope form trace (Trace number what) held old new walked = (walked.0, walked.1, keeps_same held)
+walk_failed r scope form trace Memory held old new walked = keeps_same held
+walk_failed r scope form trace Write held old new walked = absurd (no_write (lines trace) old new walked)
+walk_failed r scope form trace TooLong held old new never = absurd never
+walk_failed r scope form trace Read held old new never = absurd never
 
 -- ---- a trace that is read first
 
 pub read_audited : (r : Reading) (left : Option (List ℕ)) (trace slice : List ℕ) (old new : Option (List ℕ)) (found : AuditSummary) → IfSome left (λ bytes. trace ≡ bytes) → length trace ≤ limit → slice ≡ trace
-    → AnswersReadBy r Text slice old new (Ok found) → IfSome left (λ bytes. AnswersAuditBy r bytes old new (Ok found.tally))
+    → AnswersReadBy r WholeLine Text slice old new (Ok found) → IfSome left (λ bytes. AnswersAuditBy r bytes old new (Ok found.tally))
 read_audited r None trace slice old new found read few same answers = tt
 read_audited r (Some bytes) trace slice old new found read few same answers =
-    let here = subst (λ (b : List ℕ). AnswersReadBy r Text b old new (Ok found)) same answers in
-    subst (λ (b : List ℕ). AnswersAuditBy r b old new (Ok found.tally)) read (few, (here.0, here.2, here.4, here.5))
+    let here = subst (λ (b : List ℕ). AnswersReadBy r WholeLine Text b old new (Ok found)) same answers in
+    subst (λ (b : List ℕ). AnswersAuditBy r b old new (Ok found.tally)) read (few, (here.0, here.2, subst (λ (es : List At). Appends old new (books_text (books (log_of es)))) (seen_whole here.0) here.4, here.5))
 
 pub read_failed : (r : Reading) (left : Option (List ℕ)) (trace slice : List ℕ) (old new : Option (List ℕ)) (fault : TraceFault) → IfSome left (λ bytes. trace ≡ bytes) → length trace ≤ limit → slice ≡ trace
-    → AnswersReadBy r Text slice old new (Err fault) → IfSome left (λ bytes. AnswersAuditBy r bytes old new (Err fault))
+    → AnswersReadBy r WholeLine Text slice old new (Err fault) → IfSome left (λ bytes. AnswersAuditBy r bytes old new (Err fault))
 read_failed r None trace slice old new fault read few same answers = tt
 read_failed r (Some bytes) trace slice old new fault read few same answers =
-    subst (λ (b : List ℕ). AnswersAuditBy r b old new (Err fault)) read (by fault (subst (λ (b : List ℕ). AnswersReadBy r Text b old new (Err fault)) same answers))
+    subst (λ (b : List ℕ). AnswersAuditBy r b old new (Err fault)) read (by fault (subst (λ (b : List ℕ). AnswersReadBy r WholeLine Text b old new (Err fault)) same answers))
   where
-    by : (fault : TraceFault) → AnswersReadBy r Text trace old new (Err fault) → AnswersAuditBy r trace old new (Err fault)
+    by : (fault : TraceFault) → AnswersReadBy r WholeLine Text trace old new (Err fault) → AnswersAuditBy r trace old new (Err fault)
     by (Trace number what) answers = (few, answers.0, answers.1, answers.2)
     by Memory answers = answers
-    by Write answers = (few, answers.0, answers.3, answers.5)
+    by Write answers = (few, answers.0, answers.3, subst (λ (es : List At). AppendsPrefix old new (books_text (books (log_of es)))) (seen_whole answers.0) answers.5)
     by TooLong never = absurd never
     by Read never = absurd never

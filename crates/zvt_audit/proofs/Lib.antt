@@ -1,8 +1,10 @@
 pub mod AuditLemmas
 pub mod BecomeLemmas
+pub mod ControlLemmas
 pub mod CurrencyLemmas
 pub mod EndLemmas
 pub mod EndRows
 pub mod HearLemmas
 pub mod JsonLemmas
 pub mod LineLemmas
+pub mod ReadOnLemmas

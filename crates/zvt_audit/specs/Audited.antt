@@ -16,8 +16,10 @@ use Rattle.zvt_trace.specs.declared.fault.Tally.{Tally}
 use Rattle.zvt_trace.specs.declared.fault.TraceFault.{TraceFault}
 use Rattle.zvt_trace.specs.declared.fault.TraceFault.TheVariants.{Memory, Read, TooLong, Trace, Write}
 use Rattle.zvt_trace.specs.declared.listener.ListenerError.TheVariants as failure
+use Rattle.zvt_trace.specs.declared.listener.Scope.{Scope}
 use Rattle.zvt_trace.specs.declared.listener.Scope.TheVariants.{WholeLine}
 use Rattle.zvt_audit.specs.Booked.{books_text, total}
+use Rattle.zvt_audit.specs.ByControl.{FailsBy, HearsBy, passed_after, seen}
 use Rattle.zvt_audit.specs.Currencies.{currencies_of, named_after, named_by, one_currency}
 use Rattle.zvt_audit.specs.Ends.{AreEndLines, Lines, lines_of}
 use Rattle.zvt_audit.specs.Happened.{happenings_of, log_of}
@@ -25,6 +27,7 @@ use Rattle.zvt_audit.specs.Json.{books_in}
 use Rattle.zvt_audit.specs.Orders.{are_swapped, has_unfollowed, noticed}
 use Rattle.zvt_text.specs.declared.form.Form.{Form}
 use Rattle.zvt_audit.specs.declared.auditor.Auditor.{Auditor}
+use Rattle.zvt_audit.specs.declared.by_control.ByControl.{ByControl}
 use Rattle.zvt_audit.specs.declared.currencies.NamedCurrency.TheVariants.{Absent}
 use Rattle.zvt_audit.specs.declared.orders.Orders.{Orders}
 use Rattle.zvt_audit.specs.declared.summary.AuditSummary.{AuditSummary}
@@ -65,13 +68,13 @@ pub record SumsUp (audited : AuditSummary) (found : Books) : Type 0 where
   pub unclear : audited.unclear ≡ length found.unclear
 
 -- What writing the books of a log in that form answers.
-abbrev pub AnswersBooks : Form → List Happening → Tally → Orders → (currency : Option ℕ) → Lines → (old new : Option (List ℕ)) → Result AuditSummary TraceFault → Type 0
-AnswersBooks form log tally orders currency lines old new (Ok audited) = Appends old new (books_in form tally currency lines (books log)) × (audited.tally ≡ tally) × (audited.swapped ≡ has_swapped orders) × SumsUp audited (books log) × (audited.unfollowed ≡ orders.unfollowed)
-AnswersBooks form log tally orders currency lines old new (Err Memory) = Keeps old new
-AnswersBooks form log tally orders currency lines old new (Err Write) = AppendsPrefix old new (books_in form tally currency lines (books log))
-AnswersBooks form log tally orders currency lines old new (Err (Trace number what)) = ⊥
-AnswersBooks form log tally orders currency lines old new (Err TooLong) = ⊥
-AnswersBooks form log tally orders currency lines old new (Err Read) = ⊥
+abbrev pub AnswersBooks : Form → List Happening → Tally → Orders → (currency : Option ℕ) → Lines → (passed : ℕ) → (old new : Option (List ℕ)) → Result AuditSummary TraceFault → Type 0
+AnswersBooks form log tally orders currency lines passed old new (Ok audited) = Appends old new (books_in form tally currency lines (books log)) × (audited.tally ≡ tally) × (audited.swapped ≡ has_swapped orders) × SumsUp audited (books log) × (audited.unfollowed ≡ orders.unfollowed) × (audited.passed ≡ passed)
+AnswersBooks form log tally orders currency lines passed old new (Err Memory) = Keeps old new
+AnswersBooks form log tally orders currency lines passed old new (Err Write) = AppendsPrefix old new (books_in form tally currency lines (books log))
+AnswersBooks form log tally orders currency lines passed old new (Err (Trace number what)) = ⊥
+AnswersBooks form log tally orders currency lines passed old new (Err TooLong) = ⊥
+AnswersBooks form log tally orders currency lines passed old new (Err Read) = ⊥
 
 -- ---- an auditor as a listener
 
@@ -82,25 +85,37 @@ hears old event new = Becomes old event new
 abbrev pub wants_memory : Fails Auditor
 wants_memory old event why new = why ≡ failure.Memory
 
+-- the same, where a refused message may be known by its control bytes
+abbrev pub hears_by : Hears (ByControl Auditor)
+hears_by = HearsBy hears
+
+abbrev pub wants_memory_by : Fails (ByControl Auditor)
+wants_memory_by = FailsBy wants_memory
+
+-- no message was refused yet
+abbrev pub StartsIn : Scope → ByControl Auditor → Type 0
+StartsIn scope by = IsConnected by.listener × (by.scope ≡ scope) × (by.passed ≡ 0)
+
 -- the device has besides the text of the books of what the trace emits, by that reading of lengths
 abbrev pub WritesBooks : Reading → (trace : List ℕ) → Tally → (old new : Option (List ℕ)) → Type 0
 WritesBooks r trace tally old new =
     (events : List At) × WholeTrace r WholeLine (lines trace) events × Appends old new (books_text (books (log_of events))) × Tallies tally events
 
--- What an audit answers for a trace that was read, in that form and by that reading of lengths. Where it fails nothing is
--- written, but of a write that failed a prefix of the text.
-abbrev pub AnswersReadBy : Reading → Form → (trace : List ℕ) → (old new : Option (List ℕ)) → Result AuditSummary TraceFault → Type 0
-AnswersReadBy r form trace old new (Ok audited) =
-    (events : List At) × (ends : Lines) × WholeTrace r WholeLine (lines trace) events × AreEndLines events ends × Appends old new (books_in form audited.tally (one_currency (currencies_of events)) ends (books (log_of events)))
-    × Tallies audited.tally events × (audited.swapped ≡ are_swapped events)
-    × SumsUp audited (books (log_of events)) × (audited.unfollowed ≡ has_unfollowed events)
-AnswersReadBy r form trace old new (Err (Trace number what)) = (events : List At) × BrokenTrace r WholeLine (lines trace) number what events × Keeps old new
-AnswersReadBy r form trace old new (Err Memory) = Keeps old new
-AnswersReadBy r form trace old new (Err Write) =
-    (events : List At) × (tally : Tally) × (ends : Lines) × WholeTrace r WholeLine (lines trace) events × AreEndLines events ends × AppendsPrefix old new (books_in form tally (one_currency (currencies_of events)) ends (books (log_of events)))
-    × Tallies tally events
-AnswersReadBy r form trace old new (Err TooLong) = ⊥
-AnswersReadBy r form trace old new (Err Read) = ⊥
+-- What an audit answers for a trace that was read, in that form, by that reading of lengths, and with what a refusal leaves unread.
+-- Where it fails nothing is written, but of a write that failed a prefix of the text.
+abbrev pub AnswersReadBy : Reading → Scope → Form → (trace : List ℕ) → (old new : Option (List ℕ)) → Result AuditSummary TraceFault → Type 0
+AnswersReadBy r scope form trace old new (Ok audited) =
+    (events : List At) × (ends : Lines) × WholeTrace r scope (lines trace) events × AreEndLines (seen scope events) ends
+    × Appends old new (books_in form audited.tally (one_currency (currencies_of (seen scope events))) ends (books (log_of (seen scope events))))
+    × Tallies audited.tally events × (audited.swapped ≡ are_swapped (seen scope events)) × SumsUp audited (books (log_of (seen scope events)))
+    × (audited.unfollowed ≡ has_unfollowed (seen scope events)) × (audited.passed ≡ passed_after scope 0 events)
+AnswersReadBy r scope form trace old new (Err (Trace number what)) = (events : List At) × BrokenTrace r scope (lines trace) number what events × Keeps old new
+AnswersReadBy r scope form trace old new (Err Memory) = Keeps old new
+AnswersReadBy r scope form trace old new (Err Write) =
+    (events : List At) × (tally : Tally) × (ends : Lines) × WholeTrace r scope (lines trace) events × AreEndLines (seen scope events) ends
+    × AppendsPrefix old new (books_in form tally (one_currency (currencies_of (seen scope events))) ends (books (log_of (seen scope events)))) × Tallies tally events
+AnswersReadBy r scope form trace old new (Err TooLong) = ⊥
+AnswersReadBy r scope form trace old new (Err Read) = ⊥
 
 -- What an audit answers for a trace of known bytes, which may be too long, by that reading of lengths.
 abbrev pub AnswersAuditBy : Reading → (trace : List ℕ) → (old new : Option (List ℕ)) → Result Tally TraceFault → Type 0
@@ -117,10 +132,10 @@ abbrev pub AnswersAudit : (trace : List ℕ) → (old new : Option (List ℕ)) �
 AnswersAudit trace old new answer = AnswersAuditBy shortest trace old new answer
 
 -- What an audit of a trace answers that comes piece by piece, once these bytes of it were taken. Where a line is too long, or a read fails, nothing is written.
-abbrev pub AnswersFollowed : Reading → Form → (taken : List ℕ) → (rest old new : Option (List ℕ)) → Result AuditSummary TraceFault → Type 0
-AnswersFollowed r form taken rest old new (Ok audited) = AnswersReadBy r form taken old new (Ok audited) × IsAtEnd rest
-AnswersFollowed r form taken rest old new (Err (Trace number what)) = AnswersReadBy r form taken old new (Err (Trace number what))
-AnswersFollowed r form taken rest old new (Err Memory) = Keeps old new
-AnswersFollowed r form taken rest old new (Err Write) = AnswersReadBy r form taken old new (Err Write)
-AnswersFollowed r form taken rest old new (Err TooLong) = ((events : List At) × IsTooLong r WholeLine taken events) × Keeps old new
-AnswersFollowed r form taken rest old new (Err Read) = Keeps old new
+abbrev pub AnswersFollowed : Reading → Scope → Form → (taken : List ℕ) → (rest old new : Option (List ℕ)) → Result AuditSummary TraceFault → Type 0
+AnswersFollowed r scope form taken rest old new (Ok audited) = AnswersReadBy r scope form taken old new (Ok audited) × IsAtEnd rest
+AnswersFollowed r scope form taken rest old new (Err (Trace number what)) = AnswersReadBy r scope form taken old new (Err (Trace number what))
+AnswersFollowed r scope form taken rest old new (Err Memory) = Keeps old new
+AnswersFollowed r scope form taken rest old new (Err Write) = AnswersReadBy r scope form taken old new (Err Write)
+AnswersFollowed r scope form taken rest old new (Err TooLong) = ((events : List At) × IsTooLong r scope taken events) × Keeps old new
+AnswersFollowed r scope form taken rest old new (Err Read) = Keeps old new

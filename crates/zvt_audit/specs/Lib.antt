@@ -1,10 +1,12 @@
 pub mod Audited
 pub mod Booked
+pub mod ByControl
 pub mod Currencies
 pub mod Ends
 pub mod Happened
 pub mod Heard
 pub mod Json
+pub mod Laws
 pub mod Orders
 pub mod Sums
 pub mod Line

@@ -1,6 +1,8 @@
 -- Which sides of the line sent a till's orders, and whether one moves money that the books don't follow.
-use Rattle.std.specs.Prelude.{◌≡◌, ℕ, Bool, true, false, not, ◌&&◌, ◌||◌, List, [], ◌∷◌, nat_eq, nat_lt, refl, slice_index}
+use Rattle.std.specs.Prelude.{◌≡◌, ℕ, Bool, true, false, not, is_some, ◌&&◌, ◌||◌, List, [], ◌∷◌, nat_eq, nat_lt, refl, slice_index}
 use Rattle.std.specs.List.{list_any}
+use Rattle.zvt_field.specs.Grammar.{plain}
+use Rattle.zvt_field.specs.Named.{amount_of}
 use Rattle.zvt_apdu.specs.Message.{Message, ack, nack, registration, authorisation, reversal, end_of_day, abort_order, status, intermediate, print_line, text_block, completion, abort, other}
 use Rattle.zvt_apdu.specs.Views.{control_of}
 use Rattle.zvt_trace.specs.TraceEvent.{At, TraceEvent, on}
@@ -52,8 +54,25 @@ are_swapped events = not (orders_from FromTill events) && orders_from FromTermin
 abbrev pub moves_apart : (control : List ℕ) → Bool
 moves_apart control = nat_eq (slice_index control 0) 0x06 && (nat_eq (slice_index control 1) 0x31 || (nat_lt 0x21 (slice_index control 1) && nat_lt (slice_index control 1) 0x26))
 
+-- a payment whose amount is not known: none, two, or zero
+abbrev pub pays_unknown : Message → Bool
+pays_unknown (ack payload) = false
+pays_unknown (nack code payload) = false
+pays_unknown (registration password config rest) = false
+pays_unknown (authorisation fields) = not (is_some (amount_of fields))
+pays_unknown (reversal password fields) = false
+pays_unknown (end_of_day password fields) = false
+pays_unknown (abort_order fields) = false
+pays_unknown (status fields) = false
+pays_unknown (intermediate step payload) = false
+pays_unknown (print_line attribute text) = false
+pays_unknown (text_block fields) = false
+pays_unknown (completion fields) = false
+pays_unknown (abort code payload) = false
+pays_unknown (other high low payload) = false
+
 abbrev pub is_unfollowed_from : Direction → Message → Bool
-is_unfollowed_from FromTill message = moves_apart (control_of message)
+is_unfollowed_from FromTill message = moves_apart (control_of message) || pays_unknown message
 is_unfollowed_from FromTerminal message = false
 
 -- the event is such an order of the till
@@ -93,6 +112,15 @@ the_last_of_a_reservation = refl
 
 a_diagnosis : has_unfollowed (sent_by FromTill 0x70 ∷ sent_by FromTill 0x26 ∷ sent_by FromTill 0x21 ∷ []) ≡ false
 a_diagnosis = refl
+
+abbrev a_payment_of : List ℕ → At
+a_payment_of amount = on 1 (trace_event.message FromTill (authorisation (plain 0x04 amount ∷ [])))
+
+a_known_amount : has_unfollowed (a_payment_of (0 ∷ 0 ∷ 0 ∷ 0 ∷ 0x12 ∷ 0x34 ∷ []) ∷ []) ≡ false
+a_known_amount = refl
+
+no_amount : has_unfollowed (on 1 (trace_event.message FromTill (authorisation [])) ∷ []) ≡ true
+no_amount = refl
 
 -- a terminal gives no orders
 an_echo : has_unfollowed (sent_by FromTerminal 0x31 ∷ on 2 trace_event.lost ∷ []) ≡ false

@@ -4,10 +4,12 @@ ghost use Rattle.std.specs.Io.KnownBytes.{Consumes};
 ghost use Rattle.zvt_grammar.specs.Lengths.{reading_of};
 ghost use Rattle.zvt_grammar.specs.Reading.{Reading};
 ghost use Rattle.zvt_trace.specs.Written.{limit};
+ghost use Rattle.zvt_trace.specs.declared.listener.Scope.{Scope};
 ghost use Rattle.zvt_audit.specs.Audited.{AnswersFollowed, AnswersReadBy};
 ghost use Rattle.zvt_audit.specs.Heard.{AnswersHearing, AnswersTurn, HasAudited, IsAuditing};
 
 use crate::auditor::Auditor;
+use crate::by_control::ByControl;
 use crate::summary::{AuditSummary, connected, write_books};
 use std::alloc::{AllocError, Global};
 use zvt_grammar::Lengths;
@@ -27,28 +29,34 @@ const CHUNK: usize = 65_536;
 pub fn follow_audit<R: Source, W: Sink>(
     alloc: Global,
     form: Form,
+    scope: Scope,
     lengths: Lengths,
     reader: &mut R,
     writer: &mut W,
 ) -> Result<AuditSummary, TraceFault>
     ensures follows { (taken : List ℕ) × Consumes (R.remaining reader.old) (R.remaining reader.new) taken
-        × AnswersFollowed (reading_of lengths) form taken (R.remaining reader.new) (W.written writer.old)
+        × AnswersFollowed (reading_of lengths) scope form taken (R.remaining reader.new) (W.written writer.old)
         (W.written writer.new) result }
     ensures read { result ≡ Err TraceFault.Read → R.failures reader.old < R.failures reader.new }
     ensures write { result ≡ Err TraceFault.Write → W.failures writer.old < W.failures writer.new }
 {
-    let audit = hear_all(alloc, lengths, reader)?;
+    let audit = hear_all(alloc, scope, lengths, reader)?;
     audit.finish(alloc, form, writer)
 }
 
 /// Audits everything that the reader returns.
-fn hear_all<R: Source>(alloc: Global, lengths: Lengths, reader: &mut R) -> Result<Audit, TraceFault>
+fn hear_all<R: Source>(
+    alloc: Global,
+    scope: Scope,
+    lengths: Lengths,
+    reader: &mut R,
+) -> Result<Audit, TraceFault>
     ensures hears { (taken : List ℕ) × Consumes (R.remaining reader.old) (R.remaining reader.new) taken
-        × AnswersHearing (reading_of lengths) taken (R.remaining reader.new) result }
+        × AnswersHearing (reading_of lengths) scope taken (R.remaining reader.new) result }
     ensures ready { IfOk result IsAuditing }
     ensures read { result ≡ Err TraceFault.Read → R.failures reader.old < R.failures reader.new }
 {
-    let mut audit = Audit::new(alloc, lengths)?;
+    let mut audit = Audit::new(alloc, scope, lengths)?;
     let mut buffer = [0; CHUNK];
     for _turn in 0..u64::MAX {
         let taken = read_chunk(reader, &mut buffer)?;
@@ -63,20 +71,23 @@ fn hear_all<R: Source>(alloc: Global, lengths: Lengths, reader: &mut R) -> Resul
 /// An audit of a trace that arrives in chunks.
 #[derive(Drop)]
 pub struct Audit {
-    auditor: Auditor,
+    auditor: ByControl<Auditor>,
     walker: Walker,
 }
 
 impl Audit {
-    /// Starts the audit of a connected till. Its streams accept the given forms of length.
-    pub fn new(alloc: Global, lengths: Lengths) -> Result<Audit, AllocError>
-        ensures heard { IfOk result (λ audit. HasAudited (reading_of lengths) [] audit) }
+    /// Starts the audit of a connected till. `scope` says how much is not read after a refused message, as for
+    /// [`audit_trace`], and `lengths` selects the accepted forms of length.
+    ///
+    /// [`audit_trace`]: crate::audit_trace
+    pub fn new(alloc: Global, scope: Scope, lengths: Lengths) -> Result<Audit, AllocError>
+        ensures heard { IfOk result (λ audit. HasAudited (reading_of lengths) scope [] audit) }
         ensures ready { IfOk result IsAuditing }
     {
-        let auditor = connected(alloc)?;
+        let auditor = connected(alloc, scope)?;
         Ok(Audit {
             auditor,
-            walker: Walker::new(alloc, Scope::WholeLine, lengths),
+            walker: Walker::new(alloc, scope, lengths),
         })
     }
 
@@ -84,8 +95,8 @@ impl Audit {
     pub fn feed(&mut self, chunk: &[u8]) -> Result<(), TraceFault>
         requires ready { IsAuditing self.old }
         requires few { length chunk.now ≤ limit }
-        ensures hears { (r : Reading) (bytes : List ℕ) → HasAudited r bytes self.old
-            → AnswersTurn r (bytes ++ chunk.now) self.new result }
+        ensures hears { (r : Reading) (scope : Scope) (bytes : List ℕ) → HasAudited r scope bytes self.old
+            → AnswersTurn r scope (bytes ++ chunk.now) self.new result }
         ensures ready { OnOk result (IsAuditing self.new) }
     {
         self.walker.feed(&mut self.auditor, chunk)
@@ -99,10 +110,10 @@ impl Audit {
         writer: &mut W,
     ) -> Result<AuditSummary, TraceFault>
         requires ready { IsAuditing self }
-        ensures writes { (r : Reading) (bytes : List ℕ) → HasAudited r bytes self → AnswersReadBy r form bytes
-            (W.written writer.old) (W.written writer.new) result }
-        ensures write { result ≡ Err TraceFault.Write → (r : Reading) (bytes : List ℕ) → HasAudited r bytes self
-            → W.failures writer.old < W.failures writer.new }
+        ensures writes { (r : Reading) (scope : Scope) (bytes : List ℕ) → HasAudited r scope bytes self
+            → AnswersReadBy r scope form bytes (W.written writer.old) (W.written writer.new) result }
+        ensures write { result ≡ Err TraceFault.Write → (r : Reading) (scope : Scope) (bytes : List ℕ)
+            → HasAudited r scope bytes self → W.failures writer.old < W.failures writer.new }
     {
         let Audit {
             mut auditor,

@@ -3,11 +3,13 @@
 
 mod auditor;
 mod booked;
+mod by_control;
 mod currencies;
 mod ends;
 mod follow;
 mod form;
 mod happened;
+pub mod laws;
 mod line;
 mod objects;
 mod orders;
@@ -15,6 +17,6 @@ mod sum;
 mod summary;
 
 pub use follow::{Audit, follow_audit};
-pub use line::{LineAudit, LineBooks};
+pub use line::{LineAudit, LineBooks, line_scope};
 pub use sum::Sum;
 pub use summary::{AuditSummary, audit_trace};

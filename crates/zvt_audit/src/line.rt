@@ -1,27 +1,29 @@
 //! The books of a running line.
-ghost use Rattle.std.specs.Prelude.{List, ℕ, IfOk};
+ghost use Rattle.std.specs.Prelude.{◌≡◌, Bool, List, ℕ, IfOk};
 ghost use Rattle.std.specs.Str.Lines.{lines};
 ghost use Rattle.zvt_grammar.specs.Reading.{Reading};
 ghost use Rattle.zvt_trace.specs.Emitting.{WholeTrace};
 ghost use Rattle.zvt_trace.specs.Listening.{HearsAll};
 ghost use Rattle.zvt_trace.specs.TraceEvent.{At};
-ghost use Rattle.zvt_trace.specs.declared.listener.Scope.TheVariants.{OneSide};
-ghost use Rattle.zvt_audit.specs.Line.{AnswersLine, IsNew, hears_line};
+ghost use Rattle.zvt_audit.specs.Line.{AnswersLine, IsNew, hears_line, line_scope};
 
 use crate::auditor::Auditor;
+use crate::by_control::ByControl;
 use crate::summary::{connected, write_books};
 use std::alloc::{AllocError, Global};
 use zvt_io::Sink;
 use zvt_text::Form;
-use zvt_trace::{Listener, ListenerError, Tally, TraceEvent, TraceFault, UntilRefused};
+use zvt_trace::{Listener, ListenerError, Scope, Tally, TraceEvent, TraceFault, UntilRefused};
 
-/// Derives the books of a line from its events in the scope `OneSide`. They are those that [`audit_trace`] derives from
-/// the line's trace: after a refusal nothing is heard until the connection is lost.
+/// Derives the books of a running line: those that [`audit_trace`] derives from the line's trace.
+///
+/// The events come in the scope `OneSide`, and after a refusal nothing is heard until the connection is lost. If the
+/// line is read on after a refused message, they come in the scope `OneMessage`.
 ///
 /// [`audit_trace`]: crate::audit_trace
 #[derive(Drop)]
 pub struct LineAudit {
-    auditor: UntilRefused<Auditor>,
+    auditor: ByControl<UntilRefused<Auditor>>,
 }
 
 /// What the audit of a line finds, apart from its books.
@@ -35,40 +37,71 @@ pub struct LineBooks {
     pub swapped: bool,
     /// Whether the till sent an order that moves money and that the books do not follow.
     pub unfollowed: bool,
+    /// The number of refused messages that were passed over and known by their control bytes alone. It saturates.
+    pub passed: u64,
 }
 
 impl LineAudit {
-    /// Starts the audit of a connected till.
-    pub fn new(alloc: Global) -> Result<LineAudit, AllocError>
-        ensures { IfOk result IsNew }
+    /// Starts the audit of a connected till. `reads_on` says whether its line is read on after a refused message.
+    pub fn new(alloc: Global, reads_on: bool) -> Result<LineAudit, AllocError>
+        ensures { IfOk result (IsNew reads_on) }
     {
-        let auditor = connected(alloc)?;
+        let scope = line_scope(reads_on);
+        let audit = connected(alloc, scope)?;
         Ok(LineAudit {
-            auditor: UntilRefused {
-                listener: auditor,
-                is_refused: false,
+            auditor: ByControl {
+                listener: UntilRefused {
+                    listener: audit.listener,
+                    is_refused: false,
+                },
+                scope,
+                passed: 0,
             },
         })
     }
 
     /// Writes the books of a line that has ended.
     pub fn finish<W: Sink>(self, alloc: Global, writer: &mut W) -> Result<LineBooks, TraceFault>
-        ensures { (r : Reading) (trace : List ℕ) (events : List At) (start : LineAudit) → IsNew start
-            → WholeTrace r OneSide (lines trace) events → HearsAll hears_line start events self
-            → AnswersLine r trace (W.written writer.old) (W.written writer.new) result }
+        ensures { (r : Reading) (reads_on : Bool) (trace : List ℕ) (events : List At) (start : LineAudit)
+            → IsNew reads_on start → WholeTrace r (line_scope reads_on) (lines trace) events
+            → HearsAll hears_line start events self
+            → AnswersLine r reads_on trace (W.written writer.old) (W.written writer.new) result }
     {
         // The text of books has no tally.
         let none = Tally {
             messages: 0,
             bad: 0,
         };
-        let found = write_books(alloc, Form::Text, self.auditor.listener, none, writer)?;
+        let ByControl {
+            listener,
+            scope,
+            passed,
+        } = self.auditor;
+        let audit = ByControl {
+            listener: listener.listener,
+            scope,
+            passed,
+        };
+        let found = write_books(alloc, Form::Text, audit, none, writer)?;
         Ok(LineBooks {
             total: found.total,
             unclear: found.unclear,
             swapped: found.swapped,
             unfollowed: found.unfollowed,
+            passed: found.passed,
         })
+    }
+}
+
+/// Returns how much is not read after a refused message of a running line: the message if the line is read on, else
+/// its side.
+pub fn line_scope(reads_on: bool) -> Scope
+    ensures { result ≡ line_scope reads_on }
+{
+    if reads_on {
+        Scope::OneMessage
+    } else {
+        Scope::OneSide
     }
 }
 

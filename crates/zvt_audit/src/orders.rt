@@ -1,7 +1,7 @@
 //! Records which sides of the line sent orders, and whether an order moves money that the books do not follow.
 ghost use Rattle.std.specs.Prelude.{◌≡◌, false, not, ◌&&◌};
 ghost use Rattle.zvt_apdu.specs.Views.{control_of};
-ghost use Rattle.zvt_audit.specs.Orders.{is_order, moves_apart, noticed};
+ghost use Rattle.zvt_audit.specs.Orders.{is_order, moves_apart, noticed, pays_unknown};
 ghost use Rattle.zvt_trace.specs.TraceEvent as trace_event;
 
 use zvt_apdu::{ApduView, Kind};
@@ -12,7 +12,7 @@ use zvt_trace::Direction;
 pub(crate) struct Orders {
     pub(crate) till: bool,
     pub(crate) terminal: bool,
-    /// Whether the till sent a refund or an order of a pre-authorisation.
+    /// Whether the till sent a refund, an order of a pre-authorisation, or a payment without an amount.
     pub(crate) unfollowed: bool,
 }
 
@@ -37,7 +37,7 @@ impl Orders {
                 if is_order(apdu) {
                     self.till = true;
                 }
-                if moves_apart(apdu) {
+                if moves_apart(apdu) || pays_unknown(apdu) {
                     self.unfollowed = true;
                 }
             }
@@ -81,4 +81,17 @@ fn moves_apart(apdu: &ApduView<'_>) -> bool
 {
     let [high, low] = apdu.control();
     high == 0x06 && (low == 0x31 || (low > 0x21 && low < 0x26))
+}
+
+/// Whether this message of a till is a payment whose amount is not known.
+fn pays_unknown(apdu: &ApduView<'_>) -> bool
+    ensures { result ≡ pays_unknown apdu.now }
+{
+    match apdu.kind() {
+        Kind::Authorisation => match apdu.fields() {
+            Some(fields) => fields.amount().is_none(),
+            None => true,
+        },
+        _ => false,
+    }
 }

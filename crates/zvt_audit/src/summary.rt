@@ -4,11 +4,12 @@ ghost use Rattle.zvt_grammar.specs.Lengths.{reading_of};
 ghost use Rattle.zvt_trace.specs.Written.{limit};
 ghost use Rattle.zvt_till.specs.Judging.{HasJudged};
 ghost use Rattle.zvt_till.specs.declared.happenings.Happening.{Happening};
-ghost use Rattle.zvt_audit.specs.Audited.{AnswersBooks, AnswersReadBy, IsConnected};
+ghost use Rattle.zvt_audit.specs.Audited.{AnswersBooks, AnswersReadBy, StartsIn};
 ghost use Rattle.zvt_audit.specs.Currencies.{agreed};
 ghost use Rattle.zvt_audit.specs.Ends.{lines_of};
 
 use crate::auditor::Auditor;
+use crate::by_control::ByControl;
 use crate::currencies::NamedCurrency;
 use crate::ends::Ends;
 use crate::orders::Orders;
@@ -30,48 +31,57 @@ pub struct AuditSummary {
     pub unclear: u64,
     /// Whether orders came only from the side that is marked as the terminal's.
     pub swapped: bool,
-    /// Whether the till sent an order that moves money and that the books do not follow: a refund, or an order of a
-    /// pre-authorisation.
+    /// Whether the till sent an order that moves money and that the books do not follow: a refund, an order of a
+    /// pre-authorisation, or a payment without an amount.
     pub unfollowed: bool,
+    /// The number of refused messages that were passed over and known by their control bytes alone. It saturates.
+    pub passed: u64,
 }
 
 /// Writes the books of the trace: one line per completed payment, then one per unclear payment, then the total of the
 /// completed ones in the smallest unit of the currency. Payments that were taken back count too. `lengths` selects the
 /// accepted forms of length.
 ///
-/// The till's orders and the terminal's messages are read as the log of a till that starts connected. After refused
-/// bytes of either side, neither side is read until the connection is lost. A stream that is refused or cut
-/// off counts as bad.
+/// The till's orders and the terminal's messages are read as the log of a till that starts connected. `scope` says how
+/// much is not read after a refused message. With `WholeLine`, neither side is read until the connection is lost, and
+/// the line was malformed. With `OneMessage`, its side is read on after the message, which is known by its control
+/// bytes alone. With `OneSide`, its side is not read until the connection is lost. A stream that is refused or cut off
+/// counts as bad.
 ///
 /// Writes the text once, at the end. Writes nothing if a line can't be read or an allocation fails.
 pub fn audit_trace<W: Sink>(
     alloc: Global,
     form: Form,
+    scope: Scope,
     lengths: Lengths,
     trace: &[u8],
     writer: &mut W,
 ) -> Result<AuditSummary, TraceFault>
     requires { length trace.now ≤ limit }
-    ensures writes { AnswersReadBy (reading_of lengths) form trace.now (W.written writer.old)
+    ensures writes { AnswersReadBy (reading_of lengths) scope form trace.now (W.written writer.old)
         (W.written writer.new) result }
     ensures write { result ≡ Err TraceFault.Write → W.failures writer.old < W.failures writer.new }
 {
-    let mut auditor = connected(alloc)?;
-    let tally = walk(&mut auditor, alloc, Scope::WholeLine, lengths, trace)?;
-    write_books(alloc, form, auditor, tally, writer)
+    let mut audit = connected(alloc, scope)?;
+    let tally = walk(&mut audit, alloc, scope, lengths, trace)?;
+    write_books(alloc, form, audit, tally, writer)
 }
 
-/// Creates an auditor of a connected till that has heard nothing.
-pub(crate) fn connected(alloc: Global) -> Result<Auditor, AllocError>
-    ensures { IfOk result IsConnected }
+/// Creates an auditor of a connected till that has heard nothing. It hears events in this scope.
+pub(crate) fn connected(alloc: Global, scope: Scope) -> Result<ByControl<Auditor>, AllocError>
+    ensures { IfOk result (StartsIn scope) }
 {
     let mut books = Bookkeeping::new(alloc);
     books.take(&Happening::Connected)?;
-    Ok(Auditor {
-        books,
-        orders: Orders::none(),
-        named: NamedCurrency::none(),
-        ends: Ends::none(alloc),
+    Ok(ByControl {
+        listener: Auditor {
+            books,
+            orders: Orders::none(),
+            named: NamedCurrency::none(),
+            ends: Ends::none(alloc),
+        },
+        scope,
+        passed: 0,
     })
 }
 
@@ -79,16 +89,21 @@ pub(crate) fn connected(alloc: Global) -> Result<Auditor, AllocError>
 pub(crate) fn write_books<W: Sink>(
     alloc: Global,
     form: Form,
-    auditor: Auditor,
+    audit: ByControl<Auditor>,
     tally: Tally,
     writer: &mut W,
 ) -> Result<AuditSummary, TraceFault>
-    ensures writes { (log : List Happening) → HasJudged log auditor.books → AnswersBooks form log tally
-        auditor.orders (agreed auditor.named) (lines_of auditor.ends) (W.written writer.old)
-        (W.written writer.new) result }
+    ensures writes { (log : List Happening) → HasJudged log audit.listener.books → AnswersBooks form log tally
+        audit.listener.orders (agreed audit.listener.named) (lines_of audit.listener.ends) audit.passed
+        (W.written writer.old) (W.written writer.new) result }
     ensures write { result ≡ Err TraceFault.Write → W.failures writer.old < W.failures writer.new }
     ensures read { result ≡ Err TraceFault.Read → ⊥ }
 {
+    let ByControl {
+        listener: auditor,
+        passed,
+        ..
+    } = audit;
     let swapped = auditor.orders.are_swapped();
     let unfollowed = auditor.orders.unfollowed;
     let currency = auditor.named.agreed();
@@ -102,5 +117,6 @@ pub(crate) fn write_books<W: Sink>(
         unclear: found.unclear.len() as u64,
         swapped,
         unfollowed,
+        passed,
     })
 }

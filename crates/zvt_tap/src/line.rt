@@ -1,5 +1,5 @@
 //! A line that is tapped, from its start to its end.
-ghost use Rattle.std.specs.Prelude.{◌≡◌, ◌+◌, ◌++◌, ◌∷◌, [], codes, ℕ, List, Option};
+ghost use Rattle.std.specs.Prelude.{◌≡◌, ◌+◌, ◌++◌, ◌∷◌, [], codes, ℕ, Bool, List, Option};
 ghost use Rattle.zvt_grammar.specs.Reading.{Reading};
 ghost use Rattle.zvt_tap.specs.Chunks.{sides};
 ghost use Rattle.zvt_tap.specs.Log.{FoundStopped, HasFound, HasObserved, ended_trace};
@@ -29,12 +29,12 @@ pub fn tap_line<L: Readiness, R: Source, W: Sink, T: Sink + Drop, O: Sink + Drop
     ends: &mut Ends<R, W>,
     log: TapLog<T, O>,
 ) -> Tapped<T, O>
-    ensures tapped { (r : Reading) (first held : Option (List ℕ)) → HasObserved T.written O.written r [] first held
-        log.recorder log.watcher → AnswersRelay
-        (λ chunks. HasFound r (ended_trace chunks) first held result.found.tracing.failed
+    ensures tapped { (r : Reading) (reads_on : Bool) (first held : Option (List ℕ))
+        → HasObserved T.written O.written r reads_on [] first held log.recorder log.watcher → AnswersRelay
+        (λ chunks. HasFound r reads_on (ended_trace chunks) first held result.found.tracing.failed
         (traced_by T.written result.found.tracing.trace) (O.written result.found.output) result.found.shown
         result.found.audited)
-        (FoundStopped (λ trace. HasFound r trace first held result.found.tracing.failed
+        (FoundStopped (λ trace. HasFound r reads_on trace first held result.found.tracing.failed
         (traced_by T.written result.found.tracing.trace) (O.written result.found.output) result.found.shown
         result.found.audited) result.found.tracing.failed)
         (sides (R.remaining ends.old.till) (R.remaining ends.old.terminal) (W.written ends.old.to_terminal)

@@ -1,5 +1,5 @@
 //! The log of a line: its trace, the text shown, and the audit.
-ghost use Rattle.std.specs.Prelude.{◌≡◌, ◌++◌, ◌∷◌, [], codes, ℕ, List, Option, IfOk};
+ghost use Rattle.std.specs.Prelude.{◌≡◌, ◌++◌, ◌∷◌, [], codes, ℕ, Bool, List, Option, IfOk};
 ghost use Rattle.zvt_grammar.specs.Lengths.{reading_of};
 ghost use Rattle.zvt_grammar.specs.Reading.{Reading};
 ghost use Rattle.zvt_tap.specs.Heard.{AnswersHeard, HasAudited};
@@ -9,14 +9,15 @@ ghost use Rattle.zvt_tap.specs.Traced.{FailsOnlyIf, HasTraced, failures_by, trac
 use crate::tracing::Tracing;
 use crate::watched::Watched;
 use std::alloc::{AllocError, Global};
-use zvt_audit::{LineAudit, LineBooks};
+use zvt_audit::{LineAudit, LineBooks, line_scope};
 use zvt_grammar::Lengths;
 use zvt_io::Sink;
 use zvt_show::{Shown, ShownToEnd, Style};
+use zvt_text::Privacy;
 use zvt_trace::{Tally, TraceFault};
 
-/// The log of a line: a trace, and on an output the text that `show` prints for the trace, followed by its audit. The
-/// bytes are decoded once, for the text and for the audit. Each of the three stops at its own failure, and the others
+/// The log of a line: a trace, and on an output the text that `show --safe` prints for the trace, followed by its audit.
+/// The bytes are decoded once, for the text and for the audit. Each of the three stops at its own failure, and the others
 /// continue. Without memory to decode a chunk both the text and the audit stop.
 pub type TapLog<T, O> = Watched<Tracing<T>, Shown<O, LineAudit>>;
 
@@ -30,22 +31,32 @@ pub struct Found<T, O> {
     pub audited: Result<LineBooks, TraceFault>,
 }
 
-/// The log of a line whose messages have such lengths. It has observed nothing.
+/// Creates the log of a line that has observed nothing. `reads_on` says whether a side is read on after a refused
+/// message, and `lengths` selects the accepted forms of length.
 pub fn new_log<T: Sink + Drop, O: Sink + Drop>(
     alloc: Global,
+    reads_on: bool,
     lengths: Lengths,
     tracing: Tracing<T>,
     output: O,
 ) -> Result<TapLog<T, O>, AllocError>
     ensures observed { (first : Option (List ℕ)) → HasTraced tracing.failed [] first
         (traced_by T.written tracing.trace) → IfOk result (λ log. HasObserved T.written O.written (reading_of lengths)
-        [] first (O.written output) log.recorder log.watcher) }
+        reads_on [] first (O.written output) log.recorder log.watcher) }
     ensures tracing { IfOk result (λ log. log.recorder ≡ tracing) }
 {
-    let audit = LineAudit::new(alloc)?;
+    let scope = line_scope(reads_on);
+    let audit = LineAudit::new(alloc, reads_on)?;
     Ok(Watched {
         recorder: tracing,
-        watcher: Shown::new(alloc, Style::Show, lengths, output, audit),
+        watcher: Shown::new(
+            alloc,
+            Style::Show(Privacy::Safe),
+            scope,
+            lengths,
+            output,
+            audit,
+        ),
     })
 }
 
@@ -54,9 +65,9 @@ pub(crate) fn end_log<T: Sink + Drop, O: Sink + Drop>(
     alloc: Global,
     log: TapLog<T, O>,
 ) -> Found<T, O>
-    ensures found { (r : Reading) (trace : List ℕ) (first held : Option (List ℕ)) → HasObserved T.written O.written r
-        trace first held log.recorder log.watcher
-        → HasFound r (trace ++ (codes "!" ++ 10 ∷ [])) first held result.tracing.failed
+    ensures found { (r : Reading) (reads_on : Bool) (trace : List ℕ) (first held : Option (List ℕ))
+        → HasObserved T.written O.written r reads_on trace first held log.recorder log.watcher
+        → HasFound r reads_on (trace ++ (codes "!" ++ 10 ∷ [])) first held result.tracing.failed
         (traced_by T.written result.tracing.trace) (O.written result.output) result.shown result.audited }
     ensures failed { FailsOnlyIf log.recorder.failed result.tracing.failed (failures_by T.failures log.recorder.trace)
         (failures_by T.failures result.tracing.trace) }
@@ -84,8 +95,8 @@ fn write_books<O: Sink>(
     audit: Result<LineAudit, TraceFault>,
     output: &mut O,
 ) -> Result<LineBooks, TraceFault>
-    ensures { (r : Reading) (trace : List ℕ) → HasAudited r trace audit → AnswersHeard r trace
-        (O.written output.old) (O.written output.new) result }
+    ensures { (r : Reading) (reads_on : Bool) (trace : List ℕ) → HasAudited r reads_on trace audit
+        → AnswersHeard r reads_on trace (O.written output.old) (O.written output.new) result }
 {
     match audit {
         Ok(audit) => audit.finish(alloc, output),

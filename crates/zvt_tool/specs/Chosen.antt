@@ -11,7 +11,7 @@ use Rattle.zvt_tool.specs.PlayOptions.{AreCheckOptionsOf, ArePlayOptionsOf}
 use Rattle.zvt_tool.specs.TapOptions.{AreTapOptionsOf}
 use Rattle.zvt_tool.specs.TerminalOptions.{AreTerminalOptionsOf}
 use Rattle.zvt_tool.specs.TillOptions.{AreTillOptionsOf}
-use Rattle.zvt_tool.specs.TraceCommands.{IsAudit, IsRendering, IsTraceCommandOf, IsVectors}
+use Rattle.zvt_tool.specs.TraceCommands.{IsAudit, IsRendering, IsShow, IsTraceCommandOf, IsVectors}
 use Rattle.zvt_tool.specs.declared.choices.Choice.{Choice}
 use Rattle.zvt_tool.specs.declared.choices.Choice.TheVariants.{Audit, Book, CheckTerminal, CheckTill, Join, Loop, Normalise, Play, Receipts, Show, Tap, Terminal, Till, Vectors}
 use Rattle.zvt_tool.specs.declared.choices.ChoiceFault.{ChoiceFault}
@@ -28,7 +28,7 @@ faults_of_arguments words = fault_of zvt_app words
 
 -- the command with this name and these arguments is the choice
 abbrev pub IsCommandOf : Text → List Row → Choice → Type 0
-IsCommandOf name rows (Show command) = (name ≡ codes "show") × IsRendering rows style.Show style.Json command
+IsCommandOf name rows (Show command) = (name ≡ codes "show") × IsShow rows command
 IsCommandOf name rows (Join command) = (name ≡ codes "join") × IsTraceCommandOf rows (Render style.Join) Shortest command
 IsCommandOf name rows (Normalise command) = (name ≡ codes "normalise") × IsTraceCommandOf rows (Render style.Join) Padded command
 IsCommandOf name rows (Audit command) = (name ≡ codes "audit") × IsAudit rows command

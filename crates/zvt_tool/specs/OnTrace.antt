@@ -5,7 +5,7 @@ use Rattle.std.specs.Str.Lines.{lines}
 use Rattle.zvt_grammar.specs.Reading.{Reading}
 use Rattle.zvt_grammar.specs.Lengths.{reading_of}
 use Rattle.zvt_trace.specs.declared.listener.Scope.{Scope}
-use Rattle.zvt_tool.specs.TraceCommands.{text_scope}
+use Rattle.zvt_tool.specs.TraceCommands.{work_scope}
 use Rattle.zvt_tool.specs.declared.trace_command.TraceCommand.{TraceCommand}
 use Rattle.zvt_tool.specs.declared.trace_command.TraceWork.{TraceWork}
 use Rattle.zvt_tool.specs.declared.trace_command.TraceWork.TheVariants.{Render, Audit, Vectors}
@@ -24,19 +24,19 @@ tally_of (Err fault) = Err fault
 -- the result and the output for a trace, with these lengths
 abbrev pub AnswersWork : TraceWork → Reading → Scope → (trace : List ℕ) → (old new : Option (List ℕ)) → Result AuditSummary TraceFault → Type 0
 AnswersWork (Render style) r scope trace old new result = AnswersLinesBy r scope style (lines trace) old new (tally_of result)
-AnswersWork (Audit form) r scope trace old new result = AnswersReadBy r form trace old new result
+AnswersWork (Audit form) r scope trace old new result = AnswersReadBy r scope form trace old new result
 AnswersWork (Vectors form) r scope trace old new result = AnswersVectors form trace old new (tally_of result)
 
 -- the result of the command for a trace that was read
 abbrev pub AnswersOnTrace : TraceCommand → (trace : List ℕ) → (old new : Option (List ℕ)) → Result AuditSummary TraceFault → Type 0
-AnswersOnTrace command trace old new result = AnswersWork command.work (reading_of command.lengths) (text_scope command.resync) trace old new result
+AnswersOnTrace command trace old new result = AnswersWork command.work (reading_of command.lengths) (work_scope command.work command.reads_on) trace old new result
 
 -- the result and the output for a trace that is being read, with these lengths; vectors are read completely first
 abbrev pub FollowsWork : TraceWork → Reading → Scope → (left rest old new : Option (List ℕ)) → Result AuditSummary TraceFault → Type 0
 FollowsWork (Render style) r scope left rest old new result = (taken : List ℕ) × Consumes left rest taken × AnswersFollow r scope style taken rest old new (tally_of result)
-FollowsWork (Audit form) r scope left rest old new result = (taken : List ℕ) × Consumes left rest taken × AnswersFollowed r form taken rest old new result
+FollowsWork (Audit form) r scope left rest old new result = (taken : List ℕ) × Consumes left rest taken × AnswersFollowed r scope form taken rest old new result
 FollowsWork (Vectors form) r scope left rest old new result = IfSome left (λ text. AnswersVectors form text old new (tally_of result))
 
 -- the result of the command for a trace that is being read
 abbrev pub FollowsTrace : TraceCommand → (left rest old new : Option (List ℕ)) → Result AuditSummary TraceFault → Type 0
-FollowsTrace command left rest old new result = FollowsWork command.work (reading_of command.lengths) (text_scope command.resync) left rest old new result
+FollowsTrace command left rest old new result = FollowsWork command.work (reading_of command.lengths) (work_scope command.work command.reads_on) left rest old new result

@@ -14,6 +14,7 @@ tap_app = command_app (codes "tap") (
     flag_rule (codes "trace-required") ∷
     number_rule (codes "connections") (codes "1") ∷
     flag_rule (codes "loose") ∷
+    flag_rule (codes "open") ∷
     [])
 
 -- the options in the parsed words
@@ -24,3 +25,4 @@ pub record AreTapOptionsOf (rows : List Row) (options : TapOptions) : Type 0 whe
   pub trace_required : IsFlagOf (codes "trace-required") rows options.trace_required
   pub connections : GivesNumber (codes "connections") rows 65535 options.connections
   pub loose : IsFlagOf (codes "loose") rows options.loose
+  pub reads_on : IsFlagOf (codes "open") rows options.reads_on

@@ -13,7 +13,7 @@ till_app = command_app (codes "till") (
     option_rule (codes "password") ∷
     option_rule (codes "config") ∷
     option_rule (codes "currency") ∷
-    number_rule (codes "timeout") (codes "60") ∷
+    number_rule (codes "timeout") (codes "180") ∷
     option_rule (codes "trace") ∷
     option_rule (codes "book") ∷
     flag_rule (codes "check") ∷

@@ -1,5 +1,5 @@
 -- The commands on traces.
-use Rattle.std.specs.Prelude.{◌≡◌, ◌∷◌, [], Bool, true, false, List, codes, map}
+use Rattle.std.specs.Prelude.{◌≡◌, ◌∷◌, [], ◌||◌, Bool, true, false, List, codes, map}
 use Rattle.clap.specs.Words.{App, Row, Rule}
 use Rattle.zvt_grammar.specs.declared.lengths.Lengths.{Lengths}
 use Rattle.zvt_grammar.specs.declared.lengths.Lengths.TheVariants.{Shortest}
@@ -7,9 +7,9 @@ use Rattle.zvt_show.specs.declared.render.Style.{Style}
 use Rattle.zvt_show.specs.declared.render.Style.TheVariants.{Show, Join, Receipts, Json, JsonReceipts}
 use Rattle.zvt_text.specs.declared.form.Form.TheVariants as form
 use Rattle.zvt_trace.specs.declared.listener.Scope.{Scope}
-use Rattle.zvt_trace.specs.declared.listener.Scope.TheVariants.{OneMessage, OneSide}
+use Rattle.zvt_audit.specs.Line.{books_scope, line_scope}
 use Rattle.zvt_tool.specs.Given.{IsByFlag, IsFlagOf, words_of}
-use Rattle.zvt_tool.specs.Options.{command_app, flag_rule, form_by, lengths_by, several_rule}
+use Rattle.zvt_tool.specs.Options.{command_app, flag_rule, form_by, lengths_by, privacy_by, several_rule}
 use Rattle.zvt_tool.specs.declared.trace_command.TraceCommand.{TraceCommand}
 use Rattle.zvt_tool.specs.declared.trace_command.TraceWork.{TraceWork}
 use Rattle.zvt_tool.specs.declared.trace_command.TraceWork.TheVariants.{Render, Audit, Vectors}
@@ -20,7 +20,7 @@ style_by plain objects true = objects
 
 -- each line of the output is a JSON object
 abbrev pub is_json : TraceWork → Bool
-is_json (Render Show) = false
+is_json (Render (Show privacy)) = false
 is_json (Render Join) = false
 is_json (Render Receipts) = false
 is_json (Render Json) = true
@@ -30,10 +30,11 @@ is_json (Audit form.Json) = true
 is_json (Vectors form.Text) = false
 is_json (Vectors form.Json) = true
 
--- the part that is skipped after a refusal when text is written: the side, or only the refused message
-abbrev pub text_scope : (resync : Bool) → Scope
-text_scope false = OneSide
-text_scope true = OneMessage
+-- what is skipped after a refusal: the side, for an audit the whole line, and only the refused message if the line is read on
+abbrev pub work_scope : TraceWork → (reads_on : Bool) → Scope
+work_scope (Render style) reads_on = line_scope reads_on
+work_scope (Audit written) reads_on = books_scope reads_on
+work_scope (Vectors written) reads_on = line_scope reads_on
 
 -- ---- the options
 
@@ -47,7 +48,9 @@ show_app = command_app (codes "show") (
     flag_rule (codes "loose") ∷
     flag_rule (codes "json") ∷
     flag_rule (codes "follow") ∷
+    flag_rule (codes "open") ∷
     flag_rule (codes "resync") ∷
+    flag_rule (codes "safe") ∷
     [])
 
 abbrev pub join_app : App
@@ -63,6 +66,7 @@ audit_app = command_app (codes "audit") (
     flag_rule (codes "check") ∷
     flag_rule (codes "json") ∷
     flag_rule (codes "follow") ∷
+    flag_rule (codes "open") ∷
     [])
 
 abbrev pub receipts_app : App
@@ -71,6 +75,7 @@ receipts_app = command_app (codes "receipts") (
     flag_rule (codes "loose") ∷
     flag_rule (codes "json") ∷
     flag_rule (codes "follow") ∷
+    flag_rule (codes "open") ∷
     [])
 
 abbrev pub vectors_app : App
@@ -85,7 +90,7 @@ pub record IsTraceCommandOf (rows : List Row) (writes : TraceWork) (reads : Leng
   pub lengths : command.lengths ≡ reads
   pub check : IsFlagOf (codes "check") rows command.check
   pub follow : IsFlagOf (codes "follow") rows command.follow
-  pub resync : IsFlagOf (codes "resync") rows command.resync
+  pub reads_on : IsByFlag (codes "open") rows (λ by_name. IsByFlag (codes "resync") rows (λ by_other. command.reads_on ≡ (by_name || by_other)))
 
 -- the lengths and the form, by `--loose` and `--json`
 abbrev pub IsByForm : List Row → (Bool → TraceWork) → TraceCommand → Type 0
@@ -94,6 +99,10 @@ IsByForm rows work command = IsByFlag (codes "json") rows (λ json. IsByFlag (co
 -- this text, or the JSON objects
 abbrev pub IsRendering : List Row → (plain objects : Style) → TraceCommand → Type 0
 IsRendering rows plain objects = IsByForm rows (λ json. Render (style_by plain objects json))
+
+-- the text or its safe form, or the JSON objects
+abbrev pub IsShow : List Row → TraceCommand → Type 0
+IsShow rows command = IsByFlag (codes "safe") rows (λ safe. IsRendering rows (Show (privacy_by safe)) Json command)
 
 abbrev pub IsAudit : List Row → TraceCommand → Type 0
 IsAudit rows = IsByForm rows (λ json. Audit (form_by json))

@@ -54,6 +54,14 @@ pub const KEEP_BOOK: &str =
 
 pub const LOOSE: &str = "Accept padded lengths, as some terminals send them";
 
+pub const OPEN: &str =
+    "Read on after a refused message, at the end that its length announces: for terminals that send more than the \
+        payment profile";
+
+pub const OPEN_AUDIT: &str =
+    "Read on after a refused message, at the end that its length announces, and count it by its control bytes: for \
+        terminals that send more than the payment profile";
+
 pub const JSON: &str = "Print one JSON object per line";
 
 pub const FOLLOW: &str = "Read FILE as it grows, of any size, and print each line's text at once";

@@ -24,13 +24,13 @@ pub fn work_on_trace<W: Sink>(
     ensures writes { AnswersOnTrace command.now trace.now (W.written writer.old) (W.written writer.new) result }
     ensures write { result ≡ Err TraceFault.Write → W.failures writer.old < W.failures writer.new }
 {
+    let scope = command.scope();
     let lengths = command.lengths;
     match command.work {
         TraceWork::Render(style) => {
-            let scope = command.scope();
             found(render_trace(alloc, style, scope, lengths, trace, writer))
         }
-        TraceWork::Audit(form) => audit_trace(alloc, form, lengths, trace, writer),
+        TraceWork::Audit(form) => audit_trace(alloc, form, scope, lengths, trace, writer),
         TraceWork::Vectors(form) => found(vectors(alloc, form, &mut Over::new(trace), writer)),
     }
 }
@@ -47,13 +47,13 @@ pub fn follow_work<R: Source, W: Sink>(
     ensures read { result ≡ Err TraceFault.Read → R.failures reader.old < R.failures reader.new }
     ensures write { result ≡ Err TraceFault.Write → W.failures writer.old < W.failures writer.new }
 {
+    let scope = command.scope();
     let lengths = command.lengths;
     match command.work {
         TraceWork::Render(style) => {
-            let scope = command.scope();
             found(follow_trace(alloc, style, scope, lengths, reader, writer))
         }
-        TraceWork::Audit(form) => follow_audit(alloc, form, lengths, reader, writer),
+        TraceWork::Audit(form) => follow_audit(alloc, form, scope, lengths, reader, writer),
         TraceWork::Vectors(form) => found(vectors(alloc, form, reader, writer)),
     }
 }
@@ -62,7 +62,7 @@ pub fn follow_work<R: Source, W: Sink>(
 fn found(answer: Result<Tally, TraceFault>) -> Result<AuditSummary, TraceFault>
     ensures tally { tally_of result ≡ answer }
     ensures swapped { IfOk result (λ found. (found.swapped ≡ false) × (found.unfollowed ≡ false)) }
-    ensures none { IfOk result (λ found. (found.total ≡ 0) × (found.unclear ≡ 0)) }
+    ensures none { IfOk result (λ found. (found.total ≡ 0) × (found.unclear ≡ 0) × (found.passed ≡ 0)) }
 {
     match answer {
         Ok(tally) => Ok(AuditSummary {
@@ -71,6 +71,7 @@ fn found(answer: Result<Tally, TraceFault>) -> Result<AuditSummary, TraceFault>
             unclear: 0,
             swapped: false,
             unfollowed: false,
+            passed: 0,
         }),
         Err(fault) => Err(fault),
     }

@@ -15,7 +15,7 @@ use crate::options::lengths_by;
 use std::alloc::Global;
 use std::net::{Net, TcpListener, TcpStream};
 use zvt_io::{Failed, Sink};
-use zvt_runs::tcp::{LoopRun, SILENCE_SECONDS, TerminalRun, TillRun};
+use zvt_runs::tcp::{LoopRun, PATIENCE_SECONDS, TerminalRun, TillRun};
 use zvt_runs::{EndFault, Ends, NoNotes, StepOptions, plan};
 use zvt_term::Verdict;
 use zvt_text::Form;
@@ -106,7 +106,7 @@ where
     let run = TillRun {
         host,
         port,
-        seconds: SILENCE_SECONDS,
+        seconds: PATIENCE_SECONDS,
         lengths: lengths_by(loose),
         trace: None,
         show: None,

@@ -32,14 +32,15 @@ pub const DEVICE: u8 = 4;
 /// An allocation failed.
 pub const MEMORY: u8 = 5;
 
-/// Returns the status of a command on a trace. With `check`, it is bad if a payment is unclear, or if an order moved
-/// money that the audit does not follow.
+/// Returns the status of a command on a trace. A refused message that an audit passed over, and counted by its control
+/// bytes, is not bad. With `check`, it is bad if a payment is unclear, or if an order moved money that the audit does
+/// not follow.
 pub fn of_found(check: bool, answer: &Result<AuditSummary, TraceFault>) -> u8
     ensures { result ≡ status_of_found check answer.now }
 {
     match answer {
         Ok(found) if check && (found.unclear > 0 || found.unfollowed) => BAD,
-        Ok(found) => of_bad(found.tally.bad),
+        Ok(found) => of_bad(found.tally.bad.saturating_sub(found.passed)),
         Err(fault) => of_trace_fault(fault),
     }
 }

@@ -25,6 +25,8 @@ pub struct TapOptions<'a> {
     pub connections: u16,
     /// Whether lengths are read in any form that holds them.
     pub loose: bool,
+    /// Whether a side is read on after a refused message.
+    pub reads_on: bool,
 }
 
 /// The row of `tap`: its options and help.
@@ -63,6 +65,7 @@ Example:
                 "Forward N connections one after another, then exit; 0 for no end",
             ),
             CommandOption::Flag("loose", help::LOOSE),
+            CommandOption::Flag("open", help::OPEN_AUDIT),
         ],
     }
 }
@@ -81,5 +84,6 @@ pub fn read_tap<'a>(inner: &ArgMatches<'a>) -> Option<Choice<'a>>
         trace_required: flag(inner, "trace-required"),
         connections,
         loose: flag(inner, "loose"),
+        reads_on: flag(inner, "open"),
     }))
 }

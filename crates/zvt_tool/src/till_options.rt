@@ -58,9 +58,8 @@ const OPTIONS: [CommandOption<'static>; 13] = [
     CommandOption::Number(
         "timeout",
         "SECONDS",
-        "60",
-        "Give up if connecting, or waiting for a message of the terminal, takes longer: 1 to 65535 \
-            seconds",
+        "180",
+        "Give up after SECONDS without a message of the terminal, 1 to 65535; connecting takes at most 60",
     ),
     CommandOption::Value("trace", "FILE", help::TRACE),
     CommandOption::Value("book", "FILE", help::KEEP_BOOK),

@@ -2,21 +2,22 @@
 ghost use Rattle.std.specs.Prelude.{◌≡◌, IfOk, []};
 ghost use Rattle.clap.specs.Words.{found_of, rows_of};
 ghost use Rattle.zvt_tool.specs.Options.{app_for, form_by, lengths_by};
-ghost use Rattle.zvt_tool.specs.TraceCommands.{IsAudit, IsRendering, IsTraceCommandOf, IsVectors, audit_app, is_json};
-ghost use Rattle.zvt_tool.specs.TraceCommands.{join_app, normalise_app, receipts_app, show_app, style_by, text_scope};
-ghost use Rattle.zvt_tool.specs.TraceCommands.{vectors_app};
+ghost use Rattle.zvt_tool.specs.TraceCommands.{IsAudit, IsRendering, IsShow, IsTraceCommandOf, IsVectors, audit_app};
+ghost use Rattle.zvt_tool.specs.TraceCommands.{is_json, join_app, normalise_app, receipts_app, show_app, style_by};
+ghost use Rattle.zvt_tool.specs.TraceCommands.{vectors_app, work_scope};
 ghost use Rattle.zvt_tool.specs.declared.trace_command.TraceWork.TheVariants.{Render};
 ghost use Rattle.zvt_show.specs.declared.render.Style.TheVariants.{Show};
+ghost use Rattle.zvt_text.specs.declared.privacy.Privacy.TheVariants.{Plain};
 ghost use Rattle.zvt_grammar.specs.declared.lengths.Lengths.TheVariants.{Shortest};
 
 use crate::given::{flag, words};
 use crate::help;
-use crate::options::{CommandOption, CommandRow, form_by, lengths_by};
+use crate::options::{CommandOption, CommandRow, form_by, lengths_by, privacy_by};
 use clap::ArgMatches;
 use std::alloc::{AllocError, Global};
 use zvt_grammar::Lengths;
 use zvt_show::Style;
-use zvt_text::Form;
+use zvt_text::{Form, Privacy};
 use zvt_trace::Scope;
 
 /// The output of a command on traces or on vectors.
@@ -31,7 +32,7 @@ pub enum TraceWork {
 }
 
 /// A command on traces: its files, its output, strict or padded lengths, and the options `--check`, `--follow` and
-/// `--resync`. A flag that the command does not have is not set.
+/// `--open`. A flag that the command does not have is not set.
 #[derive(Drop)]
 pub struct TraceCommand<'a> {
     /// The traces, in order. No name, or `-`, means standard input.
@@ -42,33 +43,34 @@ pub struct TraceCommand<'a> {
     pub check: bool,
     /// Whether each line is written as soon as it is read.
     pub follow: bool,
-    /// Whether a side is read on after a refused message.
-    pub resync: bool,
+    /// Whether a side is read on after a refused message. `--resync` is another name for `--open`.
+    pub reads_on: bool,
 }
 
 impl<'a> TraceCommand<'a> {
     /// Returns the command `show` without files or options, which runs if no command is given.
     pub fn show(alloc: Global) -> TraceCommand<'a>
-        ensures { IsTraceCommandOf [] (Render Show) Shortest result }
+        ensures { IsTraceCommandOf [] (Render (Show Plain)) Shortest result }
     {
         TraceCommand {
             files: Vec::new(alloc),
-            work: TraceWork::Render(Style::Show),
+            work: TraceWork::Render(Style::Show(Privacy::Plain)),
             lengths: Lengths::Shortest,
             check: false,
             follow: false,
-            resync: false,
+            reads_on: false,
         }
     }
 
-    /// Returns how much input to skip after an invalid message.
+    /// Returns how much input to skip after a refused message: with `--open` the message, else its side, or for an audit
+    /// the whole line.
     pub fn scope(&self) -> Scope
-        ensures { result ≡ text_scope self.now.resync }
+        ensures { result ≡ work_scope self.now.work self.now.reads_on }
     {
-        if self.resync {
-            Scope::OneMessage
-        } else {
-            Scope::OneSide
+        match self.work {
+            _ if self.reads_on => Scope::OneMessage,
+            TraceWork::Audit(_) => Scope::WholeLine,
+            TraceWork::Render(_) | TraceWork::Vectors(_) => Scope::OneSide,
         }
     }
 
@@ -99,9 +101,11 @@ pub fn show_row() -> CommandRow<'static>
             CommandOption::Flag("loose", help::LOOSE),
             CommandOption::Flag("json", help::JSON),
             CommandOption::Flag("follow", help::FOLLOW),
+            CommandOption::Flag("open", help::OPEN),
+            CommandOption::Flag("resync", "Another name for --open"),
             CommandOption::Flag(
-                "resync",
-                "After a refused message, continue at the end that its length announces",
+                "safe",
+                "Also hide card data in TLV objects, and the data of messages named Other",
             ),
         ],
     }
@@ -161,6 +165,7 @@ Example:
                 "follow",
                 "Read FILE as it grows, of any size; the books are printed at its end",
             ),
+            CommandOption::Flag("open", help::OPEN_AUDIT),
         ],
     }
 }
@@ -179,6 +184,7 @@ pub fn receipts_row() -> CommandRow<'static>
             CommandOption::Flag("loose", help::LOOSE),
             CommandOption::Flag("json", help::JSON),
             CommandOption::Flag("follow", help::FOLLOW),
+            CommandOption::Flag("open", help::OPEN),
         ],
     }
 }
@@ -205,9 +211,10 @@ Example:
 
 /// Returns the choice from the arguments of `show`.
 pub fn read_show<'a>(alloc: Global, inner: &ArgMatches<'a>) -> Result<TraceCommand<'a>, AllocError>
-    ensures { IfOk result (IsRendering (rows_of (found_of inner.now)) Style.Show Style.Json) }
+    ensures { IfOk result (IsShow (rows_of (found_of inner.now))) }
 {
-    rendering(alloc, inner, Style::Show, Style::Json)
+    let text = Style::Show(privacy_by(flag(inner, "safe")));
+    rendering(alloc, inner, text, Style::Json)
 }
 
 /// Returns the choice from the arguments of `join`.
@@ -295,12 +302,14 @@ fn on_traces<'a>(
 ) -> Result<TraceCommand<'a>, AllocError>
     ensures { IfOk result (IsTraceCommandOf (rows_of (found_of inner.now)) work lengths) }
 {
+    let open = flag(inner, "open");
+    let resync = flag(inner, "resync");
     Ok(TraceCommand {
         files: words(alloc, inner, "file")?,
         work,
         lengths,
         check: flag(inner, "check"),
         follow: flag(inner, "follow"),
-        resync: flag(inner, "resync"),
+        reads_on: open || resync,
     })
 }

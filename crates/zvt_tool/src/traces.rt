@@ -8,6 +8,7 @@ ghost use Rattle.zvt_show.specs.Written.{AnswersTraceBy};
 ghost use Rattle.zvt_tool.specs.Faults.{Audits, Checks, Renders};
 ghost use Rattle.zvt_trace.specs.Written.{limit};
 ghost use Rattle.zvt_show.specs.declared.render.Style.TheVariants.{Join, Receipts, Show};
+ghost use Rattle.zvt_text.specs.declared.privacy.Privacy.TheVariants.{Plain};
 
 use crate::fault::{ToolFault, in_trace};
 use std::alloc::Global;
@@ -15,7 +16,7 @@ use zvt_audit::audit_trace;
 use zvt_grammar::Lengths;
 use zvt_io::{Sink, Source};
 use zvt_show::{Style, render_trace};
-use zvt_text::Form;
+use zvt_text::{Form, Privacy};
 use zvt_trace::{Scope, Tally, TraceFault, read_trace};
 
 /// Writes each complete message of the trace as text: its direction and name, and a line for each field. A stream that
@@ -27,12 +28,18 @@ pub fn show<R: Source, W: Sink>(
 ) -> Result<Tally, ToolFault>
     ensures taken { (taken : List ℕ) × (length taken ≤ limit + 1) × Consumes (R.remaining reader.old)
         (R.remaining reader.new) taken }
-    ensures writes { IfSome (R.remaining reader.old) (λ trace. Renders shortest Show trace (W.written writer.old)
-        (W.written writer.new) result) }
+    ensures writes { IfSome (R.remaining reader.old)
+        (λ trace. Renders shortest (Show Plain) trace (W.written writer.old) (W.written writer.new) result) }
     ensures read { result ≡ Err ToolFault.Read → R.failures reader.old < R.failures reader.new }
     ensures write { result ≡ Err ToolFault.Write → W.failures writer.old < W.failures writer.new }
 {
-    read_and_render(alloc, Style::Show, Lengths::Shortest, reader, writer)
+    read_and_render(
+        alloc,
+        Style::Show(Privacy::Plain),
+        Lengths::Shortest,
+        reader,
+        writer,
+    )
 }
 
 /// Writes each complete message of the trace as one line of a trace, and all other events as comments.
@@ -77,11 +84,17 @@ pub fn show_loose<R: Source, W: Sink>(
     ensures taken { (taken : List ℕ) × (length taken ≤ limit + 1) × Consumes (R.remaining reader.old)
         (R.remaining reader.new) taken }
     ensures writes { IfSome (R.remaining reader.old)
-        (λ trace. Renders padded Show trace (W.written writer.old) (W.written writer.new) result) }
+        (λ trace. Renders padded (Show Plain) trace (W.written writer.old) (W.written writer.new) result) }
     ensures read { result ≡ Err ToolFault.Read → R.failures reader.old < R.failures reader.new }
     ensures write { result ≡ Err ToolFault.Write → W.failures writer.old < W.failures writer.new }
 {
-    read_and_render(alloc, Style::Show, Lengths::Padded, reader, writer)
+    read_and_render(
+        alloc,
+        Style::Show(Privacy::Plain),
+        Lengths::Padded,
+        reader,
+        writer,
+    )
 }
 
 /// Writes the same output as [`join`], but accepts lengths in any form. Each complete message is written in its one
@@ -243,6 +256,13 @@ fn audit_read<R: Source, W: Sink>(
     ensures write { result ≡ Err TraceFault.Write → W.failures writer.old < W.failures writer.new }
 {
     let trace = read_trace(alloc, reader)?;
-    let audited = audit_trace(alloc, Form::Text, lengths, trace.as_slice(), writer)?;
+    let audited = audit_trace(
+        alloc,
+        Form::Text,
+        Scope::WholeLine,
+        lengths,
+        trace.as_slice(),
+        writer,
+    )?;
     Ok(audited.tally)
 }

@@ -23,4 +23,5 @@ pub mod TakenLemmas
 pub mod TallyLemmas
 pub mod ToldLemmas
 pub mod WalkedLemmas
+pub mod UnrefusedLemmas
 pub mod WalkerLemmas

@@ -14,3 +14,4 @@ pub mod TraceEvent
 pub mod Trace
 pub mod Written
 pub mod Resuming
+pub mod Unrefused

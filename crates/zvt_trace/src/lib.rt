@@ -38,7 +38,7 @@ pub use direction::Direction;
 pub use event::{Refusal, TraceEvent};
 pub use fault::{Tally, TraceFault, TraceLineError};
 pub use input::{read_chunk, read_trace};
-pub use laws::chunks_are_lines;
+pub use laws::{chunks_are_lines, scopes_agree};
 pub use lines::next_line;
 pub use listener::{Listener, ListenerError, Scope};
 pub use observed::Observed;

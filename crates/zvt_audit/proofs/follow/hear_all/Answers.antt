@@ -35,19 +35,19 @@ pub returns-in_err-feed-clause-hears : goal.returns-in_err-feed-clause-hears
 returns-in_err-feed-clause-hears g c =
     let p = err_from_is_err_and c.from_residual-in_err-feed.result c.from_residual-in_err-feed.ensures.1 in
     let so = c.loop-turn.invariant.so_far in
-    (so.0 ++ (take c.in_ok-taken.taken c.read_chunk.new.buffer), Consumes-trans (g.R.Source.remaining c.args.reader.now) (g.R.Source.remaining c.loop-turn.reader) (g.R.Source.remaining c.read_chunk.new.reader) so.0 _ so.1 c.in_ok-taken.ensures.chunk.1, rw (p.1, p.2) ((faults_hearing (reading_of c.args.lengths) (so.0 ++ (take c.in_ok-taken.taken c.read_chunk.new.buffer)) (g.R.Source.remaining c.read_chunk.new.reader) c.in_err-feed.field-0.0 (c.in_err-feed.ensures.hears (reading_of c.args.lengths) so.0 so.3)).0))
+    (so.0 ++ (take c.in_ok-taken.taken c.read_chunk.new.buffer), Consumes-trans (g.R.Source.remaining c.args.reader.now) (g.R.Source.remaining c.loop-turn.reader) (g.R.Source.remaining c.read_chunk.new.reader) so.0 _ so.1 c.in_ok-taken.ensures.chunk.1, rw (p.1, p.2) ((faults_hearing (reading_of c.args.lengths) c.args.scope (so.0 ++ (take c.in_ok-taken.taken c.read_chunk.new.buffer)) (g.R.Source.remaining c.read_chunk.new.reader) c.in_err-feed.field-0.0 (c.in_err-feed.ensures.hears (reading_of c.args.lengths) c.args.scope so.0 so.3)).0))
 
 pub returns-in_err-feed-clause-read : goal.returns-in_err-feed-clause-read
 returns-in_err-feed-clause-read g c = λ is.
     let p = err_from_is_err_and c.from_residual-in_err-feed.result c.from_residual-in_err-feed.ensures.1 in
     let so = c.loop-turn.invariant.so_far in
-    absurd ((faults_hearing (reading_of c.args.lengths) (so.0 ++ (take c.in_ok-taken.taken c.read_chunk.new.buffer)) (g.R.Source.remaining c.read_chunk.new.reader) c.in_err-feed.field-0.0 (c.in_err-feed.ensures.hears (reading_of c.args.lengths) so.0 so.3)).1 cc)
+    absurd ((faults_hearing (reading_of c.args.lengths) c.args.scope (so.0 ++ (take c.in_ok-taken.taken c.read_chunk.new.buffer)) (g.R.Source.remaining c.read_chunk.new.reader) c.in_err-feed.field-0.0 (c.in_err-feed.ensures.hears (reading_of c.args.lengths) c.args.scope so.0 so.3)).1 cc)
 
 pub loop-turn-preserved : goal.loop-turn-preserved
 loop-turn-preserved g c =
     let so = c.loop-turn.invariant.so_far in
     record {
-      so_far = (so.0 ++ (take c.in_ok-taken.taken c.read_chunk.new.buffer), Consumes-trans (g.R.Source.remaining c.args.reader.now) (g.R.Source.remaining c.loop-turn.reader) (g.R.Source.remaining c.read_chunk.new.reader) so.0 _ so.1 c.in_ok-taken.ensures.chunk.1, omega (arith, so.2, c.in_ok-taken.ensures.chunk.0, length-append so.0 (take c.in_ok-taken.taken c.read_chunk.new.buffer), length-take c.in_ok-taken.taken c.read_chunk.new.buffer), c.in_ok-feed.ensures.hears (reading_of c.args.lengths) so.0 so.3);
+      so_far = (so.0 ++ (take c.in_ok-taken.taken c.read_chunk.new.buffer), Consumes-trans (g.R.Source.remaining c.args.reader.now) (g.R.Source.remaining c.loop-turn.reader) (g.R.Source.remaining c.read_chunk.new.reader) so.0 _ so.1 c.in_ok-taken.ensures.chunk.1, omega (arith, so.2, c.in_ok-taken.ensures.chunk.0, length-append so.0 (take c.in_ok-taken.taken c.read_chunk.new.buffer), length-take c.in_ok-taken.taken c.read_chunk.new.buffer), c.in_ok-feed.ensures.hears (reading_of c.args.lengths) c.args.scope so.0 so.3);
       ready = c.in_ok-feed.ensures.ready;
       read = c.in_ok-taken.ensures.counted ∙ c.loop-turn.invariant.read;
     }
@@ -56,4 +56,4 @@ pub returns-clause-hears : goal.returns-clause-hears
 returns-clause-hears g c =
     let so = c.loop-turn.invariant.so_far in
     let many : most < length so.0 = omega (arith, so.2, c.loop-turn-test.false) in
-    (so.0, so.1, hearing_endless (reading_of c.args.lengths) so.0 c.loop-turn.audit so.3 many)
+    (so.0, so.1, hearing_endless (reading_of c.args.lengths) c.args.scope so.0 c.loop-turn.audit so.3 many)

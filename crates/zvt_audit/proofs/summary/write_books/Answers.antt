@@ -12,14 +12,14 @@ use Rattle.zvt_audit.proofs.summary.write_books.Goals as goal
 
 pub returns-clause-writes : goal.returns-clause-writes
 returns-clause-writes g c = λ log judged.
-    let says = c.bytes.ensures ∙ c.in_ok-write.ensures ∙ ap (λ t. t ++ books_in c.args.form c.args.tally c.agreed-currency.result (lines_of c.args.auditor.ends) (books_value c.in_ok-found.found)) c.new-text.ensures ∙ ap₂ (λ currency found. books_in c.args.form c.args.tally currency (lines_of c.args.auditor.ends) found) c.agreed-currency.ensures (c.in_ok-found.ensures log judged) in
-    let own : SumsUp (record { tally = c.args.tally; total = c.total.result; unclear = c.len.result; swapped = c.are_swapped-swapped.result; unfollowed = c.args.auditor.orders.unfollowed }) (books_value c.in_ok-found.found) =
+    let says = c.bytes.ensures ∙ c.in_ok-write.ensures ∙ ap (λ t. t ++ books_in c.args.form c.args.tally c.agreed-currency.result (lines_of c.args.audit.listener.ends) (books_value c.in_ok-found.found)) c.new-text.ensures ∙ ap₂ (λ currency found. books_in c.args.form c.args.tally currency (lines_of c.args.audit.listener.ends) found) c.agreed-currency.ensures (c.in_ok-found.ensures log judged) in
+    let own : SumsUp (record { tally = c.args.tally; total = c.total.result; unclear = c.len.result; swapped = c.are_swapped-swapped.result; unfollowed = c.args.audit.listener.orders.unfollowed; passed = c.args.audit.passed }) (books_value c.in_ok-found.found) =
     record { total = c.total.ensures ∙ ap (λ rows. total (rows_value rows)) c.as_slice.ensures.value; unclear = search rules } in
-    let sums = subst (λ (b : Books). SumsUp (record { tally = c.args.tally; total = c.total.result; unclear = c.len.result; swapped = c.are_swapped-swapped.result; unfollowed = c.args.auditor.orders.unfollowed }) b) (c.in_ok-found.ensures log judged) own in
-    (subst (λ (t : List ℕ). Appends (g.W.Sink.written c.args.writer.now) (g.W.Sink.written c.write_all.new.self) t) says c.in_ok-write_all.ensures.bytes, refl, c.are_swapped-swapped.ensures, sums, refl)
+    let sums = subst (λ (b : Books). SumsUp (record { tally = c.args.tally; total = c.total.result; unclear = c.len.result; swapped = c.are_swapped-swapped.result; unfollowed = c.args.audit.listener.orders.unfollowed; passed = c.args.audit.passed }) b) (c.in_ok-found.ensures log judged) own in
+    (subst (λ (t : List ℕ). Appends (g.W.Sink.written c.args.writer.now) (g.W.Sink.written c.write_all.new.self) t) says c.in_ok-write_all.ensures.bytes, refl, c.are_swapped-swapped.ensures, sums, refl, refl)
 
 pub returns-in_err-write_all-clause-writes : goal.returns-in_err-write_all-clause-writes
 returns-in_err-write_all-clause-writes g c = λ log judged.
     let p = err_from_is_err_and c.from_residual-in_err-write_all.result c.from_residual-in_err-write_all.ensures.1 in
-    let says = c.bytes.ensures ∙ c.in_ok-write.ensures ∙ ap (λ t. t ++ books_in c.args.form c.args.tally c.agreed-currency.result (lines_of c.args.auditor.ends) (books_value c.in_ok-found.found)) c.new-text.ensures ∙ ap₂ (λ currency found. books_in c.args.form c.args.tally currency (lines_of c.args.auditor.ends) found) c.agreed-currency.ensures (c.in_ok-found.ensures log judged) in
+    let says = c.bytes.ensures ∙ c.in_ok-write.ensures ∙ ap (λ t. t ++ books_in c.args.form c.args.tally c.agreed-currency.result (lines_of c.args.audit.listener.ends) (books_value c.in_ok-found.found)) c.new-text.ensures ∙ ap₂ (λ currency found. books_in c.args.form c.args.tally currency (lines_of c.args.audit.listener.ends) found) c.agreed-currency.ensures (c.in_ok-found.ensures log judged) in
     rw (p.1, p.2) (subst (λ (t : List ℕ). AppendsPrefix (g.W.Sink.written c.args.writer.now) (g.W.Sink.written c.write_all.new.self) t) says c.in_err-write_all.ensures.bytes)

@@ -7,13 +7,13 @@ use Rattle.zvt_tap.proofs.RelayLemmas.{always, by_observed}
 use Rattle.zvt_tap.proofs.line.tap_line.Goals as goal
 
 pub returns-clause-tapped : goal.returns-clause-tapped
-returns-clause-tapped g c = λ r first held has.
+returns-clause-tapped g c = λ r reads_on first held has.
     let found = c.end_log.result in
     by_observed _ _ _ _ _ _ c.run_relay-ended.result
-    (λ chunks all. c.end_log.ensures.found r (trace_text chunks) first held (all_logged g.T.Sink.written g.T.Sink.failures g.O.Sink.written r [] first held chunks c.args.log c.run_relay-ended.new.log all has))
-    (found_stopped g.T.Sink.written g.T.Sink.failures g.O.Sink.written r first held
-    (λ trace. HasFound r trace first held found.tracing.failed (traced_by g.T.Sink.written found.tracing.trace) (g.O.Sink.written found.output) found.shown found.audited) found.tracing.failed c.args.log c.run_relay-ended.new.log
-    (λ trace observed. c.end_log.ensures.found r trace first held observed) c.end_log.ensures.failed.1 has)
+    (λ chunks all. c.end_log.ensures.found r reads_on (trace_text chunks) first held (all_logged g.T.Sink.written g.T.Sink.failures g.O.Sink.written r reads_on [] first held chunks c.args.log c.run_relay-ended.new.log all has))
+    (found_stopped g.T.Sink.written g.T.Sink.failures g.O.Sink.written r reads_on first held
+    (λ trace. HasFound r reads_on trace first held found.tracing.failed (traced_by g.T.Sink.written found.tracing.trace) (g.O.Sink.written found.output) found.shown found.audited) found.tracing.failed c.args.log c.run_relay-ended.new.log
+    (λ trace observed. c.end_log.ensures.found r reads_on trace first held observed) c.end_log.ensures.failed.1 has)
     c.run_relay-ended.ensures.relayed
 
 pub returns-clause-failed : goal.returns-clause-failed

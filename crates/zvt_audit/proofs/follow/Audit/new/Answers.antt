@@ -4,6 +4,6 @@ use Rattle.zvt_audit.proofs.follow.Audit.new.Goals as goal
 pub returns-clause-heard : goal.returns-clause-heard
 returns-clause-heard c = record {
   start = c.in_ok-auditor.auditor;
-  connected = c.in_ok-auditor.ensures;
-  has = record { events = []; read = c.new.ensures.read; heard = refl; reading = c.new.ensures.reading; whole_line = c.new.ensures.scope };
+  starts = c.in_ok-auditor.ensures;
+  has = record { events = []; read = c.new.ensures.read; heard = refl; reading = c.new.ensures.reading; is_scope = c.new.ensures.scope };
 }
