@@ -75,7 +75,7 @@ notes() { # NAME STATUS OUTPUT ERRORS TRACE COMMAND
 bad='> 06 01 02 D0\n> 80 00 00\n< 80 00 00 04\n> 80\n!\n< 06\n'
 shown="zvt: line 1 of the trace: > Authorisation refused at 3, byte D0: UnknownField
 zvt: line 5 of the trace: < a message of 04 cut off after 1
-zvt: 2 lines of > not read after that, up to line 4
+zvt: 2 lines of > not read after that, up to line 4: 'show', 'audit' and 'receipts' read on with --open
 zvt: line 6 of the trace: < a message of 06 cut off after 1
 zvt: 1 message, 1 stream refused, 2 cut off"
 notes "bad streams that are shown" 1 "> refused at 3: UnknownField
@@ -94,11 +94,11 @@ notes "bad streams that are joined" 1 "# > refused at 3: UnknownField
 # < truncated after 1" "$shown" "$bad" join
 notes "bad streams among receipts" 1 "" "$shown" "$bad" receipts
 notes "bad streams that are audited" 1 "total 0" "zvt: line 1 of the trace: > Authorisation refused at 3, byte D0: UnknownField
-zvt: 3 lines not read after that, up to line 4
+zvt: 3 lines not read after that, up to line 4: 'show', 'audit' and 'receipts' read on with --open
 zvt: line 6 of the trace: < a message of 06 cut off after 1
 zvt: 0 messages, 1 stream refused, 1 cut off" "$bad" audit
 notes "directions that are swapped" 0 "total 0" "zvt: only '<' sent orders: the directions of the trace may be swapped" '< 06 50 03 00 00 00\n> 80 00 00\n' audit
-unfollowed="zvt: the till sent a refund or an order of a pre-authorisation, which the audit does not follow: find 'Other 0631' and 'Other 0622' to 'Other 0625' in 'zvt show'"
+unfollowed="zvt: the till sent a refund, an order of a pre-authorisation, or a payment without an amount, which the audit does not follow: find 'Other 0631', 'Other 0622' to 'Other 0625' and 'Authorisation' in 'zvt show --open'"
 for low in 22 23 24 25 31; do
     notes "the order 06 $low" 0 "total 0" "$unfollowed" "> 06 $low 03 00 00 00\n< 80 00 00\n" audit
     notes "the order 06 $low, checked" 1 "total 0" "$unfollowed" "> 06 $low 03 00 00 00\n< 80 00 00\n" "audit --check"
@@ -184,6 +184,7 @@ refuses "a currency" 2 "zvt: invalid currency '10000': expected four decimal dig
 refuses "a port that no terminal has" 2 "zvt: invalid port '0'" till --port 0
 refuses "a port that is none" 2 "'65536'" till --port 65536
 refuses "a step" 2 "zvt: 'pay:0': invalid step 2: expected 'register'" till --port 1 register pay:0
+refuses "a till's step that declines" 2 "zvt: 'decline:1:6C': invalid step 2: expected 'register', 'pay:N', 'reverse:N', 'close' or, in 'zvt loop', 'decline:N:XX', where N is an amount in cents, as 'pay:1000' for 10.00, or the number of an entry; a reference, as in 'pay:1000:ref=A-1009', has 1 to 40 printable characters and no space" till --port 1 register decline:1:6C
 refuses "a step of a loop" 2 "zvt: 'pay': invalid step 1" loop pay
 refuses "no time to wait" 2 "zvt: invalid number of seconds '0': expected 1 to 65535" till --port 9 --timeout 0
 refuses "too many connections" 2 "'65536'" terminal --port 0 --connections 65536
@@ -199,11 +200,11 @@ refuses "a wrong step beside a trace" 2 "'pay:0'" loop --trace "$work/mine.trace
 [ "$(cat "$work/mine.trace")" = "# mine" ] || echo "a trace that was to stay" >> "$work/failed"
 "$zvt" loop --trace /dev/full register > "$work/out" 2> "$work/err"
 check "a trace that is full" "$?" 4 "register -> unclear Line
-total 0" "zvt: cannot write the trace file"
+total 0" "zvt: cannot write the trace file, so the run stopped: check its permissions and the free space"
 listening
 "$zvt" till --port "$port" --trace /dev/full register > "$work/out" 2> "$work/err"
 check "a till's trace that is full" "$?" 4 "register -> unclear Line
-total 0" "zvt: cannot write the trace file"
+total 0" "zvt: cannot write the trace file, so the run stopped: check its permissions and the free space"
 wait "$terminal"
 listening --trace /dev/full
 "$zvt" till --port "$port" register > "$work/till" 2> /dev/null
@@ -212,7 +213,7 @@ status=$?
 cp "$work/till" "$work/out"
 cp "$work/says" "$work/err"
 check "a terminal's trace that is full" "$status" 4 "register -> unclear Line
-total 0" "zvt: cannot write the trace file"
+total 0" "zvt: cannot write the trace file, so the run stopped: check its permissions and the free space"
 
 # A trace goes behind what its file has, but for a book.
 "$zvt" loop --trace "$work/mine.trace" register > "$work/out" 2> "$work/err"
@@ -279,6 +280,8 @@ grep -Eq "^# pay 1 at $moment ref A-1009\$" "$work/noted.book" && grep -Eq "^# r
 refuses "a reference with a space" 2 "zvt: 'pay:1:ref=a b': invalid step 1: " loop "pay:1:ref=a b"
 refuses "no reference" 2 "a reference, as in 'pay:1000:ref=A-1009', has 1 to 40 printable characters and no space" loop pay:1:ref=
 refuses "a reference of 41 characters" 2 "invalid step 1" loop pay:1:ref=12345678901234567890123456789012345678901
+refuses "a reference with a control character" 2 "invalid step 1" loop "pay:1:ref=$(printf '\177')"
+refuses "a reference in another alphabet" 2 "invalid step 1" loop "pay:1:ref=$(printf 'caf\303\251')"
 refuses "a trace in a book" 3 "zvt: '$work/day.book': this is a till's book, which a trace would end" loop --trace "$work/day.book"
 refuses "a book of another currency" 3 "zvt: '$work/day.book': the first line does not begin a book in the till's currency" till --port "$port" --currency 0840 --book "$work/day.book"
 refuses "a wrong step beside a book" 2 "'pay:0'" loop --book "$work/day.book" pay:0
@@ -295,6 +298,15 @@ for command in "loop --book" "till --port 1 --book" book; do
     refuses "$command of records that are no till's" 3 "zvt: '$work/odd.book': " $command "$work/odd.book"
     printf '# zvt journal 1, currency 978\n!\n? 80\n\n' > "$work/odd.book"
     refuses "$command of a line that is none" 3 "zvt: '$work/odd.book': line 3 " $command "$work/odd.book"
+done
+for text in '\nmilk and bread' x '\n zvt journal 1, currency 12345' '# zvt journal 1, currency 978'; do
+    printf "$text" > "$work/odd.book"
+    cp "$work/odd.book" "$work/same.book"
+    text=$(tr '\n' ' ' < "$work/odd.book")
+    for command in "loop --book" book; do
+        refuses "$command of the text '$text'" 3 "zvt: '$work/odd.book': not a till's book" $command "$work/odd.book"
+    done
+    cmp -s "$work/odd.book" "$work/same.book" || { echo "NOT AS EXPECTED: a file that was to stay"; echo "$text" >> "$work/failed"; }
 done
 refuses "book of no file" 4 "zvt: '$work/none.book': cannot open" book "$work/none.book"
 [ ! -e "$work/none.book" ] || echo "a book that is only looked at" >> "$work/failed"

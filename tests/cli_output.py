@@ -11,6 +11,7 @@ status is 1 where anything is not as expected. It takes some seconds.
 """
 import os
 import re
+import socket
 import subprocess
 import sys
 import tempfile
@@ -159,6 +160,59 @@ def table_is_read():
     check("what is not listed", shown, b"< refused at 3: UnknownField\n! line lost\n" * len(others))
 
 
+def message(control, data):
+    """A message in its shortest form."""
+    size = len(data)
+    return control + (bytes([size]) if size < 255 else b"\xFF" + size.to_bytes(2, "little")) + data
+
+
+def sized(content):
+    """A container's content behind its length, in its shortest form."""
+    size = len(content)
+    return (bytes([size]) if size < 128 else bytes([0x81, size]) if size < 256 else b"\x82" + size.to_bytes(2, "big")) + content
+
+
+def deep(count):
+    """An object of that many bytes in five others."""
+    found = b"\x07" + sized(b"\x41" * count)
+    for _ in range(5):
+        found = b"\x3F\x01" + sized(found)
+    return found
+
+
+def long_messages_are_written():
+    """Messages at each end of a length are read whole, and written as they were read."""
+    completion, status, line = b"\x06\x0F", b"\x04\x0F", b"\x06\xD1"
+    check("the sizes of deep objects", [len(deep(count)) for count in (0, 127, 128, 256)], [17, 149, 151, 285])
+    messages = [message(completion, b"\x06" + sized(deep(count))) for count in (0, 127, 128, 256)]
+    messages += [message(completion, b"\x06" + sized(b"\x07\x7E" + b" " * 126)), message(line, b" " * 255), message(line, b" " * 65535)]
+    messages.append(message(status, b"\x87\x00\x05" + b"\x0B\x00\x00\x17" * 16383))
+    messages.append(message(status, b"\x06" + sized(b"\x07\x01\x41" + b"\x07\x00" * 32764)))
+    check("their sizes", [len(it) for it in messages[4:]], [134, 260, 65540, 65540, 65540])
+    for it in messages:
+        row = f"< {it.hex().upper()}\n".encode()
+        check(f"a message of {len(it)} bytes", run(["normalise"], row), (0, row, b""))
+        check(f"the size of a message of {len(it)} bytes", run(["vectors"], f"{it.hex()}80 = whole {len(it)}\n".encode()), (0, b"", b""))
+
+
+def trace_has_a_limit():
+    check("the longest trace", run(["show"], b"#" * (1 << 24))[:2], (0, b""))
+    status, text, errors = run(["show"], b"#" * ((1 << 24) + 1))
+    check("a longer one", (status, text, b"more than 16777216 bytes" in errors), (3, b"", True))
+
+
+def is_written_once():
+    """An audit writes its lines at once, and ends with 4 where it cannot, or where a note cannot be written."""
+    ours, theirs = socket.socketpair(socket.AF_UNIX, socket.SOCK_SEQPACKET)
+    with ours, theirs:
+        ended = subprocess.run([PROGRAM, "audit"], input=b"> 06 01 07 04 00 00 00 00 12 34\n", stdout=theirs, stderr=subprocess.DEVNULL, timeout=60)
+        theirs.close()
+        check("the writes of an audit", (ended.returncode, [*iter(lambda: ours.recv(1 << 16), b"")]), (0, [b"unclear 1234 Unfinished\ntotal 0\n"]))
+    with open("/dev/full", "wb") as full:
+        ended = subprocess.run([PROGRAM, "show"], input=b"> 06 01 02 D0", stdout=subprocess.PIPE, stderr=full, timeout=60)
+    check("notes that cannot be written", (ended.returncode, ended.stdout), (4, b"> refused at 3: UnknownField\n"))
+
+
 def main():
     if not os.access(PROGRAM, os.X_OK):
         print(f"cli_output: no program at {PROGRAM}: build it by 'rt run' in crates/zvt, or by 'rt ci'", file=sys.stderr)
@@ -181,6 +235,9 @@ def main():
             check(f"every message of a {side}", run(["show", path + ".trace"], b"")[1], file.read())
     log_is_read()
     table_is_read()
+    long_messages_are_written()
+    trace_has_a_limit()
+    is_written_once()
     print("ok: the cases of commands.txt, traces and vectors that can't be read, and the table of fields" if not check.failed else f"{check.wrong} not as expected")
     return check.status
 

@@ -13,6 +13,7 @@ The same with each read and each write failing, where the status is 4, and with 
 ever. The same of a tap between both ends, through which no approval is forgotten, and of a side that is played. It takes half a minute, and needs gcc, else nothing is tried. Give the program's path, or none for that of `rt ci`.
 """
 import concurrent.futures
+import errno
 import os
 import pathlib
 import re
@@ -38,6 +39,18 @@ pay:3 -> paid trace 000003 receipt 0003
 close -> day closed
 total 1023
 """
+
+# What a till says of a connection that fails with each error.
+CONNECTIONS = {
+    errno.ECONNREFUSED: b"connection refused: check that the terminal is running, and its port",
+    errno.EHOSTUNREACH: b"the host is unreachable: check the network and the address",
+    errno.ENETUNREACH: b"the host is unreachable: check the network and the address",
+    errno.ETIMEDOUT: b"the host did not respond: check its name or address",
+    errno.EADDRINUSE: b"the port is in use: stop the program that listens there, or give another port, or 0 for a free one",
+    errno.EADDRNOTAVAIL: b"cannot listen on an address of another machine: use one of this machine's addresses",
+    errno.EACCES: b"permission denied for that port: give a port from 1024 on",
+    errno.EPROTO: b"check that the other end listens on that host and port, or that the port to listen on is free",
+}
 
 # Stands between the program and the C library.
 LIBRARY = (TOP / "tests" / "refusing.c").read_text()
@@ -69,14 +82,19 @@ class Trial(Checks):
         super().__init__()
         self.work = work
         self.hosts = 0
+        self.said = set()
         self.traces = self.make_traces()
 
     def run(self):
         for name, (words, given) in self.commands().items():
             self.refuses_each(name, words, given)
             self.fails_each(name, words, given)
+        for words in (b"zvt: out of memory", b"zvt: connection failed: out of memory"):
+            if words not in self.said:
+                self.differs("want of memory", f"nothing said {words}")
         self.refuses_several()
         self.fails_outside()
+        self.fails_to_connect()
         for end in ("till", "terminal"):
             self.fails_each_of(end)
         self.both_ends("both ends, a byte at a time", "one", {end: {"WRITES_OF_ONE": 1} for end in ("till", "terminal")}, 0)
@@ -153,6 +171,7 @@ class Trial(Checks):
         def look(at, **setting):
             ended, text, errors, refused = self.end_of(words, given, f"{at}", **setting)
             here = f"{name}, request {at}"
+            self.said.update(errors.splitlines())
             if (ended, text, errors) == (status, full, full_errors):
                 return refused
             if not refused:
@@ -227,6 +246,14 @@ class Trial(Checks):
                 if ended.returncode != 4 or not full.startswith(text):
                     self.differs(f"{command} into {most} bytes", ended.returncode, text[-200:])
         print("ok: standard output that is full, limited, or has no reader")
+
+    def fails_to_connect(self):
+        """A till whose connection fails writes nothing, and says why."""
+        for error, words in CONNECTIONS.items():
+            ended = self.end_of(["till", "--port", "9", "register"], b"", "connection", FAILED_CONNECT=error)
+            if ended != (4, b"", b"zvt: no connection: " + words + b"\n", False):
+                self.differs(f"a connection with the error {errno.errorcode[error]}", ended)
+        print(f"ok: a till's connection, which fails in {len(CONNECTIONS)} ways")
 
     def refuses_each_call(self):
         """The calls of the libraries."""

@@ -139,7 +139,7 @@ class Fleet:
     def one_machine(self):
         self.run(command("xargs", "books/XXXXXXXX"))
         self.holds_books("xargs")
-        wanted = {file for file, audit in self.audits.items() if audit.unclear or audit.bad} | {UNREADABLE}
+        wanted = {file for file, audit in self.audits.items() if audit.unclear or audit.bad or audit.unfollowed} | {UNREADABLE}
         check("what a person has to look at", sorted(self.run(command("--check")).splitlines()), sorted(wanted))
         if installed("parallel"):
             (self.folder / "books.json").unlink()

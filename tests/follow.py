@@ -19,6 +19,7 @@ import sys
 import tempfile
 import threading
 import time
+import tty
 
 import journal_dialogues
 import json_model
@@ -147,6 +148,20 @@ def audits(name, trace):
         check(f"{name}: {words}", whole([*words, "--follow"], trace)[:2], whole(words, trace)[:2])
 
 
+def breaks(words, pieces, wanted):
+    """The pieces come from a terminal that is hung up then. What their whole lines say is written before the read that fails ends it."""
+    ours, theirs = os.openpty()
+    tty.setraw(theirs)
+    process = subprocess.Popen([PROGRAM, *words], stdin=ours, stdout=subprocess.PIPE, stderr=subprocess.PIPE)
+    for piece in pieces:
+        os.write(theirs, piece)
+        time.sleep(0.1)
+    os.close(theirs)
+    text, said = process.communicate(timeout=SECONDS)
+    os.close(ours)
+    check(f"{words} of a device that breaks", (process.returncode, text, b"cannot read the rest of the trace" in said), (4, wanted, True))
+
+
 def grows(folder):
     """A file grows under `tail -f`. Given as FILE it is read to its end."""
     path = pathlib.Path(folder) / "growing.trace"
@@ -223,6 +238,12 @@ def main():
             follows(repr(text), words, text, chance)
     for name, trace in (("many traces", many), ("a payment", PAYMENT), ("a journal", journal), ("no trace", b"> 06\nx\n"), ("nothing", b"")):
         audits(name, trace)
+    for words in COMMANDS:
+        follows("a journal with an empty line", words, b"# zvt journal 1\n> 06 B0 00\n\n> 80 00 00\n", chance)
+    check("its messages", whole(["join", "--follow"], b"# zvt journal 1\n> 06 B0 00\n\n> 80 00 00\n"), (0, b"> 06B000\n> 800000\n", b""))
+    breaks(["join", "--follow"], [b"> 06 B0 00\r", b"\n< 80 00 00"], b"> 06B000\n")
+    for command in ("show", "audit"):
+        breaks([command], [b"#####"], b"")
     if shutil.which("tail"):
         with tempfile.TemporaryDirectory() as folder:
             grows(folder)

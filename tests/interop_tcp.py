@@ -191,21 +191,23 @@ class Trial:
             ended = till(peer.port, "register", "pay:1234")
         ends("a terminal that approves in another currency", ended, 0, "register -> registered", "pay:1234 -> unclear WrongCurrency", "total 0")
 
-    def serves(self, name, spelled, status, answers=None):
-        """The terminal against a till that sends these bytes and goes."""
+    def serves(self, name, spelled, status, answers=None, failed=None):
+        """The terminal against a till that sends these bytes and goes, and the fault that it reports."""
         served = terminal()
         found = asked(served.port, spelled)
         ended = Ended(*served.ended())
         ends(name, ended, status)
         if answers:
             check(f"{name}: the answers", found, answers)
+        if failed:
+            check(f"{name}: the fault", ended.errors.splitlines()[-1], f"zvt: connection failed: the other end {failed}")
 
     def broken_tills(self):
         other = "06 01 0A 04 00 00 00 00 12 34 49 08 40"
         self.serves("a till that pays in another currency", f"{REGISTRATION} {ACK} {other}", 0, "800000060f082912345678490978846f00")
         self.serves("a till that closes in the middle", f"{REGISTRATION} {PAYMENT}", 0)
-        self.serves("a till that sends half a message", f"{REGISTRATION} 06 01 0A 04", 4)
-        self.serves("a till that sends an impossible byte", f"{REGISTRATION} 06 01 02 D0", 4)
+        self.serves("a till that sends half a message", f"{REGISTRATION} 06 01 0A 04", 4, failed="closed the connection after 4 bytes of a message")
+        self.serves("a till that sends an impossible byte", f"{REGISTRATION} 06 01 02 D0", 4, failed="sent an invalid message, refused at 3: UnknownField")
 
     # ---- both ends as they should be
 

@@ -391,7 +391,7 @@ def wrong(folder):
         ("<\n# one\n#~ bind 87 n1\n<\n#~ bind 0B n1\n", "line 5 of the trace: the name is bound before: take another, of n0 to n99"),
         ("#~ use 87 n1\n> 87 00 01\n<\n#~ bind 87 n1\n", "line 1 of the trace: the name is not bound before: write e.g. '#~ bind 87 n1' after the line whose message has the number"),
         ("<\n#~ same 37 n1\n", "line 2 of the trace: the name is not bound before: write e.g. '#~ bind 87 n1' after the line whose message has the number"),
-        ("<\n#~ bind 87 n1\n#~ same 37 n1\n", "line 3 of the trace: the name has a number of another size: those of 0B and 37 have three bytes, and that of 87 has two"),
+        ("<\n#~ bind 87 n1\n#~ same 37 n1\n", "line 3 of the trace: the named number has another size: fields 0B and 37 have three bytes, and field 87 has two"),
         ("<\n#~ bind 87 n1\n#~ use 87 n1\n> 06 30 06 00 00 00 37 00 01\n", f"line 3 of the trace: {NO_FIELD}"),
         ("<\n#~ bind 87 n1\n#~ use 87 n1\n<\n", f"line 3 of the trace: {NO_FIELD}"),
         ("<\n#~ bind 87 n1\n#~ use 87 n1\n", f"line 3 of the trace: {NO_FIELD}"),

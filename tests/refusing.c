@@ -1,5 +1,5 @@
 /* Stands between the program and the C library: refuses the request for memory, the read or the write that the environment
-   names. Standard error is left alone. fault_injection.py builds it; journal_injection.py adds calls to it. */
+   names, and each connection with the error that it names. Standard error is left alone. fault_injection.py builds it; journal_injection.py adds calls to it. */
 #define _GNU_SOURCE
 #include <errno.h>
 #include <fcntl.h>
@@ -60,4 +60,10 @@ ssize_t send(int file, const void *bytes, size_t size, int flags) {
     if (refuses(&writes, "FAILED_WRITE", ECONNRESET)) return -1;
     if (size > 1 && number("WRITES_OF_ONE")) size = 1;
     return syscall(SYS_sendto, file, bytes, size, flags, NULL, 0);
+}
+int connect(int file, const struct sockaddr *address, socklen_t size) {
+    long error = number("FAILED_CONNECT");
+    if (!error) return syscall(SYS_connect, file, address, size);
+    errno = error;
+    return -1;
 }

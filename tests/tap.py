@@ -55,7 +55,7 @@ def text_of(trace):
     """What is written of a trace: of each line its text, and then its books."""
     written = b""
     for line in re.findall(rb"(?:[^!][^\n]*\n)*!\n", trace):
-        written += run(["show"], line)[1] + run(["audit"], line)[1]
+        written += run(["show", "--safe"], line)[1] + run(["audit"], line)[1]
     return written
 
 
@@ -411,7 +411,34 @@ def padded():
         found, trace, written, text = tap.end()
         check(f"{name}: the status", found, status)
         check(f"{name}: what is said", bool(re.fullmatch(said, text)), True)
-        check(f"{name}: the text", written, run(["show", *words], trace)[1] + run(["audit", *words], trace)[1])
+        check(f"{name}: the text", written, run(["show", "--safe", *words], trace)[1] + run(["audit", *words], trace)[1])
+    door.close()
+
+
+def read_on():
+    """A status enquiry and then a payment: a strict tap reads no payment, an open one audits it."""
+    door = listener()
+    turns = [
+        ("0501050000000300", "800000 060F04F0F0F000"),
+        ("06010A04000000001234490978", "800000 040F13 2700 04000000001234 490978 0B000017 870005 060F00"),
+    ]
+    for words, status, books in (((), 1, b"total 0\n"), (("--open",), 0, b"booked 1234 trace 000017 receipt 0005\ntotal 1234\n")):
+        name = f"a status enquiry {' '.join(words)}"
+        tap = Tap(door.getsockname()[1], *words)
+        till, terminal = pair(tap, door)
+        for asked, told in turns:
+            asked, told = bytes.fromhex(asked), bytes.fromhex(told)
+            till.sendall(asked)
+            check(f"{name}: what the terminal receives", terminal.recv(len(asked), socket.MSG_WAITALL), asked)
+            terminal.sendall(told)
+            check(f"{name}: what the till receives", till.recv(len(told), socket.MSG_WAITALL), told)
+        till.close()
+        terminal.close()
+        found, trace, written, text = tap.end()
+        check(f"{name}: the status", found, status)
+        check(f"{name}: what is said", bool(re.fullmatch(r"zvt: messages: \d+, streams refused or cut off: 1\n", text)), True)
+        check(f"{name}: the text", written, run(["show", "--safe", *words], trace)[1] + run(["audit", *words], trace)[1])
+        check(f"{name}: the books", written.endswith(books), True)
     door.close()
 
 
@@ -595,7 +622,7 @@ def unread_output():
         with open(for_reading, "rb") as output:
             written = output.read()
         found, trace, _, said = tap.end()
-        wanted = run(["show"], trace)[1] + run(["audit"], trace)[1]
+        wanted = run(["show", "--safe"], trace)[1] + run(["audit"], trace)[1]
         dropped = sum(int(number) for number in re.findall(rb"^# (\d+) bytes were not printed, because nobody read this output$", written, re.M))
         check(f"{name}: the status", found, 0 if whole else 4)
         if whole:
@@ -667,7 +694,7 @@ def main():
     slow = [threading.Thread(target=to_its_end, args=(part,)) for part in (unread, reconnects, keeps_on)]
     for part in slow:
         part.start()
-    for part in (programs, at_once, side_by_side, unit, half_closed, resets, parts, padded, missing, traces, no_output, unread_output, no_reports, refused_connections, in_a_row, cut_lines):
+    for part in (programs, at_once, side_by_side, unit, half_closed, resets, parts, padded, read_on, missing, traces, no_output, unread_output, no_reports, refused_connections, in_a_row, cut_lines):
         part()
     for part in slow:
         part.join()

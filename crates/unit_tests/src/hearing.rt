@@ -25,14 +25,6 @@ fn heard_in(rt: &impl Abort, alloc: Global, bytes: &[u8]) -> Result<Heard, Fail>
     Ok(heard)
 }
 
-/// In the message that these bytes spell, this is heard.
-fn hears(rt: &impl Abort, alloc: Global, rows: &[(&[u8], Heard)]) -> Result<(), Fail> {
-    for &(bytes, wanted) in rows {
-        assert_equal_in(rt, &bytes, &heard_in(rt, alloc, bytes)?, &wanted);
-    }
-    Ok(())
-}
-
 /// A status information of nothing but these payments taken back.
 fn takes_back(original: Original) -> Heard {
     Heard::Status(StatusFacts {
@@ -58,7 +50,7 @@ fn names(currency: CurrencyFact) -> Heard {
 }
 
 #[test]
-fn hears_statuses(rt: HostRuntime) -> Result<(), Fail> {
+fn hears_each_message(rt: HostRuntime) -> Result<(), Fail> {
     let approved = Heard::Status(StatusFacts {
         result: Some(0),
         amount: Amount::new(1234),
@@ -74,20 +66,13 @@ fn hears_statuses(rt: HostRuntime) -> Result<(), Fail> {
     let euro = Currency::new(978).expect(&rt, "a currency");
     let currency = [0x04, 0x0F, 0x03, 0x49, 0x09, 0x78];
     let currencies = [0x04, 0x0F, 0x06, 0x49, 0x09, 0x78, 0x49, 0x09, 0x78];
-    let rows: [(&[u8], Heard); 6] = [
+    let rows: [(&[u8], Heard); 16] = [
         (&currency, names(CurrencyFact::Once(euro))),
         (&currencies, names(CurrencyFact::Many)),
         (&APPROVAL, approved),
         (&[0x04, 0x0F, 0x00], takes_back(Original::Absent)),
         (&once, takes_back(Original::Once([0xAB, 0x00, 0x17]))),
         (&twice, takes_back(Original::Many)),
-    ];
-    hears(&rt, rt.alloc(), &rows)
-}
-
-#[test]
-fn hears_the_other_messages(rt: HostRuntime) -> Result<(), Fail> {
-    let rows: [(&[u8], Heard); 10] = [
         (&[0x80, 0x00, 0x00], Heard::Positive),
         (&[0x84, 0x00, 0x00], Heard::Positive),
         (&[0x84, 0x6C, 0x00], Heard::Negative(0x6C)),
@@ -99,19 +84,26 @@ fn hears_the_other_messages(rt: HostRuntime) -> Result<(), Fail> {
         (&[0x06, 0xB0, 0x00], Heard::Strange),
         (&[0x06, 0x02, 0x00], Heard::Strange),
     ];
-    hears(&rt, rt.alloc(), &rows)
+    for (bytes, wanted) in rows {
+        assert_equal_in(&rt, &bytes, &heard_in(&rt, rt.alloc(), bytes)?, &wanted);
+    }
+    Ok(())
 }
 
 #[test]
 fn sends_what_its_brief_says(rt: HostRuntime) -> Result<(), Fail> {
-    let refusal = Outgoing {
-        brief: Brief::Nack(0x83),
-    };
-    let mut buffer = [0x55; 32];
-    assert_equal(&rt, &refusal.put(&mut buffer), &3);
-    assert_equal(&rt, &&buffer[..4], &[0x84, 0x83, 0x00, 0x55].as_slice());
-    let apdu = refusal.message(rt.alloc())?;
-    assert_equal(&rt, &heard(&apdu), &Heard::Negative(0x83));
+    let rows = [
+        (Brief::Nack(0x83), [0x84, 0x83, 0x00], Heard::Negative(0x83)),
+        (Brief::AbortOrder, [0x06, 0xB0, 0x00], Heard::Strange),
+    ];
+    for (brief, bytes, wanted) in rows {
+        let outgoing = Outgoing { brief };
+        let mut buffer = [0x55; 32];
+        assert_equal(&rt, &outgoing.put(&mut buffer), &3);
+        assert!(rt; buffer[..3].starts_with(&bytes) && buffer[3] == 0x55);
+        let apdu = outgoing.message(rt.alloc())?;
+        assert_equal(&rt, &heard(&apdu), &wanted);
+    }
     Ok(())
 }
 

@@ -4,13 +4,42 @@
 //! them must answer each piece as that reader does, and hold as much.
 
 use crate::assertions::assert_equal_in;
-use crate::pieces::{Answer, MORE, built, ended, left, viewed};
 use std::alloc::Global;
 use std::process::Abort;
 use std::test::Fail;
 use zvt_apdu::scan;
 use zvt_grammar::Scan;
-use zvt_stream::{FedView, FeedError, Stream, Truncated};
+use zvt_stream::{Fed, FedView, FeedError, Stream, Truncated};
+
+/// What a feed answers.
+type Answer = Result<FedView, FeedError>;
+
+const MORE: Answer = Ok(FedView::More);
+
+/// A message ended after that many bytes of the piece.
+fn ended(taken: usize) -> Answer {
+    Ok(FedView::Message { taken })
+}
+
+/// What `feed` answers, its message left aside.
+fn built(alloc: Global, stream: &mut Stream, piece: &[u8]) -> Answer {
+    match stream.feed(alloc, piece) {
+        Ok(Fed::Message { taken, .. }) => ended(taken),
+        Ok(Fed::More) => MORE,
+        Ok(Fed::Refused { place, why }) => Ok(FedView::Refused { place, why }),
+        Err(error) => Err(error),
+    }
+}
+
+// Says nothing of what it answers: beside that each step of a caller's proof is dear.
+fn viewed(stream: &mut Stream, piece: &[u8]) -> Answer {
+    stream.feed_view(piece)
+}
+
+/// How many bytes a stream holds, and whether it may end there.
+fn left(stream: &Stream) -> (usize, Result<(), Truncated>) {
+    (stream.held(), stream.finish())
+}
 
 /// The bytes of a line that are unfinished, or nothing after a refusal.
 #[derive(Drop)]
@@ -122,14 +151,20 @@ fn lines_are_read_alike_at_each_cut(rt: HostRuntime) {
 }
 
 #[test]
-fn long_lines_are_read_alike_at_each_cut(rt: HostRuntime) {
+fn long_lines_are_read_alike(rt: HostRuntime) -> Result<(), Fail> {
+    let alloc = rt.alloc();
     let mut object = [0x41; 134];
     object[..8].copy_from_slice(&[0x06, 0x0F, 0x83, 0x06, 0x81, 0x80, 0x07, 0x7E]);
-    let mut text = [0x20; 260];
-    text[..5].copy_from_slice(&[0x06, 0xD1, 0xFF, 0xFF, 0x00]);
-    for line in [object.as_slice(), &text] {
-        same(&rt, rt.alloc(), line);
+    same(&rt, alloc, object.as_slice());
+    let mut text = Vec::from_slice(alloc, &[0x06, 0xD1, 0xFF, 0xFF, 0x00])?;
+    text.resize(260, 0x20)?;
+    same(&rt, alloc, &text);
+    let mut longest = Vec::from_slice(alloc, &[0x06, 0xD1, 0xFF, 0xFF, 0xFF])?;
+    longest.resize(65_540, 0x20)?;
+    for cut in [3, 65_539] {
+        same_at(&rt, alloc, &longest, cut);
     }
+    Ok(())
 }
 
 /// The line with each of its bytes replaced by each other one is read alike at each cut.
@@ -202,7 +237,8 @@ fn the_prefix_of_a_message_is_cut_off(rt: HostRuntime) {
     for line in MESSAGES {
         for have in 1..line.len() {
             let wanted = (MORE, (have, Err(Truncated { have })));
-            assert_eq!(rt; cut_off(rt.alloc(), &line[..have]), wanted, "{line:?}");
+            let found = cut_off(rt.alloc(), &line[..have]);
+            assert_equal_in(&rt, &have, &found, &wanted);
         }
         let whole = (ended(line.len()), (0, Ok(())));
         assert_equal_in(&rt, &line, &cut_off(rt.alloc(), line), &whole);
@@ -248,7 +284,13 @@ const MESSAGES: [&[u8]; 13] = [
 ];
 
 /// Several messages, and lines that are refused: what is wrong is at the end of each, or an acknowledgement after it.
-const LINES: [&[u8]; 19] = [
+const LINES: [&[u8]; 21] = [
+    &[
+        0x04, 0x0F, 0x10, 0x27, 0x00, 0x04, 0x00, 0x00, 0x00, 0x00, 0x12, 0x34, 0x0B, 0x00, 0x00,
+        0x17, 0x87, 0x00, 0x05, 0x04, 0x0F, 0x10, 0x27, 0x00, 0x04, 0x00, 0x00, 0x00, 0x00, 0x12,
+        0x34, 0x0B, 0x00, 0x00, 0x17, 0x87, 0x00, 0x05,
+    ],
+    &[0x80, 0x00, 0x00, 0x06, 0x0F, 0x03, 0x06, 0x80, 0x00, 0x00],
     &[0x80, 0x00, 0x00, 0x80],
     &[0x80, 0x00, 0x00, 0x06, 0x0F, 0x00, 0x80, 0x00, 0x00],
     &[0x06, 0x00, 0x05, 0x80, 0x00, 0x00],

@@ -94,9 +94,8 @@ fn rests(rt: &impl Abort, till: &Till, book: &[Entry], unclear: &[(Amount, Cause
     assert_equal(rt, &(till.running(), till.registered()), &(None, false));
 }
 
-/// The till is saved in these bytes, and none is loaded of their prefix.
-fn saves(rt: &impl Abort, alloc: Global, till: &Till, bytes: &[u8]) -> Result<(), Fail> {
-    assert_equal(rt, &save(alloc, till)?.as_slice(), &bytes);
+/// No till is loaded of a prefix of these bytes.
+fn are_damaged(rt: &impl Abort, alloc: Global, bytes: &[u8]) {
     for cut in 0..bytes.len() {
         assert_equal(
             rt,
@@ -104,6 +103,12 @@ fn saves(rt: &impl Abort, alloc: Global, till: &Till, bytes: &[u8]) -> Result<()
             &Some(LoadError::Damaged),
         );
     }
+}
+
+/// The till is saved in these bytes, and none is loaded of their prefix.
+fn saves(rt: &impl Abort, alloc: Global, till: &Till, bytes: &[u8]) -> Result<(), Fail> {
+    assert_equal(rt, &save(alloc, till)?.as_slice(), &bytes);
+    are_damaged(rt, alloc, bytes);
     Ok(())
 }
 
@@ -166,13 +171,12 @@ fn the_first_layout_is_loaded(rt: HostRuntime) -> Result<(), Fail> {
     let book = book(&rt, Doubt::No);
     rests(&rt, &till, &book, &unclear(&rt)[..1], Outcome::Reversed);
     saves(&rt, alloc, &till, &SECOND)?;
-    for cut in 0..FIRST.len() {
-        assert_equal(
-            &rt,
-            &refusal(alloc, &FIRST[..cut]),
-            &Some(LoadError::Damaged),
-        );
-    }
+    are_damaged(&rt, alloc, &FIRST);
+    // Rows of the first layout under the version of the second.
+    let mut bytes = FIRST;
+    bytes[3] = 2;
+    bytes[57..].copy_from_slice(&[0x00, 0x00, 0x08, 0x50, 0x00, 0x03, 0x14, 0x35]);
+    assert_equal(&rt, &refusal(alloc, &bytes), &Some(LoadError::Damaged));
     Ok(())
 }
 
@@ -219,12 +223,4 @@ fn each_doubt_and_each_version(rt: HostRuntime) {
     for (version, doubt, sums, wanted) in rows {
         assert_equal(&rt, &doubt_in(rt.alloc(), version, doubt, sums), &wanted);
     }
-}
-
-#[test]
-fn rows_of_the_first_layout_under_the_second_version(rt: HostRuntime) {
-    let mut bytes = FIRST;
-    bytes[3] = 2;
-    bytes[57..].copy_from_slice(&[0x00, 0x00, 0x08, 0x50, 0x00, 0x03, 0x14, 0x35]);
-    assert_equal(&rt, &refusal(rt.alloc(), &bytes), &Some(LoadError::Damaged));
 }

@@ -25,8 +25,8 @@ fn checked(status: i32) -> io::Result<()> {
     }
 }
 
-/// Opens a file with C's flags. Its descriptor is never that of a standard stream, so that text printed to a closed
-/// stream cannot end up in the file.
+/// Opens a file with C's flags. Its descriptor is never 0, 1 or 2, so that text printed to a closed standard stream
+/// cannot end up in the file.
 pub(crate) fn opened(path: &[u8], flags: i32, mode: u32) -> io::Result<OwnedFd> {
     let number = os::open_with(path, libc::O_CLOEXEC | flags, mode);
     if number < 0 {

@@ -1,4 +1,4 @@
-//! Appends records of text lines, each of which takes effect at once through a gate.
+//! Appends records of text lines. A record takes effect as a whole, through its gate.
 ghost use Rattle.std.specs.Prelude.{◌≡◌, true, All, ◌↔◌, ◌⊎◌, ◌+◌, ◌<◌, ◌≤◌, ◌^◌, ◌++◌, [], ◌∷◌, List, ℕ, get_or};
 ghost use Rattle.std.specs.Prelude.{length, drop, IfOk, OnErr, OnOk, IsErrOf, IsTrue};
 ghost use Rattle.zvt_journal.specs.Device.{Only, LeavesOnly};
