@@ -16,7 +16,7 @@ pub sound_empty : (r : Reading) (held : List ℕ) (stopped : Bool) → held ≡ 
 sound_empty r held stopped e = record { unfinished = subst (UnfinishedIn r) (sym e) (nothing_in r); none_held = λ h. e }
 
 -- what is refused stays refused with more after it
-refused_more : (r : Reading) (bytes more : List ℕ) (place : ℕ) (why : Why) → IsRefusedIn r bytes place why → IsRefusedIn r (bytes ++ more) place why
+pub refused_more : (r : Reading) (bytes more : List ℕ) (place : ℕ) (why : Why) → IsRefusedIn r bytes place why → IsRefusedIn r (bytes ++ more) place why
 refused_more r bytes more place why f =
     let same : take place bytes ≡ take place (bytes ++ more) = sym (take-append-le place bytes more (omega (arith, f.1.present))) in (
       none_more (Spells r) bytes more place f.0 f.1,

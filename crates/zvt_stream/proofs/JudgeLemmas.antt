@@ -8,7 +8,8 @@ use Rattle.zvt_grammar.specs.Reading.{Reading}
 use Rattle.zvt_tlv.specs.declared.judge.TagAt.TheVariants.{First}
 use Rattle.zvt_tlv.proofs.Alive.{prefix_of}
 use Rattle.zvt_apdu.specs.Grammar.{Spells}
-use Rattle.zvt_apdu.specs.Judging.{Position, fault}
+use Rattle.zvt_tlv.specs.Judging.{Opener}
+use Rattle.zvt_apdu.specs.Judging.{Position, Role, fault}
 use Rattle.zvt_apdu.proofs.Fit.{fit}
 use Rattle.zvt_stream.specs.Apdus.{AliveIn, NoneWholeIn, UnfinishedIn, IsRefusedIn}
 use Rattle.zvt_stream.specs.Parts.{At}
@@ -105,10 +106,9 @@ pub whole : (r : Reading) (b : List ℕ) → AliveIn r b → IsFull r b → IsMe
 whole r b a f = full_message r b a f
 
 -- a byte that fails is refused
-pub refuses : (r : Reading) (at : At) (left x : ℕ) (outer b : List ℕ) (why : Why) → x < 256 → UnfinishedIn r b → Where r at left outer b → fault r (role_of at left (depth_of outer)) x ≡ Some why → IsRefusedIn r (b ++ x ∷ []) (length b) why
-refuses r at left x outer b why lt u h e =
-    let p = stood r at left outer b h in
-    let dead : AliveIn r (b ++ x ∷ []) → ⊥ = (fit r p.0 b (role_of at left (depth_of outer)) x u.alive p.1 lt).1 why e in (
+pub refuses_at : (r : Reading) (os : List Opener) (role : Role) (b : List ℕ) (x : ℕ) (why : Why) → x < 256 → UnfinishedIn r b → Position r os b role → fault r role x ≡ Some why → IsRefusedIn r (b ++ x ∷ []) (length b) why
+refuses_at r os role b x why lt u p e =
+    let dead : AliveIn r (b ++ x ∷ []) → ⊥ = (fit r os b role x u.alive p lt).1 why e in (
       none_whole dead,
       record {
         present = omega (arith, length-append b (x ∷ []));
@@ -116,10 +116,10 @@ refuses r at left x outer b why lt u h e =
         dead = λ a. dead (subst (AliveIn r) (all b) a);
       },
       record {
-        openers = p.0;
-        role = role_of at left (depth_of outer);
+        openers = os;
+        role = role;
         byte = x;
-        stands = subst (λ (s : List ℕ). Position r p.0 s (role_of at left (depth_of outer))) (sym (take-append_seam b (x ∷ []))) p.1;
+        stands = subst (λ (s : List ℕ). Position r os s role) (sym (take-append_seam b (x ∷ []))) p;
         is_byte = last b;
         fails = e;
       },
@@ -148,6 +148,12 @@ refuses r at left x outer b why lt u h e =
         by_size (inr within) =
             let t = prefix_of prefix rest b (x ∷ []) (sym w) within in
             u.none_whole m prefix t.0 t.1 s
+
+-- the same by what the judge keeps
+pub refuses : (r : Reading) (at : At) (left x : ℕ) (outer b : List ℕ) (why : Why) → x < 256 → UnfinishedIn r b → Where r at left outer b → fault r (role_of at left (depth_of outer)) x ≡ Some why → IsRefusedIn r (b ++ x ∷ []) (length b) why
+refuses r at left x outer b why lt u h e =
+    let p = stood r at left outer b h in
+    refuses_at r p.0 (role_of at left (depth_of outer)) b x why lt u p.1 e
 
 -- a judge where nothing has begun
 pub begun_anew_stands : (r : Reading) → StandsFor (start r) []

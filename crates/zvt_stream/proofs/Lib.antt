@@ -18,3 +18,5 @@ pub mod JudgeLemmas
 pub mod WholeLemmas
 pub mod JudgedFeeds
 pub mod RunLemmas
+pub mod OpenLemmas
+pub mod OpenRows

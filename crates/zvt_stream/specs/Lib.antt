@@ -3,6 +3,7 @@ pub mod StreamState
 pub mod Lending
 pub mod Feeds
 pub mod Cutting
+pub mod OpenReading
 pub mod Answered
 pub mod Hearing
 pub mod Replies

@@ -1,7 +1,9 @@
 //! Laws of every stream, each stated as the contract of an empty function.
 
 ghost use Rattle.zvt_stream.specs.Cutting.{AnyCutting, AnyRefusal};
+ghost use Rattle.zvt_grammar.specs.Reading.{Reading};
 ghost use Rattle.zvt_stream.specs.Judge.{JudgesStand};
+ghost use Rattle.zvt_stream.specs.OpenReading.{EachLineIsCut, OpenCutsAreOne, OpenIsStrict};
 
 /// However the input is cut into chunks, the stream finds the messages of the whole input, and holds the bytes after
 /// them.
@@ -19,4 +21,20 @@ pub fn any_refusal()
 /// of open levels.
 pub fn judges_stand()
     ensures { JudgesStand }
+{}
+
+/// In the open reading, a line divides into messages and unread frames in exactly one way. A prefix of the line has a
+/// prefix of these items, and further bytes do not change them.
+pub fn open_cuts_are_one()
+    ensures { (r : Reading) → OpenCutsAreOne r }
+{}
+
+/// In the open reading, every line has a division, and the bytes after its items can always be completed.
+pub fn each_line_is_cut()
+    ensures { (r : Reading) → EachLineIsCut r }
+{}
+
+/// The open reading finds the messages of the strict one, wherever the strict one refuses nothing.
+pub fn open_is_strict()
+    ensures { (r : Reading) → OpenIsStrict r }
 {}
