@@ -28,23 +28,23 @@ use Rattle.zvt_stream.proofs.JudgeLemmas.{refuses_at}
 
 -- ---- bytes
 
-bytes_apart : (a b : List ℕ) → AreBytes (a ++ b) → AreBytes a × AreBytes b
+pub bytes_apart : (a b : List ℕ) → AreBytes (a ++ b) → AreBytes a × AreBytes b
 bytes_apart [] b h = (tt, h)
 bytes_apart (x ∷ a) b h = let rest = bytes_apart a b h.1 in ((h.0, rest.0), rest.1)
 
-bytes_joined : (a b : List ℕ) → AreBytes a → AreBytes b → AreBytes (a ++ b)
+pub bytes_joined : (a b : List ℕ) → AreBytes a → AreBytes b → AreBytes (a ++ b)
 bytes_joined [] b h k = k
 bytes_joined (x ∷ a) b h k = (h.0, bytes_joined a b h.1 k)
 
-abbrev zeros : ℕ → List ℕ
+abbrev pub zeros : ℕ → List ℕ
 zeros zero = []
 zeros (suc n) = 0 ∷ zeros n
 
-zeros_many : (n : ℕ) → length (zeros n) ≡ n
+pub zeros_many : (n : ℕ) → length (zeros n) ≡ n
 zeros_many zero = refl
 zeros_many (suc n) = ap suc (zeros_many n)
 
-zero_bytes : (n : ℕ) → AreBytes (zeros n)
+pub zero_bytes : (n : ℕ) → AreBytes (zeros n)
 zero_bytes zero = tt
 zero_bytes (suc n) = (omega arith, zero_bytes n)
 
@@ -184,7 +184,7 @@ opens (h ∷ l ∷ s ∷ more) are = by_byte (cases_lt s 255)
     by_byte (inr le) = long (omega (arith, le, are.1.1.0)) more refl are.1.1.1
 
 -- where a frame is incomplete, no item is whole
-none_yet : (r : Reading) (bytes more : List ℕ) → 0 < length more → Framed (bytes ++ more) → NoneWhole (OpenSpells r) bytes
+pub none_yet : (r : Reading) (bytes more : List ℕ) → 0 < length more → Framed (bytes ++ more) → NoneWhole (OpenSpells r) bytes
 none_yet r bytes more some f item prefix rest e p =
     let same = (frames_end prefix (bytes ++ more) (rest ++ more) [] (item_frame r item prefix p) f
     (sym (append_assoc prefix rest more) ∙ ap (λ (s : List ℕ). s ++ more) (sym e) ∙ sym (append-nil (bytes ++ more)))).same in
@@ -234,12 +234,12 @@ cut_within (suc n) r bytes few are = by_frame (λ later short small. cut_within 
 pub each_line_is_cut : (r : Reading) → EachLineIsCut r
 each_line_is_cut r bytes are = cut_within (suc (length bytes)) r bytes (omega arith) are
 
-spelled_open : (r : Reading) (bytes : List ℕ) (ms : List Message) (rest : List ℕ) → SpelledIn r bytes ms rest → cuts.Spelled (OpenSpells r) bytes (map read ms) rest
+pub spelled_open : (r : Reading) (bytes : List ℕ) (ms : List Message) (rest : List ℕ) → SpelledIn r bytes ms rest → cuts.Spelled (OpenSpells r) bytes (map read ms) rest
 spelled_open r bytes [] rest s = s
 spelled_open r bytes (m ∷ ms) rest s = (s.0, s.1, s.2, s.3, spelled_open r s.1 ms rest s.4)
 
 -- what is alive begins with no refused frame
-alive_none : (r : Reading) (rest : List ℕ) → NoneWhole (Spells r) rest → AliveIn r rest → NoneWhole (OpenSpells r) rest
+pub alive_none : (r : Reading) (rest : List ℕ) → NoneWhole (Spells r) rest → AliveIn r rest → NoneWhole (OpenSpells r) rest
 alive_none r rest none a (read m) prefix later e p = none m prefix later e p
 alive_none r rest none a (unread high low size place byte why) prefix later e p =
     let first = take (suc place) prefix in
