@@ -17,6 +17,7 @@ import sys
 import tempfile
 
 from common import Checks, EXAMPLES, TOP, program
+from json_model import FIELDS
 
 PROGRAM = program(sys.argv[1:])
 FORM = "expected '>' or '<' and hexadecimal digits, '!' alone, or a comment that begins with '#'"
@@ -117,7 +118,7 @@ def fields():
     with open(TOP / "docs/FORMAT.md", encoding="utf-8") as file:
         text = file.read().split("| Shape | BMPs |")[1].split("\n\n")[0]
     for shape, names in re.findall(r"^\| ([^|]+) \| ([^|]+) \|$", text, re.M):
-        for bmp, name, digits in re.findall(r"\b([0-9A-F]{2}) ([a-z][a-z0-9-]*(?:-[0-9A-F]{2})?)( \(digits\))?", names):
+        for bmp, name, digits in re.findall(r"\b([0-9A-F]{2}) ([a-z][\w-]*)( \(digits\))?", names):
             yield int(bmp, 16), name, shape, bool(digits)
 
 
@@ -149,7 +150,7 @@ def log_is_read():
 
 def table_is_read():
     table = list(fields())
-    check("the number of fields", len(table), 39)
+    check("the fields", sorted((bmp, name) for bmp, name, _, _ in table), sorted((bmp, name) for bmp, (name, _) in FIELDS.items()))
     for bmp, name, shape, digits in table:
         _, shown, _ = run(["show"], status_of(bmp, content_of(shape, 0x34)).encode())
         check(f"field {bmp:02X}", shown.startswith(b"< Status\n  %02X %s" % (bmp, name.encode())), True)
