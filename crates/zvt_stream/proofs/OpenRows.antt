@@ -1,5 +1,5 @@
 -- Rows of the open reading, worked by hand.
-use Rattle.std.proofs.Common.{ℕ, List, [], ◌∷◌, ◌++◌, refl, arith}
+use Rattle.std.proofs.Common.{ℕ, false, List, [], ◌∷◌, ◌++◌, refl, arith}
 use Rattle.zvt_grammar.specs.Reading.{padded, shortest}
 use Rattle.zvt_grammar.specs.declared.why.Why.TheVariants.{NotShortest, UnknownField}
 use Rattle.zvt_field.specs.Shapes.{shape_of}
