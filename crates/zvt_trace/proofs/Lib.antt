@@ -25,3 +25,4 @@ pub mod ToldLemmas
 pub mod WalkedLemmas
 pub mod UnrefusedLemmas
 pub mod WalkerLemmas
+pub mod OpenSideLemmas

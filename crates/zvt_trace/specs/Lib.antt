@@ -15,3 +15,4 @@ pub mod Trace
 pub mod Written
 pub mod Resuming
 pub mod Unrefused
+pub mod OpenSides
