@@ -1,8 +1,7 @@
 -- The texts of fields and objects are those of their values.
 use Rattle.std.proofs.Common.{◌≡◌, ℕ, Bool, true, false, if◌then◌else◌, Some, None, Option, List, [], ◌∷◌, ◌++◌, length, codes, refl, sym, ◌∙◌, ap}
 use Rattle.std.specs.Fmt.{decimal}
-use Rattle.std.proofs.lemmas.Bool.{ne_eqb}
-use Rattle.hex.specs.Hex.{encode_upper, encode_with}
+use Rattle.hex.specs.Hex.{encode_upper}
 use Rattle.json.specs.Print.{escape_byte}
 use Rattle.serde_json.specs.Data.{Items, no_members}
 use Rattle.serde_json.specs.Written.{compact_text, items_text, members_text}
@@ -11,7 +10,7 @@ use Rattle.zvt_tlv.specs.Grammar.{Objects}
 use Rattle.zvt_text.specs.Bytes.{escaped_text, hex_of}
 use Rattle.zvt_text.specs.Results.{meaning_of}
 use Rattle.zvt_text.specs.Secrets.{is_secret_tag}
-use Rattle.zvt_json.specs.Fields.{amount_value, constructed_value, content_value, field_name, hidden_object, hidden_value, named, object_values, plain_value, primitive_value, quoted_value, result_value, shown_object, tag_member, tree_value, words_of}
+use Rattle.zvt_json.specs.Fields.{amount_value, constructed_value, content_value, field_name, hidden_object, hidden_value, named, object_values, primitive_value, quoted_value, result_value, shown_object, tag_member, tree_value, words_of}
 use Rattle.zvt_json.specs.Texts.{amount_text, code_text, content_text, hidden_object_text, hidden_text, name_text, opened_text, primitive_text, quoted_text, result_text, shown_text, shut, tag_text, tree_text, words_text}
 use Rattle.zvt_json.proofs.EscapeLemmas.{meaning_plain, name_plain}
 

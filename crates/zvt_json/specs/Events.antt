@@ -34,6 +34,15 @@ truncated_value from line have = side_value from line (member (codes "truncated"
 abbrev pub lost_value : (line : ℕ) → Data
 lost_value line = object (member (codes "line") (count_value line) (member (codes "lost") (boolean true) no_members))
 
+-- the size of a message with the shortest lengths, and 0 for another event
+abbrev pub HasSize : (size : ℕ) → TraceEvent → Type 0
+HasSize size (message from m) = (bytes : List ℕ) × Spells shortest m bytes × (size ≡ length bytes)
+HasSize size (refused from head byte place why) = size ≡ 0
+HasSize size (unread from) = size ≡ 0
+HasSize size (resumed from skipped) = size ≡ 0
+HasSize size (cut_off from head have) = size ≡ 0
+HasSize size lost = size ≡ 0
+
 -- the value of an event in a line; the size of a message is the size of its encoding with the shortest lengths
 abbrev pub EventValue : (line : ℕ) → TraceEvent → Data → Type 0
 EventValue line (message from m) value = (bytes : List ℕ) × Spells shortest m bytes × (value ≡ message_value from line (length bytes) m)

@@ -17,6 +17,8 @@ use Rattle.zvt_text.specs.Results.{meaning_of}
 use Rattle.zvt_text.specs.Secrets.{is_secret_tag}
 use Rattle.zvt_trace.specs.declared.direction.Direction.{Direction}
 use Rattle.zvt_trace.specs.declared.direction.Direction.TheVariants.{FromTill, FromTerminal}
+use Rattle.zvt_trace.specs.TraceEvent.{TraceEvent}
+use Rattle.zvt_trace.specs.TraceEvent as trace_event
 use Rattle.zvt_json.specs.Fields.{field_name, field_values, object_values}
 
 -- a text in a JSON string, and the quotation mark after it
@@ -147,6 +149,15 @@ truncated_text from line have = side_text from line ++ (codes ",\"truncated\":{\
 
 abbrev pub lost_text : (line : ℕ) → List ℕ
 lost_text line = codes "{\"line\":" ++ (decimal line ++ codes ",\"lost\":true}")
+
+-- an event in a line; a message has this size with the shortest lengths
+abbrev pub event_text : (line size : ℕ) → TraceEvent → List ℕ
+event_text line size (trace_event.message from m) = message_text from line size m
+event_text line size (trace_event.refused from head byte place why) = refused_text from line byte place why
+event_text line size (trace_event.unread from) = stopped_text from line
+event_text line size (trace_event.resumed from skipped) = resumed_text from line skipped
+event_text line size (trace_event.cut_off from head have) = truncated_text from line have
+event_text line size trace_event.lost = lost_text line
 
 -- ---- fields
 

@@ -3,14 +3,10 @@ ghost use Rattle.std.specs.Prelude.{◌≡◌, ◌++◌, ◌∷◌, [], ℕ, Lis
 ghost use Rattle.zvt_grammar.specs.Lengths.{reading_of};
 ghost use Rattle.zvt_grammar.specs.Reading.{shortest};
 ghost use Rattle.zvt_apdu.specs.Grammar.{Spells};
-ghost use Rattle.zvt_text.specs.Writing.{Adds};
+ghost use Rattle.zvt_text.specs.Writing.{Puts};
 ghost use Rattle.zvt_trace.specs.TraceEvent.{HasItsBytes, event_of, on};
-ghost use Rattle.zvt_json.specs.Strings.{line_text};
-ghost use Rattle.zvt_json.specs.Messages.{message_value};
-ghost use Rattle.zvt_json.specs.Events.{AddsLine, lost_value, refused_value, resumed_value, stopped_value};
-ghost use Rattle.zvt_json.specs.Events.{truncated_value};
-ghost use Rattle.zvt_json.specs.Texts.{lost_text, message_text, refused_text, resumed_text, stopped_text};
-ghost use Rattle.zvt_json.specs.Texts.{truncated_text};
+ghost use Rattle.zvt_json.specs.Events.{AddsLine, HasSize};
+ghost use Rattle.zvt_json.specs.Texts.{event_text};
 
 use crate::events;
 use crate::messages::{self, Origin};
@@ -19,7 +15,7 @@ use zvt_apdu::{ApduView, owned, size};
 use zvt_grammar::Lengths;
 use zvt_text::cursor::{Full, push};
 use zvt_text::{Says, Text};
-use zvt_trace::{Direction, Refusal, TraceEvent};
+use zvt_trace::TraceEvent;
 
 /// Appends the JSON line of an event at a line of the trace. Never writes the password of a message, and writes only
 /// the size of the fields 22, 23, 24, 2D, 3A and 3D (card number, tracks, verification value, password). If an
@@ -35,46 +31,35 @@ pub fn event(
     ensures adds { OnOk result (AddsLine (on line (event_of trace_event.now)) text.old text.new) }
     ensures keeps { OnErr result (text.new ≡ text.old) }
 {
+    let size = size_in(alloc, trace_event)?;
+    text.add(&EventLine {
+        line,
+        size,
+        trace_event,
+    })
+}
+
+/// Returns the size of a message with the shortest lengths, and 0 for another event.
+#[inline(always)]
+fn size_in(alloc: Global, trace_event: &TraceEvent<'_>) -> Result<usize, AllocError>
+    requires { HasItsBytes trace_event.now }
+    ensures { IfOk result (λ size. HasSize size (event_of trace_event.now)) }
+{
     match trace_event {
         TraceEvent::Message {
-            from,
             apdu,
             bytes,
             lengths,
-        } => {
-            let size = shortest_size(alloc, apdu, bytes, *lengths)?;
-            message(
-                text,
-                Origin {
-                    from: *from,
-                    line,
-                    size,
-                },
-                apdu,
-            )
-        }
-        TraceEvent::Refused { from, refusal } => refused(text, *from, line, *refusal),
-        TraceEvent::Unread { from } => stopped(text, *from, line),
-        TraceEvent::Resumed { from, size } => resumed(text, *from, line, *size),
-        TraceEvent::CutOff { from, have, .. } => truncated(text, *from, line, *have),
-        TraceEvent::Lost => lost(text, line),
-    }
-}
-
-/// Returns the size of a message with the shortest lengths.
-#[inline(always)]
-fn shortest_size(
-    alloc: Global,
-    apdu: &ApduView<'_>,
-    bytes: &[u8],
-    lengths: Lengths,
-) -> Result<usize, AllocError>
-    requires { Spells (reading_of lengths) apdu.now bytes.now }
-    ensures { IfOk result (λ size. (spelling : List ℕ) × Spells shortest apdu.now spelling × (size ≡ length spelling)) }
-{
-    match lengths {
-        Lengths::Shortest => Ok(bytes.len()),
-        Lengths::Padded => normal_size(alloc, apdu),
+            ..
+        } => match lengths {
+            Lengths::Shortest => Ok(bytes.len()),
+            Lengths::Padded => normal_size(alloc, apdu),
+        },
+        TraceEvent::Refused { .. }
+        | TraceEvent::Unread { .. }
+        | TraceEvent::Resumed { .. }
+        | TraceEvent::CutOff { .. }
+        | TraceEvent::Lost => Ok(0),
     }
 }
 
@@ -87,148 +72,43 @@ fn normal_size(alloc: Global, apdu: &ApduView<'_>) -> Result<usize, AllocError>
     Ok(size(&message))
 }
 
-/// Adds the line of a message.
-#[inline(always)]
-fn message(text: &mut Text, origin: Origin, message: &ApduView<'_>) -> Result<(), AllocError>
-    ensures { Adds result text.old text.new (line_text
-        (message_value origin.from origin.line origin.size message.now)) }
-{
-    text.add(&MessageLine { origin, message })
-}
-
-/// The line of a message.
+/// The line of an event. A message has this size with the shortest lengths.
 #[derive(Drop)]
-struct MessageLine<'a> {
-    origin: Origin,
-    message: &'a ApduView<'a>,
+struct EventLine<'a> {
+    line: u64,
+    size: usize,
+    trace_event: &'a TraceEvent<'a>,
 }
 
-impl Says for MessageLine<'_> {
-    ghost said = { λ m. message_text m.origin.from m.origin.line m.origin.size m.message.now ++ 10 ∷ [] };
+impl Says for EventLine<'_> {
+    ghost said = { λ e. event_text e.line e.size (event_of e.trace_event.now) ++ 10 ∷ [] };
 
     #[inline(always)]
     fn put(&self, buffer: &mut [u8]) -> Result<usize, Full> {
-        let at = messages::message(buffer, 0, self.origin, self.message)?;
+        let at = object(buffer, self.line, self.size, self.trace_event)?;
         push(buffer, at, b'\n')
     }
 }
 
-/// Adds the line of a refusal.
-fn refused(text: &mut Text, from: Direction, line: u64, refusal: Refusal) -> Result<(), AllocError>
-    ensures { Adds result text.old text.new (line_text
-        (refused_value from line refusal.byte refusal.place refusal.why)) }
-{
-    text.add(&RefusedLine {
-        from,
-        line,
-        refusal,
-    })
-}
-
-/// The line of bytes that are refused.
-#[derive(Drop)]
-struct RefusedLine {
-    from: Direction,
-    line: u64,
-    refusal: Refusal,
-}
-
-impl Says for RefusedLine {
-    ghost said = { λ r. refused_text r.from r.line r.refusal.byte r.refusal.place r.refusal.why ++ 10 ∷ [] };
-
-    fn put(&self, buffer: &mut [u8]) -> Result<usize, Full> {
-        let at = events::refused(buffer, 0, self.from, self.line, self.refusal)?;
-        push(buffer, at, b'\n')
-    }
-}
-
-/// Adds the line of a piece that is skipped.
-fn stopped(text: &mut Text, from: Direction, line: u64) -> Result<(), AllocError>
-    ensures { Adds result text.old text.new (line_text (stopped_value from line)) }
-{
-    text.add(&StoppedLine { from, line })
-}
-
-/// The line of a piece that is skipped after a refusal.
-#[derive(Drop)]
-struct StoppedLine {
-    from: Direction,
-    line: u64,
-}
-
-impl Says for StoppedLine {
-    ghost said = { λ s. stopped_text s.from s.line ++ 10 ∷ [] };
-
-    fn put(&self, buffer: &mut [u8]) -> Result<usize, Full> {
-        let at = events::stopped(buffer, 0, self.from, self.line)?;
-        push(buffer, at, b'\n')
-    }
-}
-
-/// Adds the line of a side that is read on.
-fn resumed(text: &mut Text, from: Direction, line: u64, size: usize) -> Result<(), AllocError>
-    ensures { Adds result text.old text.new (line_text (resumed_value from line size)) }
-{
-    text.add(&ResumedLine { from, line, size })
-}
-
-/// The line of a side that is read on after a refused message.
-#[derive(Drop)]
-struct ResumedLine {
-    from: Direction,
+/// Writes the object of an event at the start of the buffer.
+#[inline(always)]
+fn object(
+    buffer: &mut [u8],
     line: u64,
     size: usize,
-}
-
-impl Says for ResumedLine {
-    ghost said = { λ r. resumed_text r.from r.line r.size ++ 10 ∷ [] };
-
-    fn put(&self, buffer: &mut [u8]) -> Result<usize, Full> {
-        let at = events::resumed(buffer, 0, self.from, self.line, self.size)?;
-        push(buffer, at, b'\n')
-    }
-}
-
-/// Adds the line of a message that is cut off.
-fn truncated(text: &mut Text, from: Direction, line: u64, have: usize) -> Result<(), AllocError>
-    ensures { Adds result text.old text.new (line_text (truncated_value from line have)) }
+    trace_event: &TraceEvent<'_>,
+) -> Result<usize, Full>
+    ensures { Puts result 0 buffer.old buffer.new (event_text line size (event_of trace_event.now)) }
 {
-    text.add(&TruncatedLine { from, line, have })
-}
-
-/// The line of a message that is cut off.
-#[derive(Drop)]
-struct TruncatedLine {
-    from: Direction,
-    line: u64,
-    have: usize,
-}
-
-impl Says for TruncatedLine {
-    ghost said = { λ t. truncated_text t.from t.line t.have ++ 10 ∷ [] };
-
-    fn put(&self, buffer: &mut [u8]) -> Result<usize, Full> {
-        let at = events::truncated(buffer, 0, self.from, self.line, self.have)?;
-        push(buffer, at, b'\n')
-    }
-}
-
-/// Adds the line of a lost connection.
-fn lost(text: &mut Text, line: u64) -> Result<(), AllocError>
-    ensures { Adds result text.old text.new (line_text (lost_value line)) }
-{
-    text.add(&LostLine(line))
-}
-
-/// The line of a lost connection.
-#[derive(Drop)]
-struct LostLine(u64);
-
-impl Says for LostLine {
-    ghost said = { λ l. lost_text l.0 ++ 10 ∷ [] };
-
-    fn put(&self, buffer: &mut [u8]) -> Result<usize, Full> {
-        let at = events::lost(buffer, 0, self.0)?;
-        push(buffer, at, b'\n')
+    match trace_event {
+        TraceEvent::Message { from, apdu, .. } => {
+            let from = *from;
+            messages::message(buffer, 0, Origin { from, line, size }, apdu)
+        }
+        TraceEvent::Refused { from, refusal } => events::refused(buffer, 0, *from, line, *refusal),
+        TraceEvent::Unread { from } => events::stopped(buffer, 0, *from, line),
+        TraceEvent::Resumed { from, size } => events::resumed(buffer, 0, *from, line, *size),
+        TraceEvent::CutOff { from, have, .. } => events::truncated(buffer, 0, *from, line, *have),
+        TraceEvent::Lost => events::lost(buffer, 0, line),
     }
 }
