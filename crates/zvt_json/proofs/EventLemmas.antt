@@ -13,7 +13,7 @@ use Rattle.zvt_trace.specs.declared.direction.Direction.TheVariants.{FromTill, F
 use Rattle.zvt_trace.specs.TraceEvent.{At, TraceEvent, on}
 use Rattle.zvt_trace.specs.TraceEvent as trace_event
 use Rattle.zvt_json.specs.Messages.{message_value}
-use Rattle.zvt_json.specs.Events.{AddsLine, EventLine, HasSize, lost_value, reason_value, refused_value, resumed_value, stopped_value, truncated_value}
+use Rattle.zvt_json.specs.Events.{EventLine, HasSize, lost_value, reason_value, refused_value, resumed_value, stopped_value, truncated_value}
 use Rattle.zvt_json.specs.Texts.{event_text, lost_text, reason_text, refused_text, resumed_text, shut, side_text, stopped_text, truncated_text}
 use Rattle.zvt_json.proofs.EscapeLemmas.{why_plain}
 use Rattle.zvt_json.proofs.MessageLemmas.{message_said}
@@ -59,7 +59,14 @@ line_said line size (trace_event.resumed from skipped) none = (resumed_value fro
 line_said line size (trace_event.cut_off from head have) none = (truncated_value from line have, refl, ap (λ (l : List ℕ). l ++ 10 ∷ []) (truncated_said from line have))
 line_said line size trace_event.lost none = (lost_value line, refl, ap (λ (l : List ℕ). l ++ 10 ∷ []) (lost_said line))
 
--- a text that grew by the line of an event
-pub where_added : {E : Type 0} (r : Result (Unit {0}) E) (event : At) (old new text : List ℕ) → EventLine event text → Adds r old new text → OnOk r (AddsLine event old new)
-where_added (Ok _) event old new text says grown = record { one = text; says = says; grown = grown }
-where_added (Err e) event old new text says added = tt
+-- ---- what was added to a text
+
+-- the same text, by other words
+pub adds_same : {E : Type 0} (r : Result (Unit {0}) E) (old new said other : List ℕ) → said ≡ other → Adds r old new said → Adds r old new other
+adds_same (Ok _) old new said other same so = so ∙ ap (λ (l : List ℕ). old ++ l) same
+adds_same (Err e) old new said other same so = so
+
+-- a fact about a text that grew by so much
+pub where_added : {E P : Type 0} (r : Result (Unit {0}) E) (old new text : List ℕ) → (new ≡ old ++ text → P) → Adds r old new text → OnOk r P
+where_added (Ok _) old new text so added = so added
+where_added (Err e) old new text so added = tt
