@@ -294,8 +294,8 @@ pub fn meaning(code: u8) -> Option<&'static str>
     words_in(&RESULTS, u16::from(code))
 }
 
-/// Returns the meaning of a result code if the plain text of a message writes it: for a few codes. JSON and the
-/// explained text write every meaning.
+/// Returns the meaning of a result code if it is one of the few whose meaning is part of a message's text. JSON has every
+/// meaning.
 #[tactic(auto, unfolding(crate::specs::Meanings::printed_of))]
 pub(crate) fn printed_meaning(code: u8) -> Option<&'static str>
     ensures { option_map (λ meaning. meaning.now) result ≡ printed_of code }
