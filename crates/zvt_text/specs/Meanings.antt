@@ -307,3 +307,6 @@ is_printed code = is_some (find (λ one. one == code) printed)
 
 unfoldable pub printed_of : ℕ → Option (List ℕ)
 printed_of code = cond (is_printed code) (meaning_of code) None
+
+unfoldable pub unprinted_of : ℕ → Option (List ℕ)
+unprinted_of code = cond (is_printed code) None (meaning_of code)
