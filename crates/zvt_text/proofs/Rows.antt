@@ -55,7 +55,7 @@ pub given_up : said Plain (abort 0x6C []) ≡ codes "Abort 6C abort by time-out 
 unfolding encode_with printed_of meaning_of
 given_up = refl
 
--- 06 1E 01 65, whose meaning only JSON has
+-- 06 1E 01 65, whose meaning is not in this text
 pub no_card_data : said Plain (abort 0x65 []) ≡ codes "Abort code 65\n"
 unfolding encode_with printed_of meaning_of
 no_card_data = refl

@@ -298,7 +298,7 @@ tag_name (tag ∷ []) = words_in tags tag
 tag_name (high ∷ low ∷ []) = words_in tags (256 * high + low)
 tag_name tag = None
 
--- the result codes whose words are part of a message's text; JSON has the words of the others too
+-- the result codes whose words are in every text of a message; JSON and the explained text have the words of the others too
 abbrev pub printed : List ℕ
 printed = 0x00 ∷ 0x64 ∷ 0x6C ∷ 0x6F ∷ 0x83 ∷ 0xB4 ∷ 0xB5 ∷ 0xFF ∷ []
 

@@ -294,8 +294,8 @@ pub fn meaning(code: u8) -> Option<&'static str>
     words_in(&RESULTS, u16::from(code))
 }
 
-/// Returns the meaning of a result code if it is one of the few whose meaning is part of a message's text. JSON has every
-/// meaning.
+/// Returns the meaning of a result code if it is one of the few whose meaning is in every text of a message. JSON and
+/// the explained text have all meanings.
 #[tactic(auto, unfolding(crate::specs::Meanings::printed_of))]
 pub(crate) fn printed_meaning(code: u8) -> Option<&'static str>
     ensures { option_map (λ meaning. meaning.now) result ≡ printed_of code }
@@ -307,7 +307,7 @@ pub(crate) fn printed_meaning(code: u8) -> Option<&'static str>
     }
 }
 
-/// Returns the meaning of a result code if the text of a message doesn't have it.
+/// Returns the meaning of a result code if only the explained text has it.
 #[tactic(auto, unfolding(crate::specs::Meanings::unprinted_of))]
 pub(crate) fn unprinted_meaning(code: u8) -> Option<&'static str>
     ensures { option_map (λ meaning. meaning.now) result ≡ unprinted_of code }
