@@ -1,6 +1,6 @@
 #!/usr/bin/env python3
-"""A model of what `show` and `show --json` write, after docs/FORMAT.md and docs/JSON.md alone: no code of the program was
-looked at.
+"""A model of what `show` and `show --json` write, after docs/FORMAT.md, docs/JSON.md and docs/WORDS.md alone: no code of the
+program was looked at.
 
 `events_of` reads the bytes of a trace and gives an object for each thing that `show` says. `text_of` writes such an object as
 `show` does. `safe_of` hides what the safe form hides: `json_of` and `text_of` of it are what `show --json` and `show --safe`
@@ -11,6 +11,8 @@ JSON, with `--loose` of padded lengths, and with `--resync` after refused messag
 import json
 import re
 import sys
+
+from common import TOP
 
 SIDES = {b">": "till", b"<": "terminal"}
 MARKS = {"till": ">", "terminal": "<"}
@@ -39,10 +41,20 @@ KINDS = {
     "04FF": ("Intermediate", 1, False), "06D1": ("PrintLine", 1, False), "06D3": ("TextBlock", 0, True),
     "060F": ("Completion", 0, True), "061E": ("Abort", 1, False),
 }
-MEANINGS = {
-    0x00: "success", 0x64: "card not readable", 0x6C: "abort by time-out or abort key", 0x6F: "wrong currency",
-    0x83: "function not possible", 0xB4: "already reversed", 0xB5: "reversal not possible", 0xFF: "system error",
-}
+
+# The tables of docs/WORDS.md: each number, in hexadecimal, with its words. The words of the codes with a star are in the text of
+# `show` too.
+WORDS = (TOP / "docs/WORDS.md").read_text()
+PRINTED = set(re.findall(r"^\| ([0-9A-F]{2}) \| [^|]+ \| \* \|$", WORDS, re.M))
+
+
+def words_in(title):
+    section = re.search(rf"^## {title}\n(.*?)(?=^## |\Z)", WORDS, re.M | re.S)[1]
+    return dict(re.findall(r"^\| ([0-9A-F]+) \| ([^|]+) \|", section, re.M))
+
+
+MEANINGS, STATUSES, COMMANDS, CARD_TYPES, TAGS = (
+    words_in(title) for title in ("Result codes", "Intermediate statuses", "Commands", "Card types", "Tags"))
 
 
 class Refused(Exception):
@@ -244,8 +256,13 @@ def members_of_head(kind, control, head):
     if kind == "Abort":
         return code_of(head[0])
     name = {"Nack": "code", "Other": "control", "Registration": "config", "Intermediate": "status", "PrintLine": "attribute"}.get(kind)
-    value = {"Nack": control[1:], "Other": control, "Registration": head[3:]}.get(kind, head)
-    return {name: upper(value)} if name else {}
+    value = upper({"Nack": control[1:], "Other": control, "Registration": head[3:]}.get(kind, head))
+    said = {"Intermediate": known("words", STATUSES, value), "Other": known("name", COMMANDS, value)}.get(kind, {})
+    return {name: value, **said} if name else {}
+
+
+def known(member, table, number):
+    return {member: table[number]} if number in table else {}
 
 
 def upper(data):
@@ -253,7 +270,7 @@ def upper(data):
 
 
 def code_of(code):
-    return {"code": f"{code:02X}", **({"words": MEANINGS[code]} if code in MEANINGS else {})}
+    return {"code": f"{code:02X}", **known("words", MEANINGS, f"{code:02X}")}
 
 
 def quoted(data):
@@ -382,28 +399,40 @@ def json_of(value):
 
 
 def words_of(said):
-    return f"{said['code']} {said['words']}" if "words" in said else f"code {said['code']}"
+    return f"{said['code']} {said['words']}" if said["code"] in PRINTED else f"code {said['code']}"
 
 
-def text_of_objects(found, depth):
+def unprinted(said):
+    """The words of a code that `words_of` doesn't write."""
+    return None if said["code"] in PRINTED else said.get("words")
+
+
+def noted(line, words, explained):
+    return f"{line} ({words})" if explained and words else line
+
+
+def text_of_objects(found, depth, explained):
     for one in found:
         shown = "constructed" if "objects" in one else f"hidden {one['hidden']}" if "hidden" in one else one["content"] or "-"
-        yield f"{'  ' * (depth + 1)}{one['tag']} {shown}"
-        yield from text_of_objects(one.get("objects", ()), depth + 1)
+        yield noted(f"{'  ' * (depth + 1)}{one['tag']} {shown}", TAGS.get(one["tag"]), explained)
+        yield from text_of_objects(one.get("objects", ()), depth + 1, explained)
 
 
-def text_of_field(said):
+def text_of_field(said, explained):
     head = f"  {said['bmp']} {said['name']}"
     if "objects" in said:
-        return [head, *text_of_objects(said["objects"], 1)]
+        return [head, *text_of_objects(said["objects"], 1, explained)]
     if "text" in said:
         return [f'{head} "{said["text"]}"']
-    value = words_of(said) if "code" in said else said.get("value", said.get("content") or "-")
-    return [f"{head} hidden {said['hidden']}" if "hidden" in said else f"{head} {value}"]
+    if "code" in said:
+        return [noted(f"{head} {words_of(said)}", unprinted(said), explained)]
+    value = said.get("value", said.get("content") or "-")
+    card_type = CARD_TYPES.get(value) if said["bmp"] == "8A" else None
+    return [f"{head} hidden {said['hidden']}" if "hidden" in said else noted(f"{head} {value}", card_type, explained)]
 
 
-def text_of(said):
-    """The lines of `show` for an event, or of `show --safe` for one of `safe_of`."""
+def text_of(said, explained=False):
+    """The lines of `show` for an event, or of `show --safe` for one of `safe_of`; or with `--explain`."""
     if "lost" in said:
         return ["! line lost"]
     mark = MARKS[said["from"]]
@@ -421,7 +450,9 @@ def text_of(said):
         "Registration": lambda: f" config {said['config']}" + (f" currency {said['currency']}" if "currency" in said else ""),
     }.get(said["kind"], str)()
     data = f" data {said['data']}" if "data" in said else f" data hidden {said['data_size']}" if said.get("data_size") else ""
-    return [f"{mark} {said['kind']}{head}{data}", *(row for one in said.get("fields", ()) for row in text_of_field(one))]
+    words = {"Abort": unprinted, "Intermediate": lambda said: said.get("words"), "Other": lambda said: said.get("name")}.get(said["kind"])
+    return [noted(f"{mark} {said['kind']}{head}{data}", words and words(said), explained),
+            *(row for one in said.get("fields", ()) for row in text_of_field(one, explained))]
 
 
 def main():

@@ -1,8 +1,10 @@
 pub mod Bytes
 pub mod Numbers
 pub mod Words
+pub mod Meanings
 pub mod Results
 pub mod Secrets
+pub mod Notes
 pub mod Lines
 pub mod MessageTexts
 pub mod Writing
