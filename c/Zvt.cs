@@ -74,9 +74,7 @@ namespace Zvt {
             Ending = (Ending)from.kind;
             if (Ending == Ending.Declined || Ending == Ending.OrderRefused || Ending == Ending.Aborted) {
                 Code = (int)from.code;
-                var room = new byte[64];
-                var size = (int)Native.zvt_result_name(from.code, room, Native.Size(room));
-                if (size > 0) Meaning = Encoding.ASCII.GetString(room, 0, size);
+                Meaning = Native.Name(Native.zvt_result_name, from.code);
             }
             if (Ending == Ending.Unclear) Cause = (Cause)from.code;
             if (Ending == Ending.Paid) Trace = (int)from.trace;
@@ -222,6 +220,11 @@ namespace Zvt {
                 Dispose();
                 throw;
             }
+        }
+
+        /// <summary>Returns the words of an intermediate status, which says what the terminal waits for or does, or null.</summary>
+        public static string StatusName(byte status) {
+            return Native.Name(Native.zvt_status_name, status);
         }
 
         /// <summary>Decodes a print line in code page 437, which most terminals use and some systems lack.</summary>
@@ -796,6 +799,13 @@ namespace Zvt {
 
         public static UIntPtr Size(byte[] bytes) { return (UIntPtr)bytes.Length; }
 
+        /// <summary>The name that a call writes for a number, or null.</summary>
+        public static string Name(Func<uint, byte[], UIntPtr, UIntPtr> call, uint number) {
+            var room = new byte[64];
+            var size = (int)call(number, room, Size(room));
+            return size == 0 ? null : Encoding.ASCII.GetString(room, 0, size);
+        }
+
         [StructLayout(LayoutKind.Sequential)]
         public struct Answer { public ulong size, place; public uint reason, status; }
 
@@ -832,6 +842,7 @@ namespace Zvt {
         [DllImport(Library)] public static extern uint zvt_abi();
         [DllImport(Library)] public static extern UIntPtr zvt_version(byte[] room, UIntPtr length);
         [DllImport(Library)] public static extern UIntPtr zvt_result_name(uint code, byte[] room, UIntPtr length);
+        [DllImport(Library)] public static extern UIntPtr zvt_status_name(uint status, byte[] room, UIntPtr length);
         [DllImport(Library)] public static extern void zvt_scan(byte[] bytes, UIntPtr length, out Answer answer);
         [DllImport(Library)] public static extern UIntPtr zvt_text(byte[] bytes, UIntPtr length, [Out] byte[] room, UIntPtr roomLength, out Answer answer);
         [DllImport(Library)] public static extern uint zvt_till_new(TillHandle till, uint password, byte config, ushort currency);

@@ -130,16 +130,10 @@ public final class Zvt {
             ending = Ending.values()[from.kind];
             boolean coded = ending == Ending.DECLINED || ending == Ending.ORDER_REFUSED || ending == Ending.ABORTED;
             code = coded ? from.code : null;
-            meaning = coded ? meaningOf(from.code, calls) : null;
+            meaning = coded ? nameOf(from.code, calls::zvt_result_name) : null;
             cause = ending == Ending.UNCLEAR ? Cause.values()[from.code - 1] : null;
             trace = ending == Ending.PAID ? from.trace : null;
             receipt = ending == Ending.PAID && from.has_receipt == 1 ? from.receipt : null;
-        }
-
-        private static String meaningOf(int code, Calls calls) {
-            byte[] room = new byte[64];
-            int size = calls.zvt_result_name(code, room, new NativeLong(room.length)).intValue();
-            return size == 0 ? null : new String(room, 0, size, StandardCharsets.US_ASCII);
         }
 
         /** Whether the connection ended the order, rather than a message of the terminal. */
@@ -679,6 +673,9 @@ public final class Zvt {
             return state;
         }
 
+        /** Returns the words of an intermediate status, which says what the terminal waits for or does, or null. */
+        public String statusName(int status) { return nameOf(status, calls::zvt_status_name); }
+
         /** The sum of the booked payments without a completed reversal. */
         public long total() { return state().total; }
 
@@ -991,11 +988,21 @@ public final class Zvt {
         String strerror(int number);
     }
 
+    /** A call that writes the name of a number, and returns its size. */
+    private interface Name { NativeLong write(int number, byte[] room, NativeLong length); }
+
+    private static String nameOf(int number, Name name) {
+        byte[] room = new byte[64];
+        int size = name.write(number, room, new NativeLong(room.length)).intValue();
+        return size == 0 ? null : new String(room, 0, size, StandardCharsets.US_ASCII);
+    }
+
     /** The functions of zvt.h. */
     interface Calls extends Library {
         int zvt_abi();
         NativeLong zvt_version(byte[] room, NativeLong length);
         NativeLong zvt_result_name(int code, byte[] room, NativeLong length);
+        NativeLong zvt_status_name(int status, byte[] room, NativeLong length);
         void zvt_scan(byte[] bytes, NativeLong length, Answer answer);
         NativeLong zvt_text(byte[] bytes, NativeLong length, byte[] room, NativeLong roomLength, Answer answer);
         int zvt_till_new(Pointer till, int password, byte config, short currency);

@@ -54,6 +54,8 @@ int main(void) {
     printf("no second one: status %u\n", zvt_till_unclear(&till, 1, &entry));
     size = zvt_result_name(0x6C, text, sizeof text);
     printf("result code 6C: %.*s\n", (int)size, (const char *)text);
+    size = zvt_status_name(0x0A, text, sizeof text);
+    printf("status 0A: %.*s\n", (int)size, (const char *)text);
     printf("a number that names nothing: %zu\n", zvt_cause_name(0, text, sizeof text));
     zvt_till_free(&till);
     zvt_till_free(&till);

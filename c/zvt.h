@@ -214,13 +214,15 @@ void zvt_till_recover(zvt_till *till, const uint8_t *text, size_t length, zvt_an
 void zvt_record_notes(zvt_till *till, const uint8_t *text, size_t length, uint8_t *room, size_t room_length, zvt_answer *answer);
 
 /* Names of numbers, as the program `zvt` prints them (ASCII, no final zero). Each call returns the size of the name; if the
- * room is too small, nothing is written. 0: the number has no name. */
+ * room is too small, nothing is written. 64 bytes hold any name. 0: the number has no name. */
 size_t zvt_reason_name(uint32_t reason, uint8_t *room, size_t room_length);   /* ZVT_NOT_SHORTEST .. ZVT_LENGTH_DIGIT */
 size_t zvt_cause_name(uint32_t cause, uint8_t *room, size_t room_length);     /* ZVT_NO_STATUS .. ZVT_WRONG_CURRENCY */
 size_t zvt_outcome_name(uint32_t kind, uint8_t *room, size_t room_length);    /* ZVT_REGISTERED .. ZVT_DAY_CLOSED */
 size_t zvt_refusal_name(uint32_t status, uint8_t *room, size_t room_length);  /* ZVT_OFFLINE .. ZVT_NO_RECEIPT, ZVT_NO_MEMORY */
 /* Meaning of a result code of the terminal, which outcomes have in `code`: 6F is "wrong currency". 0: it has no meaning. */
 size_t zvt_result_name(uint32_t code, uint8_t *room, size_t room_length);
+/* Words of an intermediate status, which says what the terminal waits for or does: 0A is "insert the card". 0: it has no words. */
+size_t zvt_status_name(uint32_t status, uint8_t *room, size_t room_length);
 
 #ifdef __cplusplus
 }

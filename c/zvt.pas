@@ -267,6 +267,9 @@ type
 
 { Settings of a till with this book, empty for none: no password, the usual config byte, and the euro. }
 function ZvtSettings(const Book: string = ''): TZvtSettings;
+
+{ Returns the words of an intermediate status, which says what the terminal waits for or does, or an empty string. }
+function ZvtStatusName(Status: Byte): string;
 { The version of the library, such as 0.2.0. }
 function ZvtVersion: string;
 
@@ -306,6 +309,7 @@ type
 function zvt_abi: Cardinal; cdecl; external Library_;
 function zvt_version(Room: PByte; Length: NativeUInt): NativeUInt; cdecl; external Library_;
 function zvt_result_name(Code: Cardinal; Room: PByte; Length: NativeUInt): NativeUInt; cdecl; external Library_;
+function zvt_status_name(Status: Cardinal; Room: PByte; Length: NativeUInt): NativeUInt; cdecl; external Library_;
 procedure zvt_scan(Bytes: PByte; Length: NativeUInt; var Answer: TZvtAnswer); cdecl; external Library_;
 function zvt_text(Bytes: PByte; Length: NativeUInt; Room: PByte; RoomLength: NativeUInt; var Answer: TZvtAnswer): NativeUInt;
   cdecl; external Library_;
@@ -413,6 +417,13 @@ var
   Room: array[0..63] of AnsiChar;
 begin
   SetString(Result, PAnsiChar(@Room[0]), Min(zvt_result_name(Code, PByte(@Room[0]), SizeOf(Room)), SizeOf(Room)));
+end;
+
+function ZvtStatusName(Status: Byte): string;
+var
+  Room: array[0..63] of AnsiChar;
+begin
+  SetString(Result, PAnsiChar(@Room[0]), Min(zvt_status_name(Status, PByte(@Room[0]), SizeOf(Room)), SizeOf(Room)));
 end;
 
 { Returns the text of a message, as the program zvt shows it. }

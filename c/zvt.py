@@ -193,6 +193,7 @@ _TYPES = {
     "zvt_abi": [],
     "zvt_version": [c.c_void_p, c.c_size_t],
     "zvt_result_name": [c.c_uint32, c.c_void_p, c.c_size_t],
+    "zvt_status_name": [c.c_uint32, c.c_void_p, c.c_size_t],
     "zvt_scan": [c.c_char_p, c.c_size_t, c.c_void_p],
     "zvt_text": [c.c_char_p, c.c_size_t, c.c_void_p, c.c_size_t, c.c_void_p],
     "zvt_till_new": [c.c_void_p, c.c_uint32, c.c_uint8, c.c_uint16],
@@ -217,7 +218,7 @@ _TYPES = {
 # What the calls answer that answer no status.
 _RESULTS = {name: None for name in ("zvt_scan", "zvt_till_free", "zvt_till_save", "zvt_till_recover", "zvt_record_opening",
                                     "zvt_record_order", "zvt_record_lost", "zvt_record_notes")}
-_RESULTS |= {name: c.c_size_t for name in ("zvt_record_heard", "zvt_result_name", "zvt_text", "zvt_version")}
+_RESULTS |= {name: c.c_size_t for name in ("zvt_record_heard", "zvt_result_name", "zvt_status_name", "zvt_text", "zvt_version")}
 
 
 def whole(name, number, least, most):
@@ -649,6 +650,11 @@ class Till:
             if answer.size <= len(room):
                 return room.raw[:answer.size].decode("ascii").splitlines()
             room = c.create_string_buffer(answer.size)
+
+    def status_name(self, status):
+        """Returns the words of an intermediate status, which says what the terminal waits for or does, or None."""
+        whole("the status", status, 0, 255)
+        return written(self._library.zvt_status_name, status) or None
 
     def unclear_reversals(self):
         """Returns the booked payments whose last reversal is unclear, each with its index in the book. Reverse them again."""

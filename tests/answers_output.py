@@ -24,6 +24,7 @@ import warnings
 
 import journal_dialogues
 import journal_model
+import json_model
 from common import Checks, EXAMPLES, TOP, program
 
 PROGRAM = program(sys.argv[1:])
@@ -158,9 +159,8 @@ def outcome(ending):
         return {"outcome": "unclear", "cause": found[1]}
     if found := re.fullmatch(r"not sent: (\w+)", ending):
         return {"outcome": "not sent", "reason": found[1]}
-    found = re.fullmatch(r"(declined|refused|aborted) (?:code )?([0-9A-F]{2})(?: (.+))?", ending)
-    words = {"words": found[3]} if found[3] else {}
-    return {"outcome": found[1], "code": found[2], **words}
+    found = re.fullmatch(r"(declined|refused|aborted) (?:code )?([0-9A-F]{2})(?: .+)?", ending)
+    return {"outcome": found[1], "code": found[2], **json_model.known("words", json_model.MEANINGS, found[2])}
 
 
 def steps(chance):

@@ -1,6 +1,6 @@
 #!/usr/bin/env python3
-"""A model of what `show` and `show --json` write, after docs/FORMAT.md and docs/JSON.md alone: no code of the program was
-looked at.
+"""A model of what `show` and `show --json` write, after docs/FORMAT.md, docs/JSON.md and docs/WORDS.md alone: no code of the
+program was looked at.
 
 `events_of` reads the bytes of a trace and gives an object for each thing that `show` says. `text_of` writes such an object as
 `show` does. `safe_of` hides what the safe form hides: `json_of` and `text_of` of it are what `show --json` and `show --safe`
@@ -11,6 +11,8 @@ JSON, with `--loose` of padded lengths, and with `--resync` after refused messag
 import json
 import re
 import sys
+
+from common import TOP
 
 SIDES = {b">": "till", b"<": "terminal"}
 MARKS = {"till": ">", "terminal": "<"}
@@ -39,10 +41,19 @@ KINDS = {
     "04FF": ("Intermediate", 1, False), "06D1": ("PrintLine", 1, False), "06D3": ("TextBlock", 0, True),
     "060F": ("Completion", 0, True), "061E": ("Abort", 1, False),
 }
-MEANINGS = {
-    0x00: "success", 0x64: "card not readable", 0x6C: "abort by time-out or abort key", 0x6F: "wrong currency",
-    0x83: "function not possible", 0xB4: "already reversed", 0xB5: "reversal not possible", 0xFF: "system error",
-}
+
+# The tables of docs/WORDS.md: each number, in hexadecimal, with its words. The words of the codes with a star are in the text of
+# `show` too.
+WORDS = (TOP / "docs/WORDS.md").read_text()
+PRINTED = set(re.findall(r"^\| ([0-9A-F]{2}) \| [^|]+ \| \* \|$", WORDS, re.M))
+
+
+def words_in(title):
+    section = re.search(rf"^## {title}\n(.*?)(?=^## |\Z)", WORDS, re.M | re.S)[1]
+    return dict(re.findall(r"^\| ([0-9A-F]+) \| ([^|]+) \|", section, re.M))
+
+
+MEANINGS, STATUSES, COMMANDS = (words_in(title) for title in ("Result codes", "Intermediate statuses", "Commands"))
 
 
 class Refused(Exception):
@@ -244,8 +255,13 @@ def members_of_head(kind, control, head):
     if kind == "Abort":
         return code_of(head[0])
     name = {"Nack": "code", "Other": "control", "Registration": "config", "Intermediate": "status", "PrintLine": "attribute"}.get(kind)
-    value = {"Nack": control[1:], "Other": control, "Registration": head[3:]}.get(kind, head)
-    return {name: upper(value)} if name else {}
+    value = upper({"Nack": control[1:], "Other": control, "Registration": head[3:]}.get(kind, head))
+    said = {"Intermediate": known("words", STATUSES, value), "Other": known("name", COMMANDS, value)}.get(kind, {})
+    return {name: value, **said} if name else {}
+
+
+def known(member, table, number):
+    return {member: table[number]} if number in table else {}
 
 
 def upper(data):
@@ -253,7 +269,7 @@ def upper(data):
 
 
 def code_of(code):
-    return {"code": f"{code:02X}", **({"words": MEANINGS[code]} if code in MEANINGS else {})}
+    return {"code": f"{code:02X}", **known("words", MEANINGS, f"{code:02X}")}
 
 
 def quoted(data):
@@ -382,7 +398,7 @@ def json_of(value):
 
 
 def words_of(said):
-    return f"{said['code']} {said['words']}" if "words" in said else f"code {said['code']}"
+    return f"{said['code']} {said['words']}" if said["code"] in PRINTED else f"code {said['code']}"
 
 
 def text_of_objects(found, depth):

@@ -10,7 +10,7 @@ use Rattle.zvt_c.specs.Answers.{code_of_why}
 use Rattle.zvt_till.specs.SnapshotEncoded.{cause_code}
 use Rattle.zvt_c.specs.Numbers.{ended}
 use Rattle.zvt_c.specs.Ordering.{status_of}
-use Rattle.zvt_text.specs.Results.{meaning_of}
+use Rattle.zvt_text.specs.Meanings.{meaning_of, status_words}
 
 -- The name for a number, or an empty text if the table does not contain it.
 abbrev pub name_in : List (ℕ × List ℕ) → (number : ℕ) → List ℕ
@@ -71,3 +71,7 @@ refusals =
 -- The meaning of a result code, or an empty text. A code is one byte.
 abbrev pub meaning_in : (code : ℕ) → List ℕ
 meaning_in code = cond (nat_lt code 256) (unwrap_or (meaning_of code) []) []
+
+-- The words of an intermediate status, or an empty text. A status is one byte.
+abbrev pub status_in : (status : ℕ) → List ℕ
+status_in status = cond (nat_lt status 256) (unwrap_or (status_words status) []) []

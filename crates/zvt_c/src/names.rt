@@ -1,12 +1,12 @@
 //! Names of numbers, as the program prints them. Each call writes the name (ASCII, no final zero) to the start of the
 //! buffer and returns its size, or 0 if the number has no name. If the buffer is too small, nothing is written.
 ghost use Rattle.std.specs.Prelude.{◌≡◌};
-ghost use Rattle.zvt_c.specs.Names.{causes, meaning_in, name_in, outcomes, reasons, refusals};
+ghost use Rattle.zvt_c.specs.Names.{causes, meaning_in, name_in, outcomes, reasons, refusals, status_in};
 ghost use Rattle.zvt_c.specs.Saving.{Written};
 
 use crate::statuses;
 use zvt_grammar::Why;
-use zvt_text::meaning;
+use zvt_text::{meaning, status_words};
 use zvt_till::{Cause, OrderRefusal};
 
 /// Writes a name if it fits, and returns its size.
@@ -102,6 +102,16 @@ fn result_word(code: u32) -> &'static str
     }
 }
 
+/// Returns the words of an intermediate status, or an empty text.
+fn status_word(status: u32) -> &'static str
+    ensures { result.now ≡ status_in status }
+{
+    match u8::try_from(status) {
+        Ok(status) => status_words(status).unwrap_or(""),
+        Err(_) => "",
+    }
+}
+
 /// Writes the name of the reason why bytes are refused, 1 to 8.
 #[unsafe(no_mangle)]
 pub extern "C" fn zvt_reason_name(number: u32, buffer: &mut [u8]) -> usize
@@ -141,4 +151,13 @@ pub extern "C" fn zvt_result_name(code: u32, buffer: &mut [u8]) -> usize
     ensures { Written (meaning_in code) result buffer.old buffer.new }
 {
     put_name(result_word(code), buffer)
+}
+
+/// Writes the words of an intermediate status, which says what the terminal waits for or does. Returns 0 if the status
+/// has no words.
+#[unsafe(no_mangle)]
+pub extern "C" fn zvt_status_name(status: u32, buffer: &mut [u8]) -> usize
+    ensures { Written (status_in status) result buffer.old buffer.new }
+{
+    put_name(status_word(status), buffer)
 }

@@ -1,8 +1,7 @@
 -- The numbers of what a message says are small, and its objects nest little.
-use Rattle.std.proofs.Common.{◌≡◌, ℕ, suc, ◌+◌, ◌^◌, ◌<◌, ◌≤◌, ◌==◌, ◌&&◌, if◌then◌else◌, Bool, true, false, Some, None, Option, List, [], ◌∷◌, length, refl, ◌∙◌, ap, subst, arith, length-append}
-use Rattle.std.proofs.lemmas.Bool.{and_from, eqb-true, lt-ltb}
+use Rattle.std.proofs.Common.{◌≡◌, ℕ, suc, ◌+◌, ◌^◌, ◌<◌, ◌≤◌, ◌&&◌, if◌then◌else◌, Bool, true, false, Some, None, Option, List, [], ◌∷◌, length, refl, ◌∙◌, ap, subst, arith, length-append}
+use Rattle.std.proofs.lemmas.Bool.{and_from, lt-ltb}
 use Rattle.std.proofs.lemmas.List.Elements.{All-head, All-tail}
-use Rattle.serde_json.specs.Data.{Data}
 use Rattle.zvt_bcd.specs.Digits.{AreDigits, IsDigitPair, number_of}
 use Rattle.zvt_grammar.specs.Reading.{shortest}
 use Rattle.zvt_tlv.specs.Grammar.{IsLength, Objects, none, primitive, constructed}
@@ -13,9 +12,9 @@ use Rattle.zvt_field.specs.Shapes.{format_of}
 use Rattle.zvt_field.proofs.TableLemmas.{of_amount}
 use Rattle.zvt_field.specs.declared.shapes.Format.{Format}
 use Rattle.zvt_field.specs.declared.shapes.Format.TheVariants.{Amount, Bytes, Hidden, Result, Text}
-use Rattle.zvt_text.specs.Results.{meaning_of}
+use Rattle.zvt_text.specs.Meanings.{meaning_of}
 use Rattle.zvt_text.specs.Secrets.{is_secret_tag}
-use Rattle.zvt_json.specs.Fields.{amount_value, content_value, field_values, hidden_object, hidden_value, object_values, plain_value, primitive_value, quoted_value, result_value, shown_object, value_in}
+use Rattle.zvt_json.specs.Fields.{amount_value, field_values, hidden_object, hidden_value, object_values, plain_value, primitive_value, result_value, shown_object, value_in}
 use Rattle.zvt_json.specs.Reading.{fits, items_fit}
 
 -- ---- numbers

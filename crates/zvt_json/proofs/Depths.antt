@@ -1,8 +1,8 @@
 -- What a message says is read back: it nests little, and its numbers are small.
-use Rattle.std.proofs.Common.{◌≡◌, ℕ, suc, ◌+◌, ◌*◌, ◌^◌, ◌<◌, ◌≤◌, ◌==◌, ◌&&◌, if◌then◌else◌, Bool, true, false, max, Some, None, Option, List, [], ◌∷◌, ◌++◌, length, refl, ◌∙◌, ap, arith, length-append}
+use Rattle.std.proofs.Common.{◌≡◌, ℕ, suc, ◌+◌, ◌*◌, ◌^◌, ◌<◌, ◌≤◌, ◌&&◌, if◌then◌else◌, Bool, true, false, max, Some, None, Option, List, [], ◌∷◌, ◌++◌, length, codes, refl, ◌∙◌, ap, arith, length-append}
 use Rattle.std.specs.Prelude.{nat_lt}
 use Rattle.std.proofs.lemmas.Bool.{and_from, and_parts, lt-ltb, ltb-true}
-use Rattle.serde_json.specs.Data.{Data, Members, depth, items_depth, members_depth}
+use Rattle.serde_json.specs.Data.{Data, Members, member, depth, items_depth, members_depth}
 use Rattle.zvt_grammar.specs.Reading.{shortest}
 use Rattle.zvt_tlv.specs.Grammar.{Objects, none, primitive, constructed}
 use Rattle.zvt_tlv.specs.Checks.{is_shallow}
@@ -14,11 +14,12 @@ use Rattle.zvt_field.specs.Shapes.{format_of}
 use Rattle.zvt_field.specs.declared.shapes.Format.{Format}
 use Rattle.zvt_field.specs.declared.shapes.Format.TheVariants.{Amount, Bytes, Hidden, Result, Text}
 use Rattle.zvt_text.specs.MessageTexts.{fields_of}
-use Rattle.zvt_text.specs.Results.{meaning_of}
+use Rattle.zvt_text.specs.Meanings.{meaning_of, status_words}
 use Rattle.zvt_text.specs.Secrets.{is_secret_tag}
 use Rattle.zvt_trace.specs.declared.direction.Direction.{Direction}
-use Rattle.zvt_json.specs.Fields.{amount_value, content_value, field_values, hidden_object, hidden_value, object_values, plain_value, primitive_value, quoted_value, result_value, shown_object, words_of, value_in}
-use Rattle.zvt_json.specs.Messages.{about, first_members, last_members, message_value, with_data}
+use Rattle.zvt_json.specs.Fields.{field_values, hidden_object, object_values, plain_value, primitive_value, result_value, shown_object, words_of, value_in}
+use Rattle.zvt_json.specs.Strings.{count_value}
+use Rattle.zvt_json.specs.Messages.{about, command_of, first_members, last_members, message_value, with_data, with_name}
 use Rattle.zvt_trace.specs.TraceEvent as trace_event
 use Rattle.zvt_trace.specs.TraceEvent.{TraceEvent}
 use Rattle.zvt_json.specs.Events.{EventValue}
@@ -156,16 +157,27 @@ flat_last (reversal password fields) = (refl, refl)
 flat_last (end_of_day password fields) = (refl, refl)
 flat_last (abort_order fields) = (refl, refl)
 flat_last (status fields) = (refl, refl)
-flat_last (intermediate step payload) = (refl, refl)
+flat_last (intermediate step payload) = let words = flat_words (status_words step) in (words.0, omega (arith, words.1))
 flat_last (print_line attribute text) = (refl, refl)
 flat_last (text_block fields) = (refl, refl)
 flat_last (completion fields) = (refl, refl)
 flat_last (abort code payload) = flat_words (meaning_of code)
 flat_last (other high low payload) = (refl, refl)
 
+-- a name has no number, and is flat
+name_fits : (name : Option (List ℕ)) (later : Members) → members_fit (with_name name later) ≡ members_fit later
+name_fits None later = refl
+name_fits (Some name) later = refl
+
+name_depth : (name : Option (List ℕ)) (later : Members) → members_depth (with_name name later) ≡ members_depth later
+name_depth None later = refl
+name_depth (Some name) later = omega arith
+
 about_fits : (from : Direction) (m : Message) (line size : ℕ) (later : Members) → line < 2 ^ 64 → size < 2 ^ 64 → members_fit later ≡ true → members_fit (about from m line size later) ≡ true
 about_fits from m line size later a b h =
-    and_from (nat_lt line (2 ^ 64)) (nat_lt size (2 ^ 64) && members_fit later) (lt-ltb line (2 ^ 64) a) (and_from (nat_lt size (2 ^ 64)) (members_fit later) (lt-ltb size (2 ^ 64) b) h)
+    let sized = member (codes "size") (count_value size) later in
+    and_from (nat_lt line (2 ^ 64)) (members_fit (with_name (command_of m) sized)) (lt-ltb line (2 ^ 64) a)
+    (name_fits (command_of m) sized ∙ and_from (nat_lt size (2 ^ 64)) (members_fit later) (lt-ltb size (2 ^ 64) b) h)
 
 -- the depth of the members of a message
 data_depth : (payload : List ℕ) (later : Members) → members_depth later ≤ 15 → members_depth (with_data payload later) ≤ 15
@@ -229,7 +241,8 @@ message_fits from line m bytes s small =
     let size = size_short (length s.content) s.size s.is_size in
     let payload = data_short m s.content s.is_content in
     let last = flat_last m in
-    let about_depth : members_depth (about from m line (length bytes) (last_members m)) ≤ 15 = omega (arith, last.1) in
+    let named = name_depth (command_of m) (member (codes "size") (count_value (length bytes)) (last_members m)) in
+    let about_depth : members_depth (about from m line (length bytes) (last_members m)) ≤ 15 = omega (arith, named, last.1) in
     let depths = first_depth m (about from m line (length bytes) (last_members m)) (fields_depth (fields_of m) inside.listed inside.spelled) about_depth in (
       first_fit m (about from m line (length bytes) (last_members m)) (fields_fit (fields_of m) inside.listed inside.spelled (omega (arith, inside.short, size.0))) (omega (arith, payload, size.0))
           (about_fits from m line (length bytes) (last_members m) small (omega (arith, short)) last.0),

@@ -1,5 +1,5 @@
 -- What JSON leaves as it is, and what it does to a text that has escapes already.
-use Rattle.std.proofs.Common.{◌≡◌, ℕ, zero, suc, ◌+◌, ◌/◌, ◌%◌, ◌<◌, ◌==◌, ◌&&◌, Bool, true, false, inl, inr, Some, Option, List, [], ◌∷◌, ◌++◌, length, ◌≤◌, slice_index, get_or, codes, refl, sym, ◌∙◌, ap, arith, append_assoc, length-append, find, unwrap_or, take, drop, ◌-◌, append-nil, subst}
+use Rattle.std.proofs.Common.{◌≡◌, ℕ, zero, suc, ◌+◌, ◌*◌, ◌/◌, ◌%◌, ◌<◌, ◌==◌, ◌&&◌, Bool, true, false, inl, inr, Option, List, [], ◌∷◌, ◌++◌, length, ◌≤◌, slice_index, get_or, codes, refl, sym, ◌∙◌, ap, arith, append_assoc, length-append, find, unwrap_or, take, drop, ◌-◌, append-nil}
 use Rattle.std.specs.Option.{option_map}
 use Rattle.std.proofs.lemmas.Bool.{and_parts, cases_lt, cases_Bool}
 use Rattle.std.proofs.lemmas.Bool.Decides.{nat_tests}
@@ -13,7 +13,7 @@ use Rattle.zvt_field.specs.Shapes.{BmpRow, look_up, table}
 use Rattle.zvt_apdu.specs.declared.kinds.Kind.{Kind}
 use Rattle.zvt_apdu.specs.declared.kinds.Kind.TheVariants as kind
 use Rattle.zvt_text.specs.MessageTexts.{four_digits, kind_name}
-use Rattle.zvt_text.specs.Results.{meaning_of, meanings}
+use Rattle.zvt_text.specs.Meanings.{command_name, commands, meaning_of, results, status_words, statuses}
 use Rattle.zvt_json.specs.Fields.{field_name}
 use Rattle.zvt_text.specs.Bytes.{escaped, escaped_text, hex_of, is_plain}
 
@@ -100,9 +100,21 @@ row_plain (one ∷ rows) bmp all =
 pub name_plain : (bmp : ℕ) → escape (field_name bmp) ≡ field_name bmp
 name_plain bmp = row_plain table bmp refl
 
-pub meaning_plain : (code : ℕ) (meaning : List ℕ) → Some meaning ≡ meaning_of code → escape meaning ≡ meaning
-meaning_plain code meaning is =
-    let P : Option (List ℕ) → Type 0 = λ o. escape (unwrap_or o []) ≡ unwrap_or o [] in subst P (sym is) (word_plain meanings code refl)
+-- JSON leaves these words as they are, if there are some
+abbrev pub IsPlain : Option (List ℕ) → Type 0
+IsPlain words = escape (unwrap_or words []) ≡ unwrap_or words []
+
+pub meaning_plain : (code : ℕ) → IsPlain (meaning_of code)
+unfolding meaning_of
+meaning_plain code = word_plain results code refl
+
+pub status_plain : (status : ℕ) → IsPlain (status_words status)
+unfolding status_words
+status_plain status = word_plain statuses status refl
+
+pub command_plain : (high low : ℕ) → IsPlain (command_name high low)
+unfolding command_name
+command_plain high low = word_plain commands (256 * high + low) refl
 
 pub kind_plain : (k : Kind) → escape (kind_name k) ≡ kind_name k
 kind_plain kind.Ack = escape_all_plain (kind_name kind.Ack) refl

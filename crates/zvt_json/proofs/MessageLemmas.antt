@@ -1,5 +1,5 @@
 -- The text of a message is that of its value.
-use Rattle.std.proofs.Common.{◌≡◌, ℕ, true, false, Some, None, Option, List, [], ◌∷◌, ◌++◌, length, codes, refl, sym, ◌∙◌, ap, append_assoc}
+use Rattle.std.proofs.Common.{◌≡◌, ℕ, true, false, Some, None, Option, List, [], ◌∷◌, ◌++◌, length, codes, refl, sym, ◌∙◌, ap, append_assoc, subst, Result}
 use Rattle.std.specs.Fmt.{decimal}
 use Rattle.hex.specs.Hex.{encode_upper}
 use Rattle.json.specs.Print.{escape_byte}
@@ -13,13 +13,15 @@ use Rattle.zvt_apdu.specs.Message.{Message, ack, nack, registration, authorisati
 use Rattle.zvt_apdu.specs.Views.{config_in, control_of, currency_in, fields_in, payload_in}
 use Rattle.zvt_text.specs.Bytes.{hex_of}
 use Rattle.zvt_text.specs.MessageTexts.{four_digits, kind_name, part_text}
-use Rattle.zvt_text.specs.Results.{meaning_of}
+use Rattle.zvt_text.specs.Writing.{Puts}
+use Rattle.zvt_text.specs.Meanings.{meaning_of, status_words}
 use Rattle.zvt_trace.specs.declared.direction.Direction.{Direction}
 use Rattle.zvt_trace.specs.declared.direction.Direction.TheVariants.{FromTill, FromTerminal}
+use Rattle.zvt_json.specs.Strings.{count_value}
 use Rattle.zvt_json.specs.Fields.{field_values}
-use Rattle.zvt_json.specs.Messages.{about, first_members, last_members, message_value, with_currency, with_data, with_fields, with_size}
-use Rattle.zvt_json.specs.Texts.{about_text, config_led, control_led, currency_led, data_led, fields_led, first_text, from_text, kind_led, last_text, message_text, registered_led, shut, size_led}
-use Rattle.zvt_json.proofs.EscapeLemmas.{four_plain, kind_plain}
+use Rattle.zvt_json.specs.Messages.{about, command_of, first_members, last_members, message_value, with_currency, with_data, with_fields, with_name, with_size}
+use Rattle.zvt_json.specs.Texts.{about_text, command_text, config_led, control_led, currency_led, data_led, fields_led, first_text, from_text, kind_led, last_text, message_text, registered_led, shut, size_led, words_text}
+use Rattle.zvt_json.proofs.EscapeLemmas.{IsPlain, command_plain, four_plain, kind_plain, meaning_plain, status_plain}
 use Rattle.zvt_json.proofs.TextLemmas.{words_said}
 
 -- ---- the parts that a view gives
@@ -112,22 +114,59 @@ first_said (other high low payload) key value later = with_payload_size (codes "
 
 -- ---- the members that each has
 
+-- the size of a message, and what comes after it
+abbrev size_before : ℕ → List ℕ → List ℕ
+size_before size later = codes ",\"size\":" ++ (decimal size ++ later)
+
 -- a number, and what comes after it
-about_before : (kind line size later : List ℕ) → (codes ",\"kind\":\"" ++ kind ++ (codes ",\"line\":" ++ (line ++ (codes ",\"size\":" ++ size)))) ++ later ≡ codes ",\"kind\":\"" ++ (kind ++ (codes ",\"line\":" ++ (line ++ (codes ",\"size\":" ++ (size ++ later)))))
-about_before kind line size later =
-    ap (λ (l : List ℕ). codes ",\"kind\":\"" ++ l) (append_assoc kind (codes ",\"line\":" ++ (line ++ (codes ",\"size\":" ++ size))) later)
-    ∙ ap (λ (l : List ℕ). codes ",\"kind\":\"" ++ (kind ++ (codes ",\"line\":" ++ l))) (append_assoc line (codes ",\"size\":" ++ size) later)
+about_before : (kind line name : List ℕ) (size : ℕ) (later : List ℕ) → (codes ",\"kind\":\"" ++ kind ++ (codes ",\"line\":" ++ (line ++ (name ++ (codes ",\"size\":" ++ decimal size))))) ++ later
+    ≡ codes ",\"kind\":\"" ++ (kind ++ (codes ",\"line\":" ++ (line ++ (name ++ size_before size later))))
+about_before kind line name size later =
+    ap (λ (l : List ℕ). codes ",\"kind\":\"" ++ l) (append_assoc kind (codes ",\"line\":" ++ (line ++ (name ++ (codes ",\"size\":" ++ decimal size)))) later)
+    ∙ ap (λ (l : List ℕ). codes ",\"kind\":\"" ++ (kind ++ (codes ",\"line\":" ++ l))) (append_assoc line (name ++ (codes ",\"size\":" ++ decimal size)) later)
+    ∙ ap (λ (l : List ℕ). codes ",\"kind\":\"" ++ (kind ++ (codes ",\"line\":" ++ (line ++ l)))) (append_assoc name (codes ",\"size\":" ++ decimal size) later)
 
-named_kind : (k : Kind) (line size : ℕ) (later : List ℕ) → (kind_led k ++ (codes ",\"line\":" ++ (decimal line ++ (codes ",\"size\":" ++ decimal size)))) ++ later
-    ≡ codes ",\"kind\":\"" ++ (shut (kind_name k) ++ (codes ",\"line\":" ++ (decimal line ++ (codes ",\"size\":" ++ (decimal size ++ later)))))
-named_kind k line size later =
-    about_before (kind_name k ++ 34 ∷ []) (decimal line) (decimal size) later
-    ∙ ap (λ (l : List ℕ). codes ",\"kind\":\"" ++ ((l ++ 34 ∷ []) ++ (codes ",\"line\":" ++ (decimal line ++ (codes ",\"size\":" ++ (decimal size ++ later)))))) (sym (kind_plain k))
+-- the kind of a message and its line, and what comes after them
+abbrev kind_before : Kind → ℕ → List ℕ → List ℕ
+kind_before k line later = codes ",\"kind\":\"" ++ (shut (kind_name k) ++ (codes ",\"line\":" ++ (decimal line ++ later)))
 
-pub about_said : (from : Direction) (m : Message) (line size : ℕ) (later : Members) → about_text from (kind_of m) line size ++ members_text true later ≡ members_text false (about from m line size later)
+named_kind : (k : Kind) (name : Option (List ℕ)) (line size : ℕ) (later : List ℕ) → (kind_led k ++ (codes ",\"line\":" ++ (decimal line ++ (command_text name ++ (codes ",\"size\":" ++ decimal size))))) ++ later
+    ≡ kind_before k line (command_text name ++ size_before size later)
+named_kind k name line size later =
+    about_before (kind_name k ++ 34 ∷ []) (decimal line) (command_text name) size later
+    ∙ ap (λ (l : List ℕ). codes ",\"kind\":\"" ++ ((l ++ 34 ∷ []) ++ (codes ",\"line\":" ++ (decimal line ++ (command_text name ++ size_before size later))))) (sym (kind_plain k))
+
+name_said : (name : Option (List ℕ)) (size : ℕ) (later : Members) → IsPlain name → command_text name ++ size_before size (members_text true later) ≡ members_text true (with_name name (member (codes "size") (count_value size) later))
 unfolding escape_byte
-about_said FromTill m line size later = ap (λ (l : List ℕ). from_text FromTill ++ l) (named_kind (kind_of m) line size (members_text true later))
-about_said FromTerminal m line size later = ap (λ (l : List ℕ). from_text FromTerminal ++ l) (named_kind (kind_of m) line size (members_text true later))
+name_said None size later plain = refl
+name_said (Some name) size later plain = ap (λ (l : List ℕ). codes ",\"name\":\"" ++ ((l ++ 34 ∷ []) ++ size_before size (members_text true later))) (sym plain)
+
+of_plain : (m : Message) → IsPlain (command_of m)
+of_plain (ack payload) = refl
+of_plain (nack code payload) = refl
+of_plain (registration password config rest) = refl
+of_plain (authorisation fields) = refl
+of_plain (reversal password fields) = refl
+of_plain (end_of_day password fields) = refl
+of_plain (abort_order fields) = refl
+of_plain (status fields) = refl
+of_plain (intermediate step payload) = refl
+of_plain (print_line attribute text) = refl
+of_plain (text_block fields) = refl
+of_plain (completion fields) = refl
+of_plain (abort code payload) = refl
+of_plain (other high low payload) = command_plain high low
+
+kind_said : (m : Message) (line size : ℕ) (later : Members) → (kind_led (kind_of m) ++ (codes ",\"line\":" ++ (decimal line ++ (command_text (command_of m) ++ (codes ",\"size\":" ++ decimal size))))) ++ members_text true later
+    ≡ kind_before (kind_of m) line (members_text true (with_name (command_of m) (member (codes "size") (count_value size) later)))
+kind_said m line size later =
+    named_kind (kind_of m) (command_of m) line size (members_text true later)
+    ∙ ap (λ (l : List ℕ). kind_before (kind_of m) line l) (name_said (command_of m) size later (of_plain m))
+
+pub about_said : (from : Direction) (m : Message) (line size : ℕ) (later : Members) → about_text from (kind_of m) (command_of m) line size ++ members_text true later ≡ members_text false (about from m line size later)
+unfolding escape_byte
+about_said FromTill m line size later = ap (λ (l : List ℕ). from_text FromTill ++ l) (kind_said m line size later)
+about_said FromTerminal m line size later = ap (λ (l : List ℕ). from_text FromTerminal ++ l) (kind_said m line size later)
 
 -- ---- the last member
 
@@ -141,17 +180,21 @@ last_said (reversal password fields) = refl
 last_said (end_of_day password fields) = refl
 last_said (abort_order fields) = refl
 last_said (status fields) = refl
-last_said (intermediate step payload) = refl
+last_said (intermediate step payload) = ap (λ (l : List ℕ). codes ",\"status\":\"" ++ (shut (hex_of step) ++ l)) (words_said (status_words step) (status_plain step))
 last_said (print_line attribute text) = refl
 last_said (text_block fields) = refl
 last_said (completion fields) = refl
-last_said (abort code payload) = words_said code (meaning_of code) refl
+last_said (abort code payload) = words_said (meaning_of code) (meaning_plain code)
 last_said (other high low payload) = refl
+
+-- the words of a code by another expression
+pub words_put : {E : Type 0} (result : Result ℕ E) (at : ℕ) (old new : List ℕ) (one two : Option (List ℕ)) → one ≡ two → Puts result at old new (words_text one) → Puts result at old new (words_text two)
+words_put result at old new one two same puts = subst (λ (words : Option (List ℕ)). Puts result at old new (words_text words)) same puts
 
 -- ---- a message
 
 pub message_said : (from : Direction) (line size : ℕ) (m : Message) → message_text from line size m ≡ compact_text (message_value from line size m)
 message_said from line size m =
-    ap (λ (l : List ℕ). 123 ∷ (first_text m ++ (about_text from (kind_of m) line size ++ l))) (last_said m)
+    ap (λ (l : List ℕ). 123 ∷ (first_text m ++ (about_text from (kind_of m) (command_of m) line size ++ l))) (last_said m)
     ∙ ap (λ (l : List ℕ). 123 ∷ (first_text m ++ l)) (about_said from m line size (last_members m))
     ∙ ap (λ (l : List ℕ). 123 ∷ l) (first_said m _ _ _)

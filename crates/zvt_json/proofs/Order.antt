@@ -1,5 +1,5 @@
 -- The members of what is written come in the order of their names.
-use Rattle.std.proofs.Common.{◌≡◌, ℕ, ◌==◌, ◌&&◌, if◌then◌else◌, Bool, true, false, Some, None, Option, List, [], ◌∷◌, length, refl, ◌∙◌, ap}
+use Rattle.std.proofs.Common.{◌≡◌, ℕ, ◌&&◌, if◌then◌else◌, Bool, true, false, Some, None, Option, List, [], ◌∷◌, length, refl, ◌∙◌, ap}
 use Rattle.std.proofs.lemmas.Bool.{and_from}
 use Rattle.serde_json.specs.Data.{Data}
 use Rattle.zvt_tlv.specs.Grammar.{Objects, none, primitive, constructed}
@@ -8,12 +8,12 @@ use Rattle.zvt_apdu.specs.Message.{Message, ack, nack, registration, authorisati
 use Rattle.zvt_field.specs.Shapes.{format_of}
 use Rattle.zvt_field.specs.declared.shapes.Format.{Format}
 use Rattle.zvt_field.specs.declared.shapes.Format.TheVariants.{Amount, Bytes, Hidden, Result, Text}
-use Rattle.zvt_text.specs.Results.{meaning_of}
+use Rattle.zvt_text.specs.Meanings.{command_name, meaning_of, status_words}
 use Rattle.zvt_text.specs.Secrets.{is_secret_tag}
 use Rattle.zvt_trace.specs.declared.direction.Direction.{Direction}
 use Rattle.zvt_trace.specs.TraceEvent as trace_event
 use Rattle.zvt_trace.specs.TraceEvent.{TraceEvent}
-use Rattle.zvt_json.specs.Fields.{amount_value, content_value, field_value, field_values, hidden_object, hidden_value, object_values, primitive_value, quoted_value, result_value, shown_object, value_in}
+use Rattle.zvt_json.specs.Fields.{field_value, field_values, hidden_object, object_values, primitive_value, result_value, shown_object, value_in}
 use Rattle.zvt_json.specs.Messages.{message_value}
 use Rattle.zvt_json.specs.Events.{EventValue}
 use Rattle.zvt_json.specs.Reading.{items_ordered, ordered}
@@ -61,6 +61,16 @@ given_up from line size code [] (Some meaning) is = rw (← is) refl
 given_up from line size code (byte ∷ bytes) None is = rw (← is) refl
 given_up from line size code (byte ∷ bytes) (Some meaning) is = rw (← is) refl
 
+waiting : (from : Direction) (line size step : ℕ) (payload : List ℕ) (words : Option (List ℕ)) → words ≡ status_words step → ordered (message_value from line size (intermediate step payload)) ≡ true
+waiting from line size step [] None is = rw (← is) refl
+waiting from line size step [] (Some words) is = rw (← is) refl
+waiting from line size step (byte ∷ bytes) None is = rw (← is) refl
+waiting from line size step (byte ∷ bytes) (Some words) is = rw (← is) refl
+
+unknown : (from : Direction) (line size high low : ℕ) (payload : List ℕ) (name : Option (List ℕ)) → name ≡ command_name high low → ordered (message_value from line size (other high low payload)) ≡ true
+unknown from line size high low payload None is = rw (← is) refl
+unknown from line size high low payload (Some name) is = rw (← is) refl
+
 message_ordered : (from : Direction) (line size : ℕ) (m : Message) → ordered (message_value from line size m) ≡ true
 message_ordered from line size (ack []) = refl
 message_ordered from line size (ack (byte ∷ bytes)) = refl
@@ -73,13 +83,12 @@ message_ordered from line size (reversal password fields) = listed fields
 message_ordered from line size (end_of_day password fields) = listed fields
 message_ordered from line size (abort_order fields) = listed fields
 message_ordered from line size (status fields) = listed fields
-message_ordered from line size (intermediate step []) = refl
-message_ordered from line size (intermediate step (byte ∷ bytes)) = refl
+message_ordered from line size (intermediate step payload) = waiting from line size step payload (status_words step) refl
 message_ordered from line size (print_line attribute text) = refl
 message_ordered from line size (text_block fields) = listed fields
 message_ordered from line size (completion fields) = listed fields
 message_ordered from line size (abort code payload) = given_up from line size code payload (meaning_of code) refl
-message_ordered from line size (other high low payload) = refl
+message_ordered from line size (other high low payload) = unknown from line size high low payload (command_name high low) refl
 
 -- the same value, by other words
 along : (a b : Data) → a ≡ b → ordered b ≡ true → ordered a ≡ true

@@ -8,16 +8,16 @@ use Rattle.serde_json.specs.Written.{compact_text, items_text, members_text}
 use Rattle.zvt_bcd.specs.Digits.{number_of}
 use Rattle.zvt_tlv.specs.Grammar.{Objects}
 use Rattle.zvt_text.specs.Bytes.{escaped_text, hex_of}
-use Rattle.zvt_text.specs.Results.{meaning_of}
+use Rattle.zvt_text.specs.Meanings.{meaning_of}
 use Rattle.zvt_text.specs.Secrets.{is_secret_tag}
 use Rattle.zvt_json.specs.Fields.{amount_value, constructed_value, content_value, field_name, hidden_object, hidden_value, named, object_values, primitive_value, quoted_value, result_value, shown_object, tag_member, tree_value, words_of}
 use Rattle.zvt_json.specs.Texts.{amount_text, code_text, content_text, hidden_object_text, hidden_text, name_text, opened_text, primitive_text, quoted_text, result_text, shown_text, shut, tag_text, tree_text, words_text}
-use Rattle.zvt_json.proofs.EscapeLemmas.{meaning_plain, name_plain}
+use Rattle.zvt_json.proofs.EscapeLemmas.{IsPlain, meaning_plain, name_plain}
 
-pub words_said : (code : ℕ) (meaning : Option (List ℕ)) → meaning ≡ meaning_of code → words_text meaning ≡ members_text true (words_of meaning)
+pub words_said : (words : Option (List ℕ)) → IsPlain words → words_text words ≡ members_text true (words_of words)
 unfolding escape_byte
-words_said code None is = refl
-words_said code (Some meaning) is = let same = meaning_plain code meaning is in rw same refl
+words_said None plain = refl
+words_said (Some words) plain = rw plain refl
 
 -- a name, and the end of the object
 name_said : (bmp : ℕ) → name_text bmp ++ codes "}" ≡ members_text true (named bmp no_members)
@@ -35,7 +35,7 @@ content_said bmp content = ap (λ (l : List ℕ). opened_text bmp ++ (codes ",\"
 -- a name, and the words of a result
 coded_said : (bmp code : ℕ) → name_text bmp ++ words_text (meaning_of code) ≡ members_text true (named bmp (words_of (meaning_of code)))
 unfolding escape_byte
-coded_said bmp code = name_before bmp (words_text (meaning_of code)) ∙ ap (λ (l : List ℕ). codes ",\"name\":\"" ++ (shut (field_name bmp) ++ l)) (words_said code (meaning_of code) refl)
+coded_said bmp code = name_before bmp (words_text (meaning_of code)) ∙ ap (λ (l : List ℕ). codes ",\"name\":\"" ++ (shut (field_name bmp) ++ l)) (words_said (meaning_of code) (meaning_plain code))
 
 pub code_said : (bmp code : ℕ) → code_text bmp code ≡ compact_text (result_value bmp (code ∷ []))
 unfolding escape_byte

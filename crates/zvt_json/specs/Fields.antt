@@ -7,7 +7,7 @@ use Rattle.zvt_field.specs.Grammar.{Field, plain, tree}
 use Rattle.zvt_field.specs.Shapes.{format_of, name_of}
 use Rattle.zvt_field.specs.declared.shapes.Format.{Format}
 use Rattle.zvt_field.specs.declared.shapes.Format.TheVariants.{Amount, Bytes, Hidden, Result, Text}
-use Rattle.zvt_text.specs.Results.{meaning_of}
+use Rattle.zvt_text.specs.Meanings.{meaning_of}
 use Rattle.zvt_text.specs.Secrets.{is_secret_tag}
 use Rattle.zvt_json.specs.Strings.{byte_value, count_value, hex_value, text_value}
 
@@ -34,7 +34,7 @@ object_values none = no_items
 object_values (primitive tag content rest) = item (primitive_value tag content) (object_values rest)
 object_values (constructed tag inner rest) = item (constructed_value tag (object_values inner)) (object_values rest)
 
--- the meaning of a code, if it has one of its own
+-- the words of a code or a status, if it has some
 abbrev pub words_of : Option (List ℕ) → Members
 words_of None = no_members
 words_of (Some meaning) = member (codes "words") (string meaning) no_members

@@ -4,7 +4,7 @@ use Rattle.serde_json.specs.Data.{Data, string, array, object, Members, no_membe
 use Rattle.zvt_field.specs.Grammar.{Field}
 use Rattle.zvt_apdu.specs.Message.{Message, ack, nack, registration, authorisation, reversal, end_of_day, abort_order, status, intermediate, print_line, text_block, completion, abort, other}
 use Rattle.zvt_text.specs.MessageTexts.{four_digits, kind_text}
-use Rattle.zvt_text.specs.Results.{meaning_of}
+use Rattle.zvt_text.specs.Meanings.{command_name, meaning_of, status_words}
 use Rattle.zvt_trace.specs.declared.direction.Direction.{Direction}
 use Rattle.zvt_trace.specs.declared.direction.Direction.TheVariants.{FromTill, FromTerminal}
 use Rattle.zvt_json.specs.Strings.{byte_value, count_value, hex_value, text_value}
@@ -14,11 +14,34 @@ abbrev pub side_name : Direction → List ℕ
 side_name FromTill = codes "till"
 side_name FromTerminal = codes "terminal"
 
--- the sender, the name of the message, the line in which it ends, and its size
+-- the name of a command outside the profile, if the table of commands has it
+abbrev pub command_of : Message → Option (List ℕ)
+command_of (ack payload) = None
+command_of (nack code payload) = None
+command_of (registration password config rest) = None
+command_of (authorisation fields) = None
+command_of (reversal password fields) = None
+command_of (end_of_day password fields) = None
+command_of (abort_order fields) = None
+command_of (status fields) = None
+command_of (intermediate step payload) = None
+command_of (print_line attribute text) = None
+command_of (text_block fields) = None
+command_of (completion fields) = None
+command_of (abort code payload) = None
+command_of (other high low payload) = command_name high low
+
+-- a name, if there is one, and the members after it
+abbrev pub with_name : Option (List ℕ) → Members → Members
+with_name None later = later
+with_name (Some name) later = member (codes "name") (string name) later
+
+-- the sender, the kind of the message, the line in which it ends, its name, and its size
 abbrev pub about : Direction → Message → (line size : ℕ) → Members → Members
 about from message line size later =
     member (codes "from") (string (side_name from))
-    (member (codes "kind") (string (kind_text message)) (member (codes "line") (count_value line) (member (codes "size") (count_value size) later)))
+    (member (codes "kind") (string (kind_text message))
+    (member (codes "line") (count_value line) (with_name (command_of message) (member (codes "size") (count_value size) later))))
 
 -- the payload, if there is any, and the text after it
 abbrev pub with_data : List ℕ → Members → Members
@@ -64,7 +87,7 @@ last_members (reversal password fields) = no_members
 last_members (end_of_day password fields) = no_members
 last_members (abort_order fields) = no_members
 last_members (status fields) = no_members
-last_members (intermediate step payload) = member (codes "status") (byte_value step) no_members
+last_members (intermediate step payload) = member (codes "status") (byte_value step) (words_of (status_words step))
 last_members (print_line attribute text) = member (codes "text") (text_value text) no_members
 last_members (text_block fields) = no_members
 last_members (completion fields) = no_members

@@ -13,13 +13,14 @@ use Rattle.zvt_apdu.specs.declared.kinds.Kind.{Kind}
 use Rattle.zvt_apdu.specs.Message.{Message, ack, nack, registration, authorisation, reversal, end_of_day, abort_order, status, intermediate, print_line, text_block, completion, abort, other}
 use Rattle.zvt_text.specs.Bytes.{escaped_text, hex_of}
 use Rattle.zvt_text.specs.MessageTexts.{four_digits, kind_name}
-use Rattle.zvt_text.specs.Results.{meaning_of}
+use Rattle.zvt_text.specs.Meanings.{meaning_of, status_words}
 use Rattle.zvt_text.specs.Secrets.{is_secret_tag}
 use Rattle.zvt_trace.specs.declared.direction.Direction.{Direction}
 use Rattle.zvt_trace.specs.declared.direction.Direction.TheVariants.{FromTill, FromTerminal}
 use Rattle.zvt_trace.specs.TraceEvent.{TraceEvent}
 use Rattle.zvt_trace.specs.TraceEvent as trace_event
 use Rattle.zvt_json.specs.Fields.{field_name, field_values, object_values}
+use Rattle.zvt_json.specs.Messages.{command_of}
 
 -- a text in a JSON string, and the quotation mark after it
 abbrev pub shut : List ℕ → List ℕ
@@ -84,28 +85,33 @@ from_text FromTerminal = codes "\"from\":\"terminal\""
 abbrev pub kind_led : Kind → List ℕ
 kind_led kind = codes ",\"kind\":\"" ++ (kind_name kind ++ 34 ∷ [])
 
-abbrev pub about_text : Direction → Kind → (line size : ℕ) → List ℕ
-about_text from kind line size =
-    from_text from ++ (kind_led kind ++ (codes ",\"line\":" ++ (decimal line ++ (codes ",\"size\":" ++ decimal size))))
+-- the name of a command, if it has one
+abbrev pub command_text : Option (List ℕ) → List ℕ
+command_text None = []
+command_text (Some name) = codes ",\"name\":\"" ++ (name ++ 34 ∷ [])
+
+abbrev pub about_text : Direction → Kind → (name : Option (List ℕ)) → (line size : ℕ) → List ℕ
+about_text from kind name line size =
+    from_text from ++ (kind_led kind ++ (codes ",\"line\":" ++ (decimal line ++ (command_text name ++ (codes ",\"size\":" ++ decimal size)))))
 
 -- ---- messages: the last member, if there is one, and the end of the object
 
 abbrev pub ended : {A : Type 0} → (A → List ℕ) → Option A → List ℕ
 ended text part = unwrap_or (option_map text part) (codes "}")
 
-abbrev pub status_text : ℕ → List ℕ
-status_text step = codes ",\"status\":\"" ++ (shut (hex_of step) ++ codes "}")
-
 abbrev pub printed_text : List ℕ → List ℕ
 printed_text line = codes ",\"text\":\"" ++ (shut (escaped_text line) ++ codes "}")
 
--- the meaning of a code, if it has one of its own
+-- the words of a code or a status, if it has some
 abbrev pub words_text : Option (List ℕ) → List ℕ
 words_text None = codes "}"
 words_text (Some meaning) = codes ",\"words\":\"" ++ (meaning ++ 34 ∷ []) ++ codes "}"
 
 abbrev pub coded_text : ℕ → List ℕ
 coded_text code = words_text (meaning_of code)
+
+abbrev pub status_text : ℕ → List ℕ
+status_text step = codes ",\"status\":\"" ++ (shut (hex_of step) ++ words_text (status_words step))
 
 abbrev pub last_text : Message → List ℕ
 last_text (ack payload) = codes "}"
@@ -124,7 +130,7 @@ last_text (abort code payload) = coded_text code
 last_text (other high low payload) = codes "}"
 
 abbrev pub message_text : Direction → (line size : ℕ) → Message → List ℕ
-message_text from line size message = codes "{" ++ (first_text message ++ (about_text from (kind_of message) line size ++ last_text message))
+message_text from line size message = codes "{" ++ (first_text message ++ (about_text from (kind_of message) (command_of message) line size ++ last_text message))
 
 -- ---- events
 

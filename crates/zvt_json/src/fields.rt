@@ -16,6 +16,7 @@ use crate::strings::{byte, bytes, text};
 use zvt_bcd::number;
 use zvt_field::{FieldView, FieldsView, Format, format};
 use zvt_text::cursor::{Full, decimal, fixed, push};
+use zvt_text::meaning;
 use zvt_tlv::ForestView;
 
 /// Writes an object for each field, and the end of the array.
@@ -111,7 +112,7 @@ fn result_code(buffer: &mut [u8], at: usize, bmp: u8, code: u8) -> Result<usize,
     let at = fixed(buffer, at, *b",\"code\":\"")?;
     let at = byte(buffer, at, code)?;
     let at = name(buffer, at, bmp)?;
-    words(buffer, at, code)
+    words(buffer, at, meaning(code))
 }
 
 /// Writes a text with escapes.

@@ -1,12 +1,13 @@
 //! The JSON of messages.
-ghost use Rattle.std.specs.Prelude.{◌≡◌, ◌≤◌, length};
+ghost use Rattle.std.specs.Prelude.{◌≡◌, ◌≤◌, length, option_map};
 ghost use Rattle.std.specs.Option.{option_copied};
 ghost use Rattle.zvt_apdu.specs.Kinds.{kind_of};
 ghost use Rattle.zvt_text.specs.MessageTexts.{part_text};
 ghost use Rattle.zvt_text.specs.Writing.{Puts};
+ghost use Rattle.zvt_json.specs.Messages.{command_of};
 ghost use Rattle.zvt_json.specs.Texts.{about_text, attribute_led, code_led, coded_text, config_led, control_led};
 ghost use Rattle.zvt_json.specs.Texts.{currency_led, data_led, ended, fields_led, first_text, from_text, kind_led};
-ghost use Rattle.zvt_json.specs.Texts.{status_text};
+ghost use Rattle.zvt_json.specs.Texts.{command_text, status_text};
 ghost use Rattle.zvt_json.specs.Texts.{last_text, message_text, printed_text, size_led, size_member};
 
 use crate::fields::fields;
@@ -16,7 +17,7 @@ use zvt_apdu::{ApduView, Kind};
 use zvt_bcd::Currency;
 use zvt_field::FieldsView;
 use zvt_text::cursor::{Full, decimal, fixed, four_digits, push, word};
-use zvt_text::kind_name;
+use zvt_text::{command_name, kind_name, meaning, status_words};
 use zvt_trace::Direction;
 
 /// The sender of a message, the line of the trace in which it ends, and its size with the shortest lengths.
@@ -38,24 +39,59 @@ pub(crate) fn message(
     ensures { Puts result at buffer.old buffer.new (message_text origin.from origin.line origin.size message.now) }
 {
     let kind = message.kind();
+    let name = command(message);
     let at = push(buffer, at, b'{')?;
     let at = first(buffer, at, message)?;
-    let at = about(buffer, at, origin, kind)?;
+    let at = about(buffer, at, origin, kind, name)?;
     last(buffer, at, message)
 }
 
 /// Writes the members that every message has.
 #[inline(always)]
-fn about(buffer: &mut [u8], at: usize, origin: Origin, kind: Kind) -> Result<usize, Full>
+fn about(
+    buffer: &mut [u8],
+    at: usize,
+    origin: Origin,
+    kind: Kind,
+    name: Option<&str>,
+) -> Result<usize, Full>
     requires { at ≤ length buffer.old }
-    ensures { Puts result at buffer.old buffer.new (about_text origin.from kind origin.line origin.size) }
+    ensures { Puts result at buffer.old buffer.new
+        (about_text origin.from kind (option_copied name.entry) origin.line origin.size) }
 {
     let at = sender(buffer, at, origin.from)?;
     let at = called(buffer, at, kind)?;
     let at = fixed(buffer, at, *b",\"line\":")?;
     let at = decimal(buffer, at, origin.line)?;
+    let at = named(buffer, at, name)?;
     let at = fixed(buffer, at, *b",\"size\":")?;
     decimal(buffer, at, origin.size as u64)
+}
+
+/// Returns the name of a command outside the profile, if it is known.
+fn command(message: &ApduView<'_>) -> Option<&'static str>
+    ensures { option_map (λ name. name.now) result ≡ command_of message.now }
+{
+    match message.kind() {
+        Kind::Other => {
+            let [high, low] = message.control();
+            command_name(high, low)
+        }
+        _ => None,
+    }
+}
+
+/// Writes the name of a command, if it has one.
+fn named(buffer: &mut [u8], at: usize, name: Option<&str>) -> Result<usize, Full>
+    requires { at ≤ length buffer.old }
+    ensures { Puts result at buffer.old buffer.new (command_text (option_copied name.entry)) }
+{
+    let Some(name) = name else {
+        return Ok(at);
+    };
+    let at = fixed(buffer, at, *b",\"name\":\"")?;
+    let at = word(buffer, at, name.as_bytes())?;
+    push(buffer, at, b'"')
 }
 
 /// Writes the sender.
@@ -241,12 +277,12 @@ fn last(buffer: &mut [u8], at: usize, message: &ApduView<'_>) -> Result<usize, F
     match message.kind() {
         Kind::Intermediate => status(buffer, at, message.status()),
         Kind::PrintLine => printed(buffer, at, message.text()),
-        Kind::Abort => meaning(buffer, at, message.code()),
+        Kind::Abort => ended_by(buffer, at, message.code()),
         _ => push(buffer, at, b'}'),
     }
 }
 
-/// Writes the state of the terminal in an intermediate status.
+/// Writes the state of the terminal in an intermediate status, and its words.
 fn status(buffer: &mut [u8], at: usize, status: Option<u8>) -> Result<usize, Full>
     requires { at ≤ length buffer.old }
     ensures { Puts result at buffer.old buffer.new (ended status_text status) }
@@ -256,7 +292,7 @@ fn status(buffer: &mut [u8], at: usize, status: Option<u8>) -> Result<usize, Ful
     };
     let at = fixed(buffer, at, *b",\"status\":\"")?;
     let at = byte(buffer, at, status)?;
-    push(buffer, at, b'}')
+    words(buffer, at, status_words(status))
 }
 
 /// Writes a print line.
@@ -273,12 +309,12 @@ fn printed(buffer: &mut [u8], at: usize, line: Option<&[u8]>) -> Result<usize, F
 }
 
 /// Writes the meaning of a code.
-fn meaning(buffer: &mut [u8], at: usize, code: Option<u8>) -> Result<usize, Full>
+fn ended_by(buffer: &mut [u8], at: usize, code: Option<u8>) -> Result<usize, Full>
     requires { at ≤ length buffer.old }
     ensures { Puts result at buffer.old buffer.new (ended coded_text code) }
 {
     match code {
-        Some(code) => words(buffer, at, code),
+        Some(code) => words(buffer, at, meaning(code)),
         None => push(buffer, at, b'}'),
     }
 }

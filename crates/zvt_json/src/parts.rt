@@ -1,14 +1,13 @@
 //! Parts of arrays and objects.
 ghost use Rattle.std.specs.Prelude.{◌≡◌, ◌≤◌, length};
+ghost use Rattle.std.specs.Option.{option_copied};
 ghost use Rattle.serde_json.specs.Written.{comma_if};
 ghost use Rattle.zvt_json.specs.Fields.{field_name};
-ghost use Rattle.zvt_text.specs.Results.{meaning_of};
 ghost use Rattle.zvt_text.specs.Writing.{Puts};
 ghost use Rattle.zvt_json.specs.Texts.{name_text, opened_text, words_text};
 
 use crate::strings::byte;
 use zvt_text::cursor::{Full, fixed, push, word};
-use zvt_text::meaning;
 
 /// Writes a comma, unless this is the first item.
 #[inline(always)]
@@ -22,15 +21,15 @@ pub(crate) fn comma(buffer: &mut [u8], at: usize, later: bool) -> Result<usize, 
     Ok(at)
 }
 
-/// Writes the meaning of a code, if it has one of its own, and the end of the object.
-pub(crate) fn words(buffer: &mut [u8], at: usize, code: u8) -> Result<usize, Full>
+/// Writes the words of a code or a status, if it has some, and the end of the object.
+pub(crate) fn words(buffer: &mut [u8], at: usize, words: Option<&str>) -> Result<usize, Full>
     requires { at ≤ length buffer.old }
-    ensures { Puts result at buffer.old buffer.new (words_text (meaning_of code)) }
+    ensures { Puts result at buffer.old buffer.new (words_text (option_copied words.entry)) }
 {
-    match meaning(code) {
-        Some(meaning) => {
+    match words {
+        Some(words) => {
             let at = fixed(buffer, at, *b",\"words\":\"")?;
-            let at = word(buffer, at, meaning.as_bytes())?;
+            let at = word(buffer, at, words.as_bytes())?;
             fixed(buffer, at, *b"\"}")
         }
         None => push(buffer, at, b'}'),

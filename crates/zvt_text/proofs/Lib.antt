@@ -6,3 +6,4 @@ pub mod DetailLemmas
 pub mod ObjectLines
 pub mod FieldLemmas
 pub mod WordLemmas
+pub mod MeaningLemmas

@@ -1,11 +1,12 @@
 -- Lines worked by hand.
-use Rattle.std.proofs.Common.{◌≡◌, [], ◌∷◌, Some, refl, codes}
+use Rattle.std.proofs.Common.{◌≡◌, ℕ, Bool, true, ◌&&◌, nat_lt, length, List, [], ◌∷◌, None, Some, refl, codes}
 use Rattle.std.specs.Fmt.{digits}
 use Rattle.hex.specs.Hex.{encode_with}
 use Rattle.zvt_tlv.specs.Grammar.{none, primitive, constructed}
 use Rattle.zvt_field.specs.Grammar.{plain, tree}
 use Rattle.zvt_apdu.specs.Message.{abort, nack, other, print_line, registration, reversal}
 use Rattle.zvt_text.specs.Lines.{field_line}
+use Rattle.zvt_text.specs.Meanings.{card_type_name, card_types, command_name, commands, meaning_of, printed_of, results, status_words, statuses, tag_name, tags}
 use Rattle.zvt_text.specs.MessageTexts.{said}
 use Rattle.zvt_text.specs.declared.privacy.Privacy.TheVariants.{Plain, Safe}
 
@@ -16,7 +17,7 @@ amount = refl
 
 -- 27 00
 pub result : field_line Plain (plain 0x27 (0x00 ∷ [])) ≡ codes "  27 result 00 success\n"
-unfolding encode_with
+unfolding encode_with printed_of meaning_of
 result = refl
 
 -- 22 F0 F1 55
@@ -51,8 +52,66 @@ refused = refl
 
 -- 06 1E 01 6C
 pub given_up : said Plain (abort 0x6C []) ≡ codes "Abort 6C abort by time-out or abort key\n"
-unfolding encode_with
+unfolding encode_with printed_of meaning_of
 given_up = refl
+
+-- 06 1E 01 65, whose meaning stands elsewhere alone
+pub no_card_data : said Plain (abort 0x65 []) ≡ codes "Abort code 65\n"
+unfolding encode_with printed_of meaning_of
+no_card_data = refl
+
+pub no_card_data_means : meaning_of 0x65 ≡ Some (codes "no card data found")
+unfolding meaning_of
+no_card_data_means = refl
+
+-- a code of the network operator's
+pub operator_code : meaning_of 0x05 ≡ None
+unfolding meaning_of
+operator_code = refl
+
+-- 04 FF 01 0A
+pub card_wanted : status_words 0x0A ≡ Some (codes "insert the card")
+unfolding status_words
+card_wanted = refl
+
+pub abort_key : status_words 0x6C ≡ None
+unfolding status_words
+abort_key = refl
+
+-- 06 31, and 06 30 of the profile
+pub refund : command_name 0x06 0x31 ≡ Some (codes "refund")
+unfolding command_name
+refund = refl
+
+pub reversal_is_named : command_name 0x06 0x30 ≡ None
+unfolding command_name
+reversal_is_named = refl
+
+-- 8A 05
+pub girocard : card_type_name 0x05 ≡ Some (codes "girocard")
+unfolding card_type_name
+girocard = refl
+
+-- the tags 07, 1F 07 and 1F 1F 07
+pub text_line : tag_name (0x07 ∷ []) ≡ Some (codes "text line")
+unfolding tag_name
+text_line = refl
+
+pub receipt_type : tag_name (0x1F ∷ 0x07 ∷ []) ≡ Some (codes "receipt type")
+unfolding tag_name
+receipt_type = refl
+
+pub long_tag : tag_name (0x1F ∷ 0x1F ∷ 0x07 ∷ []) ≡ None
+unfolding tag_name
+long_tag = refl
+
+-- 64 bytes hold any words
+abbrev are_short : List (ℕ × List ℕ) → Bool
+are_short [] = true
+are_short (row ∷ rows) = nat_lt (length row.1) 64 && are_short rows
+
+pub short_words : (are_short results && (are_short statuses && (are_short commands && (are_short card_types && are_short tags)))) ≡ true
+short_words = refl
 
 -- 05 02 01 4F
 pub unnamed : said Plain (other 0x05 0x02 (0x4F ∷ [])) ≡ codes "Other 0502 data 4F\n"

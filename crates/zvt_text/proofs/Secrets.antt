@@ -1,5 +1,5 @@
 -- Only the size of what is hidden is said.
-use Rattle.std.proofs.Common.{◌≡◌, ℕ, ◌+◌, Bool, true, false, List, [], ◌∷◌, ◌++◌, Option, Some, None, if◌then◌else◌, length, refl, sym, ◌∙◌, ap, codes}
+use Rattle.std.proofs.Common.{◌≡◌, ℕ, ◌+◌, Bool, true, false, List, [], ◌∷◌, ◌++◌, Some, None, if◌then◌else◌, length, refl, sym, ◌∙◌, ap, codes}
 use Rattle.std.proofs.lemmas.List.{length-replicate}
 use Rattle.std.specs.Fmt.{decimal}
 use Rattle.hex.specs.Hex.{encode_upper}
@@ -12,7 +12,7 @@ use Rattle.zvt_apdu.specs.Message.{Message, ack, nack, registration, authorisati
 use Rattle.zvt_text.specs.Bytes.{hex_or_dash}
 use Rattle.zvt_text.specs.Lines.{field_line, field_lines, named_text, object_head, object_lines, value_in}
 use Rattle.zvt_text.specs.Laws.{PasswordsStayHidden, SafeTextsAgree, SecretsStayHidden}
-use Rattle.zvt_text.specs.MessageTexts.{fields_of, head_text, hidden_data, said}
+use Rattle.zvt_text.specs.MessageTexts.{head_text, hidden_data, said}
 use Rattle.zvt_text.specs.Secrets.{blank, blanked, blanked_field, blanked_fields, blanked_in, blanked_objects, hidden_text, is_secret_tag}
 use Rattle.zvt_text.specs.declared.privacy.Privacy.{Privacy}
 use Rattle.zvt_text.specs.declared.privacy.Privacy.TheVariants.{Safe}

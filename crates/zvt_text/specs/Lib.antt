@@ -1,6 +1,7 @@
 pub mod Bytes
 pub mod Numbers
 pub mod Words
+pub mod Meanings
 pub mod Results
 pub mod Secrets
 pub mod Lines

@@ -1,5 +1,5 @@
 -- What a safe text does not show: passwords, card data, and the data of messages outside the payment profile.
-use Rattle.std.specs.Prelude.{ℕ, Bool, true, false, ◌==◌, ◌||◌, if◌then◌else◌, List, [], ◌∷◌, ◌++◌, length, map, replicate, codes, Option, option_map}
+use Rattle.std.specs.Prelude.{ℕ, Bool, false, ◌==◌, ◌||◌, if◌then◌else◌, List, [], ◌∷◌, ◌++◌, length, map, replicate, codes, option_map}
 use Rattle.std.specs.Fmt.{decimal}
 use Rattle.zvt_tlv.specs.Grammar.{Objects, none, primitive, constructed}
 use Rattle.zvt_field.specs.Grammar.{Field, plain, tree}

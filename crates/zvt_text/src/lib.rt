@@ -9,6 +9,7 @@ mod form;
 mod heads;
 pub mod laws;
 mod lines;
+mod meanings;
 mod objects;
 mod privacy;
 mod text;
@@ -19,8 +20,7 @@ mod write;
 pub use bytes::{is_plain, plain_first};
 pub use form::Form;
 pub use heads::kind_name;
+pub use meanings::{card_type_name, command_name, meaning, status_words, tag_name};
 pub use privacy::{Privacy, is_secret_tag};
 pub use text::{Says, Text};
-pub use write::{
-    currency_digits, escaped_line, hexadecimal, line, meaning, message, numbers, result_words,
-};
+pub use write::{currency_digits, escaped_line, hexadecimal, line, message, numbers, result_words};

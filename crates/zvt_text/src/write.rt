@@ -1,9 +1,10 @@
 //! Writes messages and their parts, each completely or not at all.
-ghost use Rattle.std.specs.Prelude.{◌≡◌, ◌≤◌, ◌++◌, ◌∷◌, [], length, option_map};
+ghost use Rattle.std.specs.Prelude.{◌≡◌, ◌≤◌, ◌++◌, ◌∷◌, [], length};
+ghost use Rattle.std.specs.Option.{option_copied};
 ghost use Rattle.hex.specs.Hex.{encode_upper};
 ghost use Rattle.zvt_text.specs.Bytes.{escaped_text};
 ghost use Rattle.zvt_text.specs.Numbers.{numbers_text, trace_text};
-ghost use Rattle.zvt_text.specs.Results.{meaning_of, result_words};
+ghost use Rattle.zvt_text.specs.Results.{result_words, with_meaning};
 ghost use Rattle.zvt_text.specs.MessageTexts.{four_digits, said};
 ghost use Rattle.zvt_text.specs.Writing.{Adds, Puts};
 
@@ -11,6 +12,7 @@ use crate::bytes::{bytes_or_dash, escape_all};
 use crate::cursor::{self, Full, byte, fixed, push, repeat, word};
 use crate::heads::head;
 use crate::lines::field_lines;
+use crate::meanings::printed_meaning;
 use crate::privacy::Privacy;
 use crate::text::{Says, Text};
 use itoa::Buffer;
@@ -39,8 +41,8 @@ pub fn message(
     })
 }
 
-/// Writes a result code and its meaning, such as `6F wrong currency`. A code without a meaning is written as `code`
-/// and two hexadecimal digits.
+/// Writes a result code and its meaning, such as `6F wrong currency`. A code whose meaning the plain text does not have
+/// is written as `code` and two hexadecimal digits.
 pub fn result_words(text: &mut Text, code: u8) -> Result<(), AllocError>
     ensures { Adds result text.old text.new (result_words code) }
 {
@@ -133,12 +135,20 @@ impl Says for ResultCode {
     }
 }
 
-/// Puts a result code and what it means into the buffer.
+/// Puts a result code into the buffer, and its meaning if the plain text has it.
 pub(crate) fn put_result(buffer: &mut [u8], at: usize, code: u8) -> Result<usize, Full>
     requires { at ≤ length buffer.old }
     ensures { Puts result at buffer.old buffer.new (result_words code) }
 {
-    match meaning(code) {
+    put_code(buffer, at, code, printed_meaning(code))
+}
+
+/// Puts a code and its meaning into the buffer.
+fn put_code(buffer: &mut [u8], at: usize, code: u8, meaning: Option<&str>) -> Result<usize, Full>
+    requires { at ≤ length buffer.old }
+    ensures { Puts result at buffer.old buffer.new (with_meaning code (option_copied meaning.entry)) }
+{
+    match meaning {
         Some(meaning) => {
             let at = byte(buffer, at, code)?;
             let at = push(buffer, at, b' ')?;
@@ -149,23 +159,6 @@ pub(crate) fn put_result(buffer: &mut [u8], at: usize, code: u8) -> Result<usize
             byte(buffer, at, code)
         }
     }
-}
-
-/// Returns the meaning of a result code, if it has one.
-pub fn meaning(code: u8) -> Option<&'static str>
-    ensures { option_map (λ meaning. meaning.now) result ≡ meaning_of code }
-{
-    Some(match code {
-        0x00 => "success",
-        0x64 => "card not readable",
-        0x6C => "abort by time-out or abort key",
-        0x6F => "wrong currency",
-        0x83 => "function not possible",
-        0xB4 => "already reversed",
-        0xB5 => "reversal not possible",
-        0xFF => "system error",
-        _ => return None,
-    })
 }
 
 /// The numbers under which a payment is stored.

@@ -2,7 +2,7 @@ use Rattle.std.proofs.Common.{◌≡◌, ℕ, ◌<◌, List, [], ◌∷◌, ◌+
 use Rattle.std.proofs.lemmas.Grind.{common_steps}
 use Rattle.zvt_text.specs.MessageTexts.{hidden_data}
 use Rattle.zvt_text.specs.Secrets.{hidden_text}
-use Rattle.zvt_text.proofs.RoomLemmas.{puts_more, puts_same}
+use Rattle.zvt_text.proofs.RoomLemmas.{puts_more}
 use Rattle.zvt_text.proofs.details.payload_size.Goals as goal
 
 some_data : (payload : List ℕ) → 0 < length payload → codes " data " ++ hidden_text payload ≡ hidden_data payload
