@@ -63,6 +63,7 @@ static class TillCheck {
             Tells("amount", () => till.Pay(1000000000000));
             Tells("place", () => till.Reverse(-1));
             Tells("offline", () => till.Pay(1));
+            Tells("status 0A", () => Till.StatusName(0x0A));
         }
     }
 

@@ -69,6 +69,7 @@ public final class TillCheck {
             tells("amount", () -> till.pay(1_000_000_000_000L));
             tells("place", () -> till.reverse(-1));
             tells("offline", () -> till.pay(1));
+            tells("status 0A", () -> till.statusName(0x0A));
         }
     }
 

@@ -44,7 +44,7 @@ ARGUMENTS = ["password: argument: {password} is a number from 0 to 999999, and n
              "amount 0: argument: amount is a number from 1 to 999999999999, and not 0",
              "amount: argument: amount is a number from 1 to 999999999999, and not 1000000000000",
              "place: argument: place is a number from 0 to 2147483647, and not -1",
-             "offline: refused: the line is down"]
+             "offline: refused: the line is down", "status 0A: insert the card"]
 CLOSED = [f"closed {call}: use: the till is closed" for call in (
     "register", "pay", "reverse", "close day", "book", "unclear", "unclear reversals", "total", "registered", "last", "save", "load", "connect")]
 # What a callback is told of a registration and of a payment, whose book is kept; and its reference and the length of its time,

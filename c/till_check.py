@@ -301,6 +301,11 @@ def the_text_of_each_message_is_told():
     assert till.state() == zvt.State(0, 0, 0, 0, 0, True, None, paid), till.state()
 
 
+def a_status_has_its_words():
+    till = zvt.Till(sys.argv[1])
+    assert [till.status_name(status) for status in (0x0A, 0x6C, 0xFF)] == ["insert the card", None, "no status code fits"]
+
+
 def wrong_arguments_are_refused():
     till = zvt.Till(sys.argv[1])
     for error, name, call in ((ValueError, "password", lambda: zvt.Till(sys.argv[1], password=12345678)),
@@ -308,7 +313,8 @@ def wrong_arguments_are_refused():
                               (ValueError, "currency", lambda: zvt.Till(sys.argv[1], currency=65536 + 978)),
                               (TypeError, "amount", lambda: till.pay(12.34)), (TypeError, "amount", lambda: till.pay(True)),
                               (ValueError, "amount", lambda: till.pay(0)), (ValueError, "amount", lambda: till.pay(10 ** 12)),
-                              (ValueError, "place", lambda: till.reverse(-1)), (TypeError, "place", lambda: till.reverse("1"))):
+                              (ValueError, "place", lambda: till.reverse(-1)), (TypeError, "place", lambda: till.reverse("1")),
+                              (ValueError, "status", lambda: till.status_name(256)), (TypeError, "status", lambda: till.status_name("0A"))):
         try:
             call()
             assert False, name

@@ -238,6 +238,7 @@ begin
   Tells('amount');
   Tells('place');
   Tells('offline');
+  Say('status 0A: ' + ZvtStatusName($0A));
 end;
 
 { Callbacks that raise or call their till, silence, and cancelled payments. }

@@ -653,7 +653,7 @@ class Till:
 
     def status_name(self, status):
         """Returns the words of an intermediate status, which says what the terminal waits for or does, or None."""
-        whole("the status", status, 0, 255)
+        whole("status", status, 0, 255)
         return written(self._library.zvt_status_name, status) or None
 
     def unclear_reversals(self):

@@ -46,6 +46,7 @@ REFUSED = [
     ("check-till --listen 1 --junit", "error: a value is required for '--junit <FILE>' but none was supplied\n"),
     ("join --resync", "error: unexpected argument '--resync' found\n"),
     ("receipts --safe", "error: unexpected argument '--safe' found\n"),
+    ("join --explain", "error: unexpected argument '--explain' found\n"),
     ("till --port=1 --port=2", "error: the argument '--port <PORT>' cannot be used multiple times\n"),
 ]
 # Words that name no step of a loop: amounts, entries and codes that are none, and none of the names.

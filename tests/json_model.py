@@ -53,7 +53,8 @@ def words_in(title):
     return dict(re.findall(r"^\| ([0-9A-F]+) \| ([^|]+) \|", section, re.M))
 
 
-MEANINGS, STATUSES, COMMANDS = (words_in(title) for title in ("Result codes", "Intermediate statuses", "Commands"))
+MEANINGS, STATUSES, COMMANDS, CARD_TYPES, TAGS = (
+    words_in(title) for title in ("Result codes", "Intermediate statuses", "Commands", "Card types", "Tags"))
 
 
 class Refused(Exception):
@@ -401,25 +402,37 @@ def words_of(said):
     return f"{said['code']} {said['words']}" if said["code"] in PRINTED else f"code {said['code']}"
 
 
-def text_of_objects(found, depth):
+def unprinted(said):
+    """The words of a code that `words_of` doesn't write."""
+    return None if said["code"] in PRINTED else said.get("words")
+
+
+def noted(line, words, explained):
+    return f"{line} ({words})" if explained and words else line
+
+
+def text_of_objects(found, depth, explained):
     for one in found:
         shown = "constructed" if "objects" in one else f"hidden {one['hidden']}" if "hidden" in one else one["content"] or "-"
-        yield f"{'  ' * (depth + 1)}{one['tag']} {shown}"
-        yield from text_of_objects(one.get("objects", ()), depth + 1)
+        yield noted(f"{'  ' * (depth + 1)}{one['tag']} {shown}", TAGS.get(one["tag"]), explained)
+        yield from text_of_objects(one.get("objects", ()), depth + 1, explained)
 
 
-def text_of_field(said):
+def text_of_field(said, explained):
     head = f"  {said['bmp']} {said['name']}"
     if "objects" in said:
-        return [head, *text_of_objects(said["objects"], 1)]
+        return [head, *text_of_objects(said["objects"], 1, explained)]
     if "text" in said:
         return [f'{head} "{said["text"]}"']
-    value = words_of(said) if "code" in said else said.get("value", said.get("content") or "-")
-    return [f"{head} hidden {said['hidden']}" if "hidden" in said else f"{head} {value}"]
+    if "code" in said:
+        return [noted(f"{head} {words_of(said)}", unprinted(said), explained)]
+    value = said.get("value", said.get("content") or "-")
+    card_type = CARD_TYPES.get(value) if said["bmp"] == "8A" else None
+    return [f"{head} hidden {said['hidden']}" if "hidden" in said else noted(f"{head} {value}", card_type, explained)]
 
 
-def text_of(said):
-    """The lines of `show` for an event, or of `show --safe` for one of `safe_of`."""
+def text_of(said, explained=False):
+    """The lines of `show` for an event, or of `show --safe` for one of `safe_of`; or with `--explain`."""
     if "lost" in said:
         return ["! line lost"]
     mark = MARKS[said["from"]]
@@ -437,7 +450,9 @@ def text_of(said):
         "Registration": lambda: f" config {said['config']}" + (f" currency {said['currency']}" if "currency" in said else ""),
     }.get(said["kind"], str)()
     data = f" data {said['data']}" if "data" in said else f" data hidden {said['data_size']}" if said.get("data_size") else ""
-    return [f"{mark} {said['kind']}{head}{data}", *(row for one in said.get("fields", ()) for row in text_of_field(one))]
+    words = {"Abort": unprinted, "Intermediate": lambda said: said.get("words"), "Other": lambda said: said.get("name")}.get(said["kind"])
+    return [noted(f"{mark} {said['kind']}{head}{data}", words and words(said), explained),
+            *(row for one in said.get("fields", ()) for row in text_of_field(one, explained))]
 
 
 def main():

@@ -1,6 +1,6 @@
 #!/usr/bin/env python3
 """Compares `show` and `receipts`, as text and as JSON, with the model of `json_model.py`, byte for byte, strictly and with
-`--loose`, and `show` with `--resync` and with `--safe` too.
+`--loose`, and `show` with `--resync`, `--safe` and `--explain` too.
 
     tests/json_output.py [--text] [PROGRAM]
 
@@ -143,6 +143,9 @@ def hold(name, trace):
         printed = list(json_model.receipts_of(events))
         safe = "".join(row + "\n" for event in events for row in json_model.text_of(json_model.safe_of(event)))
         compare(name, ["show", "--safe", *loose], trace, [status, safe.encode("ascii")])
+        for words, form in ((["--explain"], dict), (["--safe", "--explain"], json_model.safe_of)):
+            explained = "".join(row + "\n" for event in events for row in json_model.text_of(form(event), True))
+            compare(name, ["show", *words, *loose], trace, [status, explained.encode("ascii")])
         compare(name, ["receipts", *loose], trace, [status, "".join(event["text"] + "\n" for event in printed).encode("ascii")])
         if not TEXT_ALONE:
             receipts = "".join(json_model.json_of(event) + "\n" for event in printed)

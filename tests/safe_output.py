@@ -109,7 +109,7 @@ def hold_show():
         variants += len(made)
         first = b"".join(line(sign, data) for _ in made)
         changed = b"".join(line(sign, other) for other, _ in made)
-        for words in (["show", "--safe"], ["show", "--json"]):
+        for words in (["show", "--safe"], ["show", "--safe", "--explain"], ["show", "--json"]):
             wanted, found = run(words, first), run(words, changed)
             check(f"{name}: {' '.join(words)} has the lines", wanted[0], 0)
             check(f"{name}: {' '.join(words)}", found == wanted, True)

@@ -6,7 +6,7 @@ use Rattle.serde_json.specs.Data.{object, member}
 use Rattle.serde_json.specs.Written.{has_float}
 use Rattle.zvt_json.specs.Fields.{words_of}
 use Rattle.zvt_json.specs.Strings.{byte_value, line_text}
-use Rattle.zvt_text.specs.Results.{meaning_of}
+use Rattle.zvt_text.specs.Meanings.{meaning_of}
 use Rattle.zvt_till.specs.declared.line.RunFault.{RunFault}
 use Rattle.zvt_till.specs.declared.keeper.BookFault.TheVariants.{NoSpace, Failed}
 use Rattle.zvt_till.specs.declared.line.RunFault.TheVariants.{Order, Line, Book as BookBroke}

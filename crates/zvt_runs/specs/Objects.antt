@@ -8,7 +8,7 @@ use Rattle.zvt_json.specs.Fields.{words_of}
 use Rattle.zvt_json.specs.Strings.{byte_value, count_value, hex_value, line_text}
 use Rattle.zvt_text.specs.declared.form.Form.{Form}
 use Rattle.zvt_text.specs.declared.form.Form.TheVariants.{Text, Json}
-use Rattle.zvt_text.specs.Results.{meaning_of}
+use Rattle.zvt_text.specs.Meanings.{meaning_of}
 use Rattle.zvt_stream.specs.declared.line.LineFault.TheVariants.{Turns}
 use Rattle.zvt_till.specs.Names.{cause_name, refusal_name}
 use Rattle.zvt_till.specs.declared.line.RunFault.{RunFault}
@@ -103,12 +103,16 @@ unfolding digits escape_byte
 without_receipt = refl
 
 a_decline : step_line Json (codes "pay:500") (Ok (Declined 0x6F)) None ≡ codes "{\"code\":\"6F\",\"outcome\":\"declined\",\"step\":\"pay:500\",\"words\":\"wrong currency\"}\n"
-unfolding encode_with escape_byte
+unfolding encode_with escape_byte meaning_of
 a_decline = refl
 
--- a code without a meaning of its own
+-- a code whose meaning the text does not have, and one without a meaning
+no_card : step_line Json (codes "pay:500") (Ok (Aborted 0x65)) None ≡ codes "{\"code\":\"65\",\"outcome\":\"aborted\",\"step\":\"pay:500\",\"words\":\"no card data found\"}\n"
+unfolding encode_with escape_byte meaning_of
+no_card = refl
+
 no_words : step_line Json (codes "reverse:1") (Ok (Refused 0x99)) None ≡ codes "{\"code\":\"99\",\"outcome\":\"refused\",\"step\":\"reverse:1\"}\n"
-unfolding encode_with escape_byte
+unfolding encode_with escape_byte meaning_of
 no_words = refl
 
 an_unclear_payment : step_line Json (codes "pay:1000") (Ok (Unclear NoStatus)) None ≡ codes "{\"cause\":\"NoStatus\",\"outcome\":\"unclear\",\"step\":\"pay:1000\"}\n"

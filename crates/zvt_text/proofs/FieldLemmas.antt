@@ -13,7 +13,7 @@ use Rattle.zvt_field.specs.Named.{bytes_of}
 use Rattle.zvt_field.specs.Views.{FieldBytes, tree_of}
 use Rattle.zvt_field.specs.declared.views.FieldView.{FieldView}
 use Rattle.zvt_field.proofs.ViewLemmas.{name_is, plain_of}
-use Rattle.zvt_text.specs.Lines.{field_line, named_text, object_lines, value_text}
+use Rattle.zvt_text.specs.Lines.{field_line, named_text, noted_value, object_lines}
 use Rattle.zvt_text.specs.declared.privacy.Privacy.{Privacy}
 use Rattle.zvt_text.proofs.RoomLemmas.{prefix_full}
 
@@ -43,8 +43,8 @@ objects_shallow v objects e = inside_shallow v.bmp v.content.now v.field objects
 named_first : (privacy : Privacy) (f : Field) (bmp : ℕ) → name_of f ≡ bmp → (rest : List ℕ) × (named_text bmp ++ rest ≡ field_line privacy f)
 named_first privacy (plain n content) bmp name =
     let same : bmp ≡ n = sym name in (
-      32 ∷ value_text n content ++ 10 ∷ [],
-      sym (append_assoc (named_text bmp) (32 ∷ value_text n content) (10 ∷ [])) ∙ ap (λ (b : ℕ). named_text b ++ 32 ∷ value_text n content ++ 10 ∷ []) same,
+      32 ∷ noted_value privacy n content ++ 10 ∷ [],
+      sym (append_assoc (named_text bmp) (32 ∷ noted_value privacy n content) (10 ∷ [])) ∙ ap (λ (b : ℕ). named_text b ++ 32 ∷ noted_value privacy n content ++ 10 ∷ []) same,
     )
 named_first privacy (tree n objects) bmp name = let same : bmp ≡ n = sym name in (10 ∷ object_lines privacy 1 objects, ap (λ (b : ℕ). named_text b ++ 10 ∷ object_lines privacy 1 objects) same)
 

@@ -1,12 +1,12 @@
 -- The lines of the object that a view shows, and of those after it.
-use Rattle.std.proofs.Common.{◌≡◌, ℕ, ◌+◌, ◌<◌, true, Some, None, List, [], ◌∷◌, ◌++◌, codes, sym, ◌∙◌, ap, subst, append_assoc, add-one}
+use Rattle.std.proofs.Common.{◌≡◌, ℕ, ◌+◌, ◌<◌, true, Some, None, List, [], ◌∷◌, ◌++◌, sym, ◌∙◌, ap, subst, append_assoc, add-one}
 use Rattle.std.proofs.lemmas.Bool.{and_parts, ltb-true}
 use Rattle.std.proofs.Math.Bool.{Bool-set}
 use Rattle.zvt_tlv.specs.Checks.{is_shallow}
 use Rattle.zvt_tlv.specs.Grammar.{Objects, none, primitive, constructed, is_constructed}
 use Rattle.zvt_tlv.specs.Lent.{GivesObject, IsChildren}
 use Rattle.zvt_tlv.specs.declared.views.TlvView.{TlvView}
-use Rattle.zvt_text.specs.Lines.{object_head, object_lines, object_text}
+use Rattle.zvt_text.specs.Lines.{constructed_text, object_head, object_lines, object_text}
 use Rattle.zvt_text.specs.declared.privacy.Privacy.{Privacy}
 
 pub primitive_lines : (privacy : Privacy) (depth : ℕ) (f left : Objects) (v : TlvView) → GivesObject f (Some v) left → IsChildren v None →
@@ -23,13 +23,13 @@ children : (v : TlvView) (inner other : Objects) → (k : is_constructed v.tag.n
 children v inner other a b = sym a.1 ∙ ap (λ (k : is_constructed v.tag.now ≡ true). (v.inside k).0) (Bool-set _ _ a.0 b.0) ∙ b.1
 
 pub constructed_lines : (privacy : Privacy) (depth : ℕ) (f left other : Objects) (v : TlvView) → GivesObject f (Some v) left → IsChildren v (Some other) →
-    object_lines privacy depth f ≡ object_head depth v.tag.now ++ codes "constructed" ++ 10 ∷ object_lines privacy (depth + 1) other ++ object_lines privacy depth left
+    object_lines privacy depth f ≡ object_head depth v.tag.now ++ constructed_text privacy v.tag.now ++ 10 ∷ object_lines privacy (depth + 1) other ++ object_lines privacy depth left
 constructed_lines privacy depth none left other v e k = absurd e
 constructed_lines privacy depth (primitive tag content rest) left other v e k = absurd (cc (k.0, e.1))
 constructed_lines privacy depth (constructed tag inner rest) left other v e k =
-    ap (λ (t : List ℕ). object_head depth t ++ codes "constructed" ++ 10 ∷ object_lines privacy (depth + 1) inner ++ object_lines privacy depth rest) (sym e.0)
-    ∙ ap (λ (i : Objects). object_head depth v.tag.now ++ codes "constructed" ++ 10 ∷ object_lines privacy (depth + 1) i ++ object_lines privacy depth rest) (children v inner other e.1 k)
-    ∙ ap (λ (r : Objects). object_head depth v.tag.now ++ codes "constructed" ++ 10 ∷ object_lines privacy (depth + 1) other ++ object_lines privacy depth r) (sym e.2)
+    ap (λ (t : List ℕ). object_head depth t ++ constructed_text privacy t ++ 10 ∷ object_lines privacy (depth + 1) inner ++ object_lines privacy depth rest) (sym e.0)
+    ∙ ap (λ (i : Objects). object_head depth v.tag.now ++ constructed_text privacy v.tag.now ++ 10 ∷ object_lines privacy (depth + 1) i ++ object_lines privacy depth rest) (children v inner other e.1 k)
+    ∙ ap (λ (r : Objects). object_head depth v.tag.now ++ constructed_text privacy v.tag.now ++ 10 ∷ object_lines privacy (depth + 1) other ++ object_lines privacy depth r) (sym e.2)
 
 pub children_shallow : (depth : ℕ) (f left other : Objects) (v : TlvView) → GivesObject f (Some v) left → IsChildren v (Some other) → is_shallow depth f ≡ true → (depth < 6) × (is_shallow (depth + 1) other ≡ true)
 children_shallow depth none left other v e k s = absurd e
@@ -51,6 +51,6 @@ pub primitive_written : (whole t0 t1 t2 t3 head value lines rest : List ℕ) →
 primitive_written whole t0 t1 t2 t3 head value lines rest w a b c e =
     let same : t3 ++ rest ≡ t0 ++ (head ++ value ++ 10 ∷ rest) = rw (c, b, a) (simp append_assoc) in same ∙ ap (λ (l : List ℕ). t0 ++ l) (sym e) ∙ w
 
-pub constructed_written : (whole t0 t1 t2 t3 head inner lines rest : List ℕ) → t0 ++ lines ≡ whole → t1 ≡ t0 ++ head → t2 ≡ t1 ++ codes "constructed\n" → t3 ≡ t2 ++ inner → lines ≡ head ++ codes "constructed" ++ 10 ∷ inner ++ rest → t3 ++ rest ≡ whole
-constructed_written whole t0 t1 t2 t3 head inner lines rest w a b c e =
-    let same : t3 ++ rest ≡ t0 ++ (head ++ codes "constructed" ++ 10 ∷ inner ++ rest) = rw (c, b, a) (simp append_assoc) in same ∙ ap (λ (l : List ℕ). t0 ++ l) (sym e) ∙ w
+pub constructed_written : (whole t0 t1 t2 t3 head word inner lines rest : List ℕ) → t0 ++ lines ≡ whole → t1 ≡ t0 ++ head → t2 ≡ t1 ++ (word ++ 10 ∷ []) → t3 ≡ t2 ++ inner → lines ≡ head ++ word ++ 10 ∷ inner ++ rest → t3 ++ rest ≡ whole
+constructed_written whole t0 t1 t2 t3 head word inner lines rest w a b c e =
+    let same : t3 ++ rest ≡ t0 ++ (head ++ word ++ 10 ∷ inner ++ rest) = rw (c, b, a) (simp append_assoc) in same ∙ ap (λ (l : List ℕ). t0 ++ l) (sym e) ∙ w

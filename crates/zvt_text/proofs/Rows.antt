@@ -4,11 +4,11 @@ use Rattle.std.specs.Fmt.{digits}
 use Rattle.hex.specs.Hex.{encode_with}
 use Rattle.zvt_tlv.specs.Grammar.{none, primitive, constructed}
 use Rattle.zvt_field.specs.Grammar.{plain, tree}
-use Rattle.zvt_apdu.specs.Message.{abort, nack, other, print_line, registration, reversal}
+use Rattle.zvt_apdu.specs.Message.{abort, intermediate, nack, other, print_line, registration, reversal}
 use Rattle.zvt_text.specs.Lines.{field_line}
-use Rattle.zvt_text.specs.Meanings.{card_type_name, card_types, command_name, commands, meaning_of, printed_of, results, status_words, statuses, tag_name, tags}
+use Rattle.zvt_text.specs.Meanings.{card_type_name, card_types, command_name, commands, meaning_of, printed_of, results, status_words, statuses, tag_name, tags, unprinted_of}
 use Rattle.zvt_text.specs.MessageTexts.{said}
-use Rattle.zvt_text.specs.declared.privacy.Privacy.TheVariants.{Plain, Safe}
+use Rattle.zvt_text.specs.declared.privacy.Privacy.TheVariants.{Explained, Plain, Safe, SafeExplained}
 
 -- 04 00 00 00 00 12 34
 pub amount : field_line Plain (plain 0x04 (0x00 ∷ 0x00 ∷ 0x00 ∷ 0x00 ∷ 0x12 ∷ 0x34 ∷ [])) ≡ codes "  04 amount 1234\n"
@@ -55,7 +55,7 @@ pub given_up : said Plain (abort 0x6C []) ≡ codes "Abort 6C abort by time-out 
 unfolding encode_with printed_of meaning_of
 given_up = refl
 
--- 06 1E 01 65, whose meaning stands elsewhere alone
+-- 06 1E 01 65, whose meaning only JSON has
 pub no_card_data : said Plain (abort 0x65 []) ≡ codes "Abort code 65\n"
 unfolding encode_with printed_of meaning_of
 no_card_data = refl
@@ -142,3 +142,47 @@ pub card : field_line Safe (tree 0x06 (constructed (0x25 ∷ []) (primitive (0x5
     ≡ codes "  06 container\n    25 constructed\n      57 hidden 1\n      5A hidden 1\n"
 unfolding encode_with digits
 card = refl
+
+-- ---- explained lines
+
+-- 04 FF 02 0A 01, and 04 FF 01 BB
+pub card_awaited : said Explained (intermediate 0x0A (0x01 ∷ [])) ≡ codes "Intermediate 0A data 01 (insert the card)\n"
+unfolding encode_with status_words
+card_awaited = refl
+
+pub status_unknown : said Explained (intermediate 0xBB []) ≡ codes "Intermediate BB\n"
+unfolding encode_with status_words
+status_unknown = refl
+
+-- 06 1E 01 65, and 06 1E 01 6C, whose meaning is there already
+pub no_card_explained : said Explained (abort 0x65 []) ≡ codes "Abort code 65 (no card data found)\n"
+unfolding encode_with printed_of unprinted_of meaning_of
+no_card_explained = refl
+
+pub given_up_explained : said Explained (abort 0x6C []) ≡ codes "Abort 6C abort by time-out or abort key\n"
+unfolding encode_with printed_of unprinted_of meaning_of
+given_up_explained = refl
+
+-- 06 31 03 00 00 00
+pub refund_explained : said SafeExplained (other 0x06 0x31 (0 ∷ 0 ∷ 0 ∷ [])) ≡ codes "Other 0631 data hidden 3 (refund)\n"
+unfolding encode_with digits command_name
+refund_explained = refl
+
+-- 27 6E, 8A 05, and 8C 05
+pub result_explained : field_line Explained (plain 0x27 (0x6E ∷ [])) ≡ codes "  27 result code 6E (card is on the blocked list)\n"
+unfolding encode_with printed_of unprinted_of meaning_of
+result_explained = refl
+
+pub card_explained : field_line Explained (plain 0x8A (0x05 ∷ [])) ≡ codes "  8A card-type 05 (girocard)\n"
+unfolding encode_with card_type_name
+card_explained = refl
+
+pub other_field : field_line Explained (plain 0x8C (0x05 ∷ [])) ≡ codes "  8C network-card 05\n"
+unfolding encode_with
+other_field = refl
+
+-- 06 08 25 06 07 01 41 5A 01 CD
+pub objects_explained : field_line SafeExplained (tree 0x06 (constructed (0x25 ∷ []) (primitive (0x07 ∷ []) (0x41 ∷ []) (primitive (0x5A ∷ []) (0xCD ∷ []) none)) none))
+    ≡ codes "  06 container\n    25 constructed (print texts)\n      07 41 (text line)\n      5A hidden 1 (card number)\n"
+unfolding encode_with digits tag_name
+objects_explained = refl

@@ -1,14 +1,13 @@
 -- What no text says, and what no safe text says.
-use Rattle.std.specs.Prelude.{◌≡◌, ℕ, Option, List, ◌∷◌, ◌++◌, length}
+use Rattle.std.specs.Prelude.{◌≡◌, ℕ, true, Option, List, ◌∷◌, ◌++◌, length}
 use Rattle.zvt_field.specs.Grammar.{Field, plain}
 use Rattle.zvt_field.specs.Shapes.{format_of}
 use Rattle.zvt_field.specs.declared.shapes.Format.TheVariants.{Hidden}
 use Rattle.zvt_apdu.specs.Message.{Message, registration, reversal, end_of_day}
 use Rattle.zvt_text.specs.Lines.{field_lines}
 use Rattle.zvt_text.specs.MessageTexts.{said}
-use Rattle.zvt_text.specs.Secrets.{blanked}
+use Rattle.zvt_text.specs.Secrets.{blanked, hides}
 use Rattle.zvt_text.specs.declared.privacy.Privacy.{Privacy}
-use Rattle.zvt_text.specs.declared.privacy.Privacy.TheVariants.{Safe}
 
 -- Two messages that differ in their passwords alone have one text.
 abbrev pub PasswordsStayHidden : Type 0
@@ -28,6 +27,6 @@ StaysHidden bmp =
 abbrev pub SecretsStayHidden : Type 0
 SecretsStayHidden = (bmp : ℕ) → format_of bmp ≡ Hidden → StaysHidden bmp
 
--- Two messages that differ only in their secrets, in contents of the same size, have one safe text.
+-- Two messages that differ only in their secrets, in contents of the same size, have one safe text, explained or not.
 abbrev pub SafeTextsAgree : Type 0
-SafeTextsAgree = (one other : Message) → blanked one ≡ blanked other → said Safe one ≡ said Safe other
+SafeTextsAgree = (privacy : Privacy) → hides privacy ≡ true → (one other : Message) → blanked one ≡ blanked other → said privacy one ≡ said privacy other

@@ -4,6 +4,7 @@ pub mod Words
 pub mod Meanings
 pub mod Results
 pub mod Secrets
+pub mod Notes
 pub mod Lines
 pub mod MessageTexts
 pub mod Writing

@@ -298,7 +298,7 @@ tag_name (tag ∷ []) = words_in tags tag
 tag_name (high ∷ low ∷ []) = words_in tags (256 * high + low)
 tag_name tag = None
 
--- the result codes whose words stand in the plain text of a message; the words of the others are in JSON and in the explained text
+-- the result codes whose words are part of a message's text; JSON has the words of the others too
 abbrev pub printed : List ℕ
 printed = 0x00 ∷ 0x64 ∷ 0x6C ∷ 0x6F ∷ 0x83 ∷ 0xB4 ∷ 0xB5 ∷ 0xFF ∷ []
 
@@ -307,3 +307,6 @@ is_printed code = is_some (find (λ one. one == code) printed)
 
 unfoldable pub printed_of : ℕ → Option (List ℕ)
 printed_of code = cond (is_printed code) (meaning_of code) None
+
+unfoldable pub unprinted_of : ℕ → Option (List ℕ)
+unprinted_of code = cond (is_printed code) None (meaning_of code)

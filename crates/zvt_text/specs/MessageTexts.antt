@@ -1,5 +1,5 @@
 -- The text of a message: a head, and a line for each field.
-use Rattle.std.specs.Prelude.{ℕ, ◌+◌, ◌/◌, ◌%◌, List, [], ◌∷◌, ◌++◌, Option, Some, None, option_map, unwrap_or, codes}
+use Rattle.std.specs.Prelude.{ℕ, ◌+◌, ◌/◌, ◌%◌, if◌then◌else◌, List, [], ◌∷◌, ◌++◌, Option, Some, None, option_map, unwrap_or, codes}
 use Rattle.hex.specs.Hex.{encode_upper}
 use Rattle.zvt_field.specs.Grammar.{Field}
 use Rattle.zvt_apdu.specs.Kinds.{kind_of}
@@ -9,9 +9,9 @@ use Rattle.zvt_apdu.specs.Message.{Message, ack, nack, registration, authorisati
 use Rattle.zvt_text.specs.Bytes.{hex_of, quoted}
 use Rattle.zvt_text.specs.Results.{result_words}
 use Rattle.zvt_text.specs.Lines.{field_lines}
-use Rattle.zvt_text.specs.Secrets.{hidden_text}
+use Rattle.zvt_text.specs.Secrets.{hidden_text, hides}
+use Rattle.zvt_text.specs.Notes.{head_note, note}
 use Rattle.zvt_text.specs.declared.privacy.Privacy.{Privacy}
-use Rattle.zvt_text.specs.declared.privacy.Privacy.TheVariants.{Plain, Safe}
 
 -- the payload of a message, if there is any
 abbrev pub data_text : List ℕ → List ℕ
@@ -25,8 +25,7 @@ hidden_data (byte ∷ bytes) = codes " data " ++ hidden_text (byte ∷ bytes)
 
 -- the payload of a message outside the profile: a safe text has its size alone
 abbrev pub unknown_text : Privacy → List ℕ → List ℕ
-unknown_text Plain payload = data_text payload
-unknown_text Safe payload = hidden_data payload
+unknown_text privacy payload = if hides privacy then hidden_data payload else data_text payload
 
 -- four decimal digits
 abbrev pub four_digits : ℕ → List ℕ
@@ -93,8 +92,11 @@ detail_text privacy (completion fields) = []
 detail_text privacy (abort code payload) = words_part code ++ data_text payload
 detail_text privacy (other high low payload) = 32 ∷ encode_upper (high ∷ low ∷ []) ++ unknown_text privacy payload
 
+abbrev pub title_text : Privacy → Message → List ℕ
+title_text privacy message = kind_text message ++ detail_text privacy message
+
 abbrev pub head_text : Privacy → Message → List ℕ
-head_text privacy message = kind_text message ++ detail_text privacy message
+head_text privacy message = title_text privacy message ++ note privacy (head_note message)
 
 abbrev pub registered_fields : Option (ℕ × List Field) → List Field
 registered_fields None = []

@@ -1,4 +1,4 @@
--- The words of a result code in the plain text of a message.
+-- The words of a result code in the text of a message.
 use Rattle.std.specs.Prelude.{ℕ, List, ◌∷◌, ◌++◌, codes, Option, Some, None}
 use Rattle.zvt_text.specs.Bytes.{hex_of}
 use Rattle.zvt_text.specs.Meanings.{printed_of}

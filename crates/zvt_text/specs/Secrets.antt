@@ -1,5 +1,5 @@
 -- What a safe text does not show: passwords, card data, and the data of messages outside the payment profile.
-use Rattle.std.specs.Prelude.{ℕ, Bool, false, ◌==◌, ◌||◌, if◌then◌else◌, List, [], ◌∷◌, ◌++◌, length, map, replicate, codes, option_map}
+use Rattle.std.specs.Prelude.{ℕ, Bool, true, false, ◌==◌, ◌&&◌, ◌||◌, if◌then◌else◌, List, [], ◌∷◌, ◌++◌, length, map, replicate, codes, option_map}
 use Rattle.std.specs.Fmt.{decimal}
 use Rattle.zvt_tlv.specs.Grammar.{Objects, none, primitive, constructed}
 use Rattle.zvt_field.specs.Grammar.{Field, plain, tree}
@@ -8,16 +8,22 @@ use Rattle.zvt_field.specs.declared.shapes.Format.{Format}
 use Rattle.zvt_field.specs.declared.shapes.Format.TheVariants.{Amount, Bytes, Hidden, Result, Text}
 use Rattle.zvt_apdu.specs.Message.{Message, ack, nack, registration, authorisation, reversal, end_of_day, abort_order, status, intermediate, print_line, text_block, completion, abort, other}
 use Rattle.zvt_text.specs.declared.privacy.Privacy.{Privacy}
-use Rattle.zvt_text.specs.declared.privacy.Privacy.TheVariants.{Plain, Safe}
+use Rattle.zvt_text.specs.declared.privacy.Privacy.TheVariants.{Explained, Plain, Safe, SafeExplained}
 
 -- the tags of the objects that have card data: the card's track 2 (57) and its number (5A)
 abbrev pub is_secret_tag : List ℕ → Bool
 is_secret_tag (tag ∷ []) = tag == 0x57 || tag == 0x5A
 is_secret_tag tag = false
 
+-- whether a text hides these objects, and the data of messages outside the payment profile
+abbrev pub hides : Privacy → Bool
+hides Plain = false
+hides Safe = true
+hides Explained = false
+hides SafeExplained = true
+
 abbrev pub hides_tag : Privacy → List ℕ → Bool
-hides_tag Plain tag = false
-hides_tag Safe tag = is_secret_tag tag
+hides_tag privacy tag = hides privacy && is_secret_tag tag
 
 -- of what is hidden the size alone
 abbrev pub hidden_text : List ℕ → List ℕ

@@ -8,7 +8,7 @@ ghost use Rattle.zvt_text.specs.Writing.{Puts};
 
 use crate::bytes::{hidden, quote};
 use crate::cursor::{Full, byte, fixed, four_digits, hexadecimal, push};
-use crate::privacy::Privacy;
+use crate::privacy::{Privacy, hides};
 use crate::write::put_result;
 use zvt_bcd::Currency;
 
@@ -45,10 +45,13 @@ pub(crate) fn unknown(
     requires { at ≤ length buffer.old }
     ensures { Puts result at buffer.old buffer.new (part_text (unknown_text privacy) (option_copied payload.entry)) }
 {
-    match (privacy, payload) {
-        (_, None) => Ok(at),
-        (Privacy::Plain, Some(payload)) => payload_data(buffer, at, payload),
-        (Privacy::Safe, Some(payload)) => payload_size(buffer, at, payload),
+    let Some(payload) = payload else {
+        return Ok(at);
+    };
+    if hides(privacy) {
+        payload_size(buffer, at, payload)
+    } else {
+        payload_data(buffer, at, payload)
     }
 }
 

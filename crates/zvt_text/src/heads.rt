@@ -1,15 +1,16 @@
 //! The first line of a message.
 ghost use Rattle.std.specs.Prelude.{◌≡◌, ◌≢◌, ◌≤◌, length};
 ghost use Rattle.zvt_apdu.specs.Kinds.{kind_of};
-ghost use Rattle.zvt_text.specs.MessageTexts.{detail_text, head_text, kind_name};
+ghost use Rattle.zvt_text.specs.MessageTexts.{detail_text, head_text, kind_name, title_text};
 ghost use Rattle.zvt_text.specs.Writing.{Puts};
 
 use crate::cursor::{Full, fixed, word};
 use crate::details::{byte_part, config, control, currency, data, outcome, printed, unknown};
-use crate::privacy::Privacy;
+use crate::notes::{head_note, noted};
+use crate::privacy::{Privacy, explains};
 use zvt_apdu::{ApduView, Kind};
 
-/// Writes the name of a message's kind, and what the message says after it.
+/// Writes the first line of a message, without its end.
 pub(crate) fn head(
     buffer: &mut [u8],
     at: usize,
@@ -18,6 +19,24 @@ pub(crate) fn head(
 ) -> Result<usize, Full>
     requires { at ≤ length buffer.old }
     ensures { Puts result at buffer.old buffer.new (head_text privacy message.now) }
+{
+    let at = title(buffer, at, privacy, message)?;
+    if explains(privacy) {
+        noted(buffer, at, head_note(message))
+    } else {
+        Ok(at)
+    }
+}
+
+/// Writes the name of a message's kind, and what the message says after it.
+fn title(
+    buffer: &mut [u8],
+    at: usize,
+    privacy: Privacy,
+    message: &ApduView<'_>,
+) -> Result<usize, Full>
+    requires { at ≤ length buffer.old }
+    ensures { Puts result at buffer.old buffer.new (title_text privacy message.now) }
 {
     match message.kind() {
         Kind::Ack => {

@@ -10,6 +10,7 @@ mod heads;
 pub mod laws;
 mod lines;
 mod meanings;
+mod notes;
 mod objects;
 mod privacy;
 mod text;

@@ -8,7 +8,7 @@ ghost use Rattle.zvt_text.specs.Writing.{Puts};
 use crate::cursor::{Full, byte, fixed, push, word};
 use crate::objects::object_lines;
 use crate::privacy::Privacy;
-use crate::values::value;
+use crate::values::noted_value;
 use zvt_field::{FieldView, FieldsView, name};
 
 /// A line for each field. The lines of a container's objects follow its own line.
@@ -42,7 +42,7 @@ fn field_line(
     match field.tree() {
         None => {
             let at = push(buffer, at, b' ')?;
-            let at = value(buffer, at, field.bmp, field.content)?;
+            let at = noted_value(buffer, at, privacy, field.bmp, field.content)?;
             push(buffer, at, b'\n')
         }
         Some(objects) => {

@@ -2,7 +2,7 @@
 //! (PA00P015: error messages, intermediate statuses, list of commands, card types, TLV tags).
 ghost use Rattle.std.specs.Prelude.{◌≡◌, ◌==◌, ◌+◌, ◌*◌, find, map, option_map};
 ghost use Rattle.zvt_text.specs.Meanings.{card_type_name, command_name, is_printed, meaning_of, printed_of};
-ghost use Rattle.zvt_text.specs.Meanings.{status_words, tag_name, words_in};
+ghost use Rattle.zvt_text.specs.Meanings.{status_words, tag_name, unprinted_of, words_in};
 
 /// A number and its words.
 type Row = (u16, &'static str);
@@ -294,8 +294,8 @@ pub fn meaning(code: u8) -> Option<&'static str>
     words_in(&RESULTS, u16::from(code))
 }
 
-/// Returns the meaning of a result code if the plain text of a message writes it: for a few codes. JSON and the
-/// explained text write every meaning.
+/// Returns the meaning of a result code if it is one of the few whose meaning is part of a message's text. JSON has every
+/// meaning.
 #[tactic(auto, unfolding(crate::specs::Meanings::printed_of))]
 pub(crate) fn printed_meaning(code: u8) -> Option<&'static str>
     ensures { option_map (λ meaning. meaning.now) result ≡ printed_of code }
@@ -305,6 +305,17 @@ pub(crate) fn printed_meaning(code: u8) -> Option<&'static str>
     } else {
         None
     }
+}
+
+/// Returns the meaning of a result code if the text of a message doesn't have it.
+#[tactic(auto, unfolding(crate::specs::Meanings::unprinted_of))]
+pub(crate) fn unprinted_meaning(code: u8) -> Option<&'static str>
+    ensures { option_map (λ meaning. meaning.now) result ≡ unprinted_of code }
+{
+    if !is_printed(code) {
+        return meaning(code);
+    }
+    None
 }
 
 fn is_printed(code: u8) -> bool

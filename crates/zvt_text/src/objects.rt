@@ -1,12 +1,16 @@
 //! The lines of a container's objects.
-ghost use Rattle.std.specs.Prelude.{◌≡◌, ◌+◌, ◌≤◌, true, length};
+ghost use Rattle.std.specs.Prelude.{◌≡◌, ◌+◌, ◌≤◌, ◌++◌, ◌∷◌, [], true, length};
 ghost use Rattle.zvt_tlv.specs.Checks.{is_shallow};
-ghost use Rattle.zvt_text.specs.Lines.{object_head, object_lines, object_text};
+ghost use Rattle.zvt_text.specs.Lines.{constructed_text, content_text, object_head, object_lines, object_text};
+ghost use Rattle.zvt_text.specs.Meanings.{tag_name};
+ghost use Rattle.zvt_text.specs.Notes.{note};
 ghost use Rattle.zvt_text.specs.Writing.{Puts};
 
 use crate::bytes::{bytes_or_dash, hidden};
 use crate::cursor::{Full, fixed, hexadecimal, push, repeat};
-use crate::privacy::{Privacy, hides_tag};
+use crate::meanings::tag_name;
+use crate::notes::noted;
+use crate::privacy::{Privacy, explains, hides_tag};
 use zvt_tlv::ForestView;
 
 /// A line for each object at this depth. The lines of the objects inside a constructed one follow its own line.
@@ -27,16 +31,53 @@ pub(crate) fn object_lines(
         let at = head(buffer, end, object.tag, depth)?;
         match object.children() {
             None => {
-                let at = content(buffer, at, privacy, object.tag, object.content)?;
+                let at = primitive(buffer, at, privacy, object.tag, object.content)?;
                 end = push(buffer, at, b'\n')?;
             }
             Some(inner) => {
-                let at = fixed(buffer, at, *b"constructed\n")?;
+                let at = constructed(buffer, at, privacy, object.tag)?;
                 end = object_lines(buffer, at, privacy, inner, depth + 1)?;
             }
         }
     }
     Ok(end)
+}
+
+/// An object's content, and the name of its tag in an explained text.
+fn primitive(
+    buffer: &mut [u8],
+    at: usize,
+    privacy: Privacy,
+    tag: &[u8],
+    bytes: &[u8],
+) -> Result<usize, Full>
+    requires { at ≤ length buffer.old }
+    ensures { Puts result at buffer.old buffer.new (object_text privacy tag.now bytes.now) }
+{
+    let at = content(buffer, at, privacy, tag, bytes)?;
+    tag_note(buffer, at, privacy, tag)
+}
+
+/// What a constructed object has in place of its content, and the end of the line.
+fn constructed(buffer: &mut [u8], at: usize, privacy: Privacy, tag: &[u8]) -> Result<usize, Full>
+    requires { at ≤ length buffer.old }
+    ensures { Puts result at buffer.old buffer.new (constructed_text privacy tag.now ++ 10 ∷ []) }
+{
+    let at = fixed(buffer, at, *b"constructed")?;
+    let at = tag_note(buffer, at, privacy, tag)?;
+    push(buffer, at, b'\n')
+}
+
+/// The name of a tag in an explained text.
+fn tag_note(buffer: &mut [u8], at: usize, privacy: Privacy, tag: &[u8]) -> Result<usize, Full>
+    requires { at ≤ length buffer.old }
+    ensures { Puts result at buffer.old buffer.new (note privacy (tag_name tag.now)) }
+{
+    if explains(privacy) {
+        noted(buffer, at, tag_name(tag))
+    } else {
+        Ok(at)
+    }
 }
 
 /// An object's content, or its size if the text hides it.
@@ -48,7 +89,7 @@ fn content(
     content: &[u8],
 ) -> Result<usize, Full>
     requires { at ≤ length buffer.old }
-    ensures { Puts result at buffer.old buffer.new (object_text privacy tag.now content.now) }
+    ensures { Puts result at buffer.old buffer.new (content_text privacy tag.now content.now) }
 {
     if hides_tag(privacy, tag) {
         hidden(buffer, at, content)

@@ -2,17 +2,40 @@
 ghost use Rattle.std.specs.Prelude.{◌≡◌, ◌≤◌, length};
 ghost use Rattle.zvt_bcd.specs.Digits.{number_of};
 ghost use Rattle.zvt_field.specs.Views.{PlainBytes};
-ghost use Rattle.zvt_text.specs.Lines.{result_text, value_text};
+ghost use Rattle.zvt_text.specs.Lines.{noted_value, result_text, value_text};
 ghost use Rattle.zvt_text.specs.Writing.{Puts};
 
 use crate::bytes::{bytes_or_dash, hidden, quote};
 use crate::cursor::{Full, decimal};
+use crate::notes::{noted, value_note};
+use crate::privacy::{Privacy, explains};
 use crate::write::put_result;
 use zvt_bcd::number;
 use zvt_field::{Format, format};
 
+/// The value of a field, and its words in an explained text.
+#[inline(always)]
+pub(crate) fn noted_value(
+    buffer: &mut [u8],
+    at: usize,
+    privacy: Privacy,
+    bmp: u8,
+    content: &[u8],
+) -> Result<usize, Full>
+    requires plain { PlainBytes bmp content.now }
+    requires inside { at ≤ length buffer.old }
+    ensures { Puts result at buffer.old buffer.new (noted_value privacy bmp content.now) }
+{
+    let at = value(buffer, at, bmp, content)?;
+    if explains(privacy) {
+        noted(buffer, at, value_note(bmp, content))
+    } else {
+        Ok(at)
+    }
+}
+
 /// An amount in its smallest unit, a result in words, quoted text, the size of what is hidden, or bytes in hexadecimal.
-pub(crate) fn value(buffer: &mut [u8], at: usize, bmp: u8, content: &[u8]) -> Result<usize, Full>
+fn value(buffer: &mut [u8], at: usize, bmp: u8, content: &[u8]) -> Result<usize, Full>
     requires plain { PlainBytes bmp content.now }
     requires inside { at ≤ length buffer.old }
     ensures { Puts result at buffer.old buffer.new (value_text bmp content.now) }

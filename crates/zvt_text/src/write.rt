@@ -41,7 +41,7 @@ pub fn message(
     })
 }
 
-/// Writes a result code and its meaning, such as `6F wrong currency`. A code whose meaning the plain text does not have
+/// Writes a result code and its meaning, such as `6F wrong currency`. A code whose meaning the text does not have
 /// is written as `code` and two hexadecimal digits.
 pub fn result_words(text: &mut Text, code: u8) -> Result<(), AllocError>
     ensures { Adds result text.old text.new (result_words code) }
@@ -135,7 +135,7 @@ impl Says for ResultCode {
     }
 }
 
-/// Puts a result code into the buffer, and its meaning if the plain text has it.
+/// Puts a result code into the buffer, and its meaning if the text has it.
 pub(crate) fn put_result(buffer: &mut [u8], at: usize, code: u8) -> Result<usize, Full>
     requires { at ≤ length buffer.old }
     ensures { Puts result at buffer.old buffer.new (result_words code) }

@@ -9,7 +9,7 @@ use Rattle.zvt_grammar.specs.declared.lengths.Lengths.TheVariants.{Shortest, Pad
 use Rattle.zvt_text.specs.declared.form.Form.{Form}
 use Rattle.zvt_text.specs.declared.form.Form.TheVariants as form
 use Rattle.zvt_text.specs.declared.privacy.Privacy.{Privacy}
-use Rattle.zvt_text.specs.declared.privacy.Privacy.TheVariants.{Plain, Safe}
+use Rattle.zvt_text.specs.declared.privacy.Privacy.TheVariants.{Explained, Plain, Safe, SafeExplained}
 use Rattle.zvt_tool.specs.declared.options.CommandOption.{CommandOption}
 use Rattle.zvt_tool.specs.declared.options.CommandOption.TheVariants as option
 use Rattle.zvt_tool.specs.declared.options.CommandRow.{CommandRow}
@@ -99,9 +99,11 @@ abbrev pub form_by : (is_json : Bool) → Form
 form_by false = form.Text
 form_by true = form.Json
 
-abbrev pub privacy_by : (safe : Bool) → Privacy
-privacy_by false = Plain
-privacy_by true = Safe
+abbrev pub privacy_by : (safe explain : Bool) → Privacy
+privacy_by false false = Plain
+privacy_by true false = Safe
+privacy_by false true = Explained
+privacy_by true true = SafeExplained
 
 -- the number of connections to accept; 0 means any number
 abbrev pub connections_by : ℕ → ℕ

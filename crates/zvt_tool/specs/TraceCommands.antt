@@ -51,6 +51,7 @@ show_app = command_app (codes "show") (
     flag_rule (codes "open") ∷
     flag_rule (codes "resync") ∷
     flag_rule (codes "safe") ∷
+    flag_rule (codes "explain") ∷
     [])
 
 abbrev pub join_app : App
@@ -100,9 +101,9 @@ IsByForm rows work command = IsByFlag (codes "json") rows (λ json. IsByFlag (co
 abbrev pub IsRendering : List Row → (plain objects : Style) → TraceCommand → Type 0
 IsRendering rows plain objects = IsByForm rows (λ json. Render (style_by plain objects json))
 
--- the text or its safe form, or the JSON objects
+-- the text, its safe form or either with the words of codes, or the JSON objects
 abbrev pub IsShow : List Row → TraceCommand → Type 0
-IsShow rows command = IsByFlag (codes "safe") rows (λ safe. IsRendering rows (Show (privacy_by safe)) Json command)
+IsShow rows command = IsByFlag (codes "safe") rows (λ safe. IsByFlag (codes "explain") rows (λ explain. IsRendering rows (Show (privacy_by safe explain)) Json command))
 
 abbrev pub IsAudit : List Row → TraceCommand → Type 0
 IsAudit rows = IsByForm rows (λ json. Audit (form_by json))

@@ -205,11 +205,16 @@ pub fn form_by(json: bool) -> Form
     if json { Form::Json } else { Form::Text }
 }
 
-/// Returns how much a text shows: less if it is safe.
-pub fn privacy_by(safe: bool) -> Privacy
-    ensures { result ≡ privacy_by safe }
+/// Returns how much a text shows: less if it is safe, and the words of codes if it explains them.
+pub fn privacy_by(safe: bool, explain: bool) -> Privacy
+    ensures { result ≡ privacy_by safe explain }
 {
-    if safe { Privacy::Safe } else { Privacy::Plain }
+    match (safe, explain) {
+        (false, false) => Privacy::Plain,
+        (true, false) => Privacy::Safe,
+        (false, true) => Privacy::Explained,
+        (true, true) => Privacy::SafeExplained,
+    }
 }
 
 /// Returns the number of connections to accept. 0 means any number, and becomes the largest `u64`.

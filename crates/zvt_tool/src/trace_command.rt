@@ -107,6 +107,7 @@ pub fn show_row() -> CommandRow<'static>
                 "safe",
                 "Also hide card data in TLV objects, and the data of messages named Other",
             ),
+            CommandOption::Flag("explain", "Also print what codes and numbers mean"),
         ],
     }
 }
@@ -213,7 +214,7 @@ Example:
 pub fn read_show<'a>(alloc: Global, inner: &ArgMatches<'a>) -> Result<TraceCommand<'a>, AllocError>
     ensures { IfOk result (IsShow (rows_of (found_of inner.now))) }
 {
-    let text = Style::Show(privacy_by(flag(inner, "safe")));
+    let text = Style::Show(privacy_by(flag(inner, "safe"), flag(inner, "explain")));
     rendering(alloc, inner, text, Style::Json)
 }
 

@@ -5,8 +5,8 @@ use Rattle.zvt_text.specs.Lines.{field_line}
 use Rattle.zvt_text.proofs.FieldLemmas.{name_full, plain_shown, tree_shown, objects_shallow}
 use Rattle.zvt_text.proofs.lines.field_line.Goals as goal
 
-pub value-requires-clause-plain : goal.value-requires-clause-plain
-value-requires-clause-plain c = (plain_of _ _ c.args.field.now.field c.in-None.ensures).0
+pub noted_value-requires-clause-plain : goal.noted_value-requires-clause-plain
+noted_value-requires-clause-plain c = (plain_of _ _ c.args.field.now.field c.in-None.ensures).0
 
 pub object_lines-requires-clause-shallow : goal.object_lines-requires-clause-shallow
 object_lines-requires-clause-shallow c = objects_shallow c.args.field.now c.in-Some.objects c.in-Some.ensures
