@@ -34,7 +34,7 @@ def amount_of(message):
 
 class Audit:
     def __init__(self, trace, loose=False, is_open=False):
-        self.booked, self.unclear, self.messages, self.bad, self.passed, self.unfollowed = [], [], 0, 0, 0, False
+        self.booked, self.unclear, self.messages, self.bad, self.passed, self.unfollowed = [], [], 0, 0, 0, []
         self.lines_of_booked, self.lines_of_unclear = [], []
         self.amount, self.statuses, self.taken_up, self.currency, self.named = None, [], False, None, set()
         self.sides = {sign: json_model.Side(name, loose, is_open) for sign, name in json_model.SIDES.items()}
@@ -87,7 +87,10 @@ class Audit:
         if message["kind"] not in ORDERS:
             return
         self.ends("Unfinished", message["line"])
-        self.unfollowed |= message.get("control") in UNFOLLOWED or message["kind"] == "Authorisation" and amount_of(message) is None
+        if message.get("control") in UNFOLLOWED:
+            self.unfollowed.append({"control": message["control"], "line": message["line"], "name": json_model.COMMANDS[message["control"]]})
+        if message["kind"] == "Authorisation" and amount_of(message) is None:
+            self.unfollowed.append({"control": "0601", "line": message["line"]})
         if message["kind"] == "Authorisation":
             self.amount, self.statuses, self.taken_up = amount_of(message), [], False
         if message["kind"] == "Registration":
@@ -154,6 +157,7 @@ class Audit:
             yield {"booked": {"amount": amount, "line": line, "trace": trace, **({"receipt": receipt} if receipt else {})}}
         for (amount, cause), line in zip(self.unclear, self.lines_of_unclear):
             yield {"unclear": {"amount": amount, "cause": cause, **({"line": line} if line else {})}}
+        yield from ({"unfollowed": order} for order in self.unfollowed)
         currency = {"currency": min(self.named)} if len(self.named) == 1 else {}
         yield {"bad": self.bad, **currency, "messages": self.messages, "total": self.total()}
 

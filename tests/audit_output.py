@@ -140,7 +140,7 @@ class Trial:
         status = 1 if audit.bad > audit.passed else 0
         checked = 1 if audit.unclear or audit.unfollowed else status
         self.passed += audit.passed
-        text = "".join(audit_model.text_of(one) + "\n" for one in said).encode()
+        text = "".join(audit_model.text_of(one) + "\n" for one in said if "unfollowed" not in one).encode()
         self.counted(audit, self.run(words, trace, (status, text)))
         if not TEXT_ALONE:
             lines = "".join(json_model.json_of(one) + "\n" for one in said).encode()

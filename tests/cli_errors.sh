@@ -98,11 +98,17 @@ zvt: 3 lines not read after that, up to line 4: 'show', 'audit' and 'receipts' r
 zvt: line 6 of the trace: < a message of 06 cut off after 1
 zvt: 0 messages, 1 stream refused, 1 cut off" "$bad" audit
 notes "directions that are swapped" 0 "total 0" "zvt: only '<' sent orders: the directions of the trace may be swapped" '< 06 50 03 00 00 00\n> 80 00 00\n' audit
-unfollowed="zvt: the till sent a refund, an order of a pre-authorisation, or a payment without an amount, which the audit does not follow: find 'Other 0631', 'Other 0622' to 'Other 0625' and 'Authorisation' in 'zvt show --open'"
-for low in 22 23 24 25 31; do
+lacks="zvt: the books lack the money of such orders: look at them and at their answers in 'zvt show --open'"
+for order in "22 pre-authorisation" "23 partial reversal of a pre-authorisation" "24 book total" "25 reversal of a pre-authorisation" "31 refund"; do
+    low=${order%% *}
+    unfollowed="zvt: line 1 of the trace: 06 $low (${order#* }) is not followed
+$lacks"
     notes "the order 06 $low" 0 "total 0" "$unfollowed" "> 06 $low 03 00 00 00\n< 80 00 00\n" audit
     notes "the order 06 $low, checked" 1 "total 0" "$unfollowed" "> 06 $low 03 00 00 00\n< 80 00 00\n" "audit --check"
 done
+notes "payments without an amount" 0 "total 0" "zvt: line 1 of the trace: 06 01 (payment without one amount) is not followed
+zvt: line 3 of the trace: 06 01 (payment without one amount) is not followed
+$lacks" '> 06 01 00\n< 80 00 00\n> 06 01 00\n< 80 00 00\n' audit
 for low in 20 21 26 32 70; do
     notes "the command 06 $low" 0 "total 0" "" "> 06 $low 03 00 00 00\n< 80 00 00\n" "audit --check"
 done

@@ -16,7 +16,7 @@ from common import Checks, TOP, program
 PROGRAM = program(sys.argv[1:])
 TRACES = TOP / "tests/data/real"
 PAID = "booked 1234 trace 000017 receipt 0005\ntotal 1234\n"
-ADVICE, UNFOLLOWED = "read on with --open", "which the audit does not follow"
+ADVICE, UNFOLLOWED = "read on with --open", "(refund) is not followed"
 
 # A trace and the words of `audit`, the books, the status, the status with --check, and what standard error says.
 BOOKS = [

@@ -7,7 +7,7 @@ use crate::reports::{NO_TRACE, report, report_failed};
 use std::alloc::{AllocError, Global};
 use std::fs::File;
 use std::io::{self, IsTerminal, Write};
-use zvt_audit::{AuditSummary, Sum};
+use zvt_audit::Sum;
 use zvt_io::{Over, Sink, Source};
 use zvt_text::{Form, Text};
 use zvt_tool::label::Label;
@@ -79,8 +79,8 @@ impl<'a> Input<'a> {
 #[derive(Clone, Copy)]
 struct Ended {
     status: u8,
-    /// The result, if the command read the trace to its end.
-    found: Option<AuditSummary>,
+    /// The total of the trace, if the command read it to its end.
+    total: Option<u128>,
     /// Whether nothing more can be written.
     is_output_lost: bool,
 }
@@ -90,7 +90,7 @@ impl Ended {
     fn early(status: u8) -> Ended {
         Ended {
             status,
-            found: None,
+            total: None,
             is_output_lost: false,
         }
     }
@@ -129,8 +129,8 @@ fn work_on_all(rt: &HostRuntime, command: &TraceCommand<'_>, files: &[&str]) -> 
         if ended.is_output_lost {
             return Ok(status);
         }
-        if let Some(found) = ended.found {
-            sum.add(found.total);
+        if let Some(total) = ended.total {
+            sum.add(total);
         }
         progress.step(rt)?;
     }
@@ -235,7 +235,7 @@ fn follow<R: Source>(
     let status = finish_trace(rt, input.path(), broken_pipe, command.check, answer)?;
     Ok(Ended {
         status,
-        found: None,
+        total: None,
         is_output_lost,
     })
 }
@@ -263,13 +263,16 @@ fn work_on_whole<R: Source>(
     let answer = writer.inner.explained(answer);
     let faulty = faulty_line(command, &answer);
     let had_memory = report_notes(rt, command, input, trace, &answer)?;
-    let found = answer.as_ref().ok().copied();
+    let total = match &answer {
+        Ok(found) => Some(found.total),
+        Err(_) => None,
+    };
     let is_output_lost = matches!(answer, Err(TraceFault::Write));
     let status = finish_trace(rt, path, writer.inner.broken_pipe, command.check, answer)?;
     report_hint(rt, input, trace, faulty)?;
     Ok(Ended {
         status: if had_memory { status } else { MEMORY },
-        found,
+        total,
         is_output_lost,
     })
 }

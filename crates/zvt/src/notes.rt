@@ -5,11 +5,13 @@ ghost use Rattle.zvt.specs.Notes.{scope_of, faulty_line};
 
 use crate::inputs::Input;
 use crate::reports::{report, report_tally};
+use std::fmt;
 use std::io::{self, ErrorKind, Write};
-use zvt_audit::AuditSummary;
+use zvt_audit::{AuditSummary, UnfollowedOrder};
 use zvt_grammar::Lengths;
 use zvt_io::Over;
 use zvt_show::diagnostics::{hint_on, write_notes};
+use zvt_text::command_name;
 use zvt_tool::trace_command::{TraceCommand, TraceWork};
 use zvt_trace::{ListenerError, Scope, Tally, TraceFault};
 
@@ -45,19 +47,46 @@ pub fn report_notes(
                 b"zvt: only '<' sent orders: the directions of the trace may be swapped\n",
             )?;
         }
-        if found.unfollowed {
+        for order in found.unfollowed.iter() {
+            let note = OrderNote::of(order);
+            writeln!(errors, "zvt: {note}")?;
+        }
+        if !found.unfollowed.is_empty() {
             writeln!(errors, "zvt: {UNFOLLOWED}")?;
         }
     }
     Ok(true)
 }
 
-/// The note about an order that the audit does not follow.
+/// The advice after the notes about orders that the audit does not follow.
 pub const UNFOLLOWED: &str =
-    "the till sent a refund, an order of a pre-authorisation, or a payment without an amount, which the audit does \
-    not follow: find 'Other 0631', 'Other 0622' to 'Other 0625' and 'Authorisation' in 'zvt show --open'";
+    "the books lack the money of such orders: look at them and at their answers in 'zvt show --open'";
 
-/// Reports how much of a followed trace is bad, and whether an order was not followed. Its output shows where.
+/// A note about an order that the audit does not follow.
+#[derive(Clone, Copy)]
+pub struct OrderNote {
+    order: UnfollowedOrder,
+}
+
+impl OrderNote {
+    /// Returns the note about an order.
+    pub fn of(order: &UnfollowedOrder) -> OrderNote {
+        OrderNote { order: *order }
+    }
+}
+
+impl fmt::Display for OrderNote {
+    fn fmt<W: fmt::Write>(&self, f: &mut fmt::Formatter<W>) -> fmt::Result {
+        let UnfollowedOrder { line, high, low } = self.order;
+        let name = command_name(high, low).unwrap_or("payment without one amount");
+        write!(
+            f,
+            "line {line} of the trace: {high:02X} {low:02X} ({name}) is not followed"
+        )
+    }
+}
+
+/// Reports how much of a followed trace is bad, and which orders were not followed.
 pub fn report_counts(
     rt: &HostRuntime,
     answer: &Result<AuditSummary, TraceFault>,
@@ -70,10 +99,18 @@ pub fn report_counts(
     } else if found.tally.messages == 0 {
         report(rt, "the trace contains no message")?;
     }
-    if found.unfollowed {
-        report(rt, UNFOLLOWED)?;
+    report_unfollowed(rt, found.unfollowed.as_slice())
+}
+
+/// Reports the orders that an audit does not follow.
+pub fn report_unfollowed(rt: &HostRuntime, orders: &[UnfollowedOrder]) -> io::Result<()> {
+    if orders.is_empty() {
+        return Ok(());
     }
-    Ok(())
+    for order in orders {
+        report(rt, OrderNote::of(order))?;
+    }
+    report(rt, UNFOLLOWED)
 }
 
 /// Returns the line of the trace, counted from 1, that cannot be read, if that is why the command ended.

@@ -1,6 +1,6 @@
 //! A tap between a till and its terminal, as the command line asks for it.
 use crate::exit::Exit;
-use crate::notes::UNFOLLOWED;
+use crate::notes::report_unfollowed;
 use crate::output::Output;
 use crate::reports::{report, report_invalid, report_tally};
 use crate::screen::Screen;
@@ -359,9 +359,7 @@ fn report_found<W: Write + Drop>(
     };
     match found.audited {
         Ok(audited) => {
-            if audited.unfollowed {
-                let _ = report(rt, UNFOLLOWED);
-            }
+            let _ = report_unfollowed(rt, audited.unfollowed.as_slice());
             shown
         }
         Err(TraceFault::Write) if is_pipe_closed => DEVICE,

@@ -29,13 +29,14 @@ use Rattle.zvt_audit.specs.Json.{books_in}
 use Rattle.zvt_text.specs.declared.form.Form.{Form}
 use Rattle.zvt_text.specs.declared.form.Form.TheVariants.{Text}
 use Rattle.zvt_audit.specs.Happened.{happenings_of, log_of}
-use Rattle.zvt_audit.specs.Orders.{are_swapped, has_unfollowed, is_order_from, is_unfollowed, orders_from}
+use Rattle.zvt_audit.specs.Orders.{are_swapped, is_order_from, orders_from, unfollowed_at, unfollowed_in, with_unfollowed}
 use Rattle.zvt_audit.specs.declared.auditor.Auditor.{Auditor}
 use Rattle.zvt_audit.specs.declared.by_control.ByControl.{ByControl}
 use Rattle.zvt_audit.specs.declared.currencies.NamedCurrency.{NamedCurrency}
 use Rattle.zvt_audit.specs.declared.currencies.NamedCurrency.TheVariants.{Absent}
 use Rattle.zvt_audit.specs.declared.summary.AuditSummary.{AuditSummary}
 use Rattle.zvt_audit.specs.declared.orders.Orders.{Orders}
+use Rattle.zvt_audit.specs.declared.orders.UnfollowedOrder.{UnfollowedOrder}
 use Rattle.zvt_audit.proofs.EndLemmas.{log_more}
 use Rattle.zvt_audit.proofs.BecomeLemmas.{takes_more, takes_none}
 use Rattle.zvt_audit.proofs.ControlLemmas.{all_seen, seen_whole}
@@ -75,10 +76,15 @@ terminal_noticed [] old new same = subst (λ (s : Auditor). s.orders.terminal �
 terminal_noticed (event ∷ events) old new some =
     terminal_noticed events some.0 new some.2 ∙ ap (λ (o : Orders). o.terminal || orders_from FromTerminal events) some.1.1 ∙ or_more old.orders.terminal (is_order_from FromTerminal event.trace_event) (orders_from FromTerminal events)
 
-unfollowed_noticed : (events : List At) (old new : Auditor) → HearsAll hears old events new → new.orders.unfollowed ≡ (old.orders.unfollowed || has_unfollowed events)
-unfollowed_noticed [] old new same = subst (λ (s : Auditor). s.orders.unfollowed ≡ (old.orders.unfollowed || false)) (sym same) (sym (or_false old.orders.unfollowed))
+with_more : (orders : List UnfollowedOrder) (order : Option UnfollowedOrder) → with_unfollowed orders order ≡ orders ++ with_unfollowed [] order
+with_more orders None = sym (append-nil orders)
+with_more orders (Some order) = refl
+
+unfollowed_noticed : (events : List At) (old new : Auditor) → HearsAll hears old events new → new.unfollowed.items ≡ old.unfollowed.items ++ unfollowed_in events
+unfollowed_noticed [] old new same = subst (λ (s : Auditor). s.unfollowed.items ≡ old.unfollowed.items ++ []) (sym same) (sym (append-nil old.unfollowed.items))
 unfollowed_noticed (event ∷ events) old new some =
-    unfollowed_noticed events some.0 new some.2 ∙ ap (λ (o : Orders). o.unfollowed || has_unfollowed events) some.1.1 ∙ or_more old.orders.unfollowed (is_unfollowed event.trace_event) (has_unfollowed events)
+    let own = unfollowed_at event.line event.trace_event in
+    unfollowed_noticed events some.0 new some.2 ∙ ap (λ (l : List UnfollowedOrder). l ++ unfollowed_in events) (some.1.4 ∙ with_more old.unfollowed.items own) ∙ append_assoc old.unfollowed.items (with_unfollowed [] own) (unfollowed_in events)
 
 swapped : (events : List At) (old new : Auditor) → old.orders.till ≡ false → old.orders.terminal ≡ false → HearsAll hears old events new
     → (not new.orders.till && new.orders.terminal) ≡ are_swapped events
@@ -124,17 +130,17 @@ module _ (r : Reading) (scope : Scope) (trace : List ℕ) (form : Form) (tally :
   ended : AreEndLines done (lines_of closed.ends)
   ended = all_ended [] done connected closed start.0 start.4 heard
 
-  by : (answer : Result AuditSummary TraceFault) → AnswersBooks form (log_of done) tally closed.orders (one_currency (currencies_of done)) (lines_of closed.ends) passed old new answer → AnswersReadBy r scope form trace old new answer
+  by : (answer : Result AuditSummary TraceFault) → AnswersBooks form (log_of done) tally closed.orders (unfollowed_in done) (one_currency (currencies_of done)) (lines_of closed.ends) passed old new answer → AnswersReadBy r scope form trace old new answer
   by (Ok audited) (appended, same, is_swapped, sums, is_unfollowed, is_passed) = (
     events,
     lines_of closed.ends,
     whole,
     ended,
-    subst (λ (t : Tally). Appends old new (books_in form t (one_currency (currencies_of done)) (lines_of closed.ends) (books (log_of done)))) (sym same) appended,
+    subst (λ (t : Tally). Appends old new (books_in form t (one_currency (currencies_of done)) (lines_of closed.ends) (unfollowed_in done) (books (log_of done)))) (sym same) appended,
     subst (λ (t : Tally). Tallies t events) (sym same) tallies,
     is_swapped ∙ swapped done connected closed start.1 start.2 heard,
     sums,
-    is_unfollowed ∙ unfollowed_noticed done connected closed heard ∙ ap (λ (b : Bool). b || has_unfollowed done) start.5,
+    is_unfollowed,
     is_passed ∙ counted,
   )
   by (Err Memory) kept = kept
@@ -143,14 +149,17 @@ module _ (r : Reading) (scope : Scope) (trace : List ℕ) (form : Form) (tally :
   by (Err TooLong) never = absurd never
   by (Err Read) never = absurd never
 
-  pub audited_events : (answer : Result AuditSummary TraceFault) → ((log : List Happening) → HasJudged log closed.books → AnswersBooks form log tally closed.orders (agreed closed.named) (lines_of closed.ends) passed old new answer)
+  pub audited_events : (answer : Result AuditSummary TraceFault) → ((log : List Happening) → HasJudged log closed.books → AnswersBooks form log tally closed.orders closed.unfollowed.items (agreed closed.named) (lines_of closed.ends) passed old new answer)
       → AnswersReadBy r scope form trace old new answer
   audited_events answer closes =
-      by answer (subst (λ (c : Option ℕ). AnswersBooks form (log_of done) tally closed.orders c (lines_of closed.ends) passed old new answer) (currency_heard done connected closed start.3 heard) (closes (log_of done) (log_judged done connected closed start.0 heard)))
+      let unfollowed : closed.unfollowed.items ≡ unfollowed_in done = unfollowed_noticed done connected closed heard ∙ ap (λ (l : List UnfollowedOrder). l ++ unfollowed_in done) start.5 in
+      by answer
+      (subst (λ (l : List UnfollowedOrder). AnswersBooks form (log_of done) tally closed.orders l (one_currency (currencies_of done)) (lines_of closed.ends) passed old new answer) unfollowed
+      (subst (λ (c : Option ℕ). AnswersBooks form (log_of done) tally closed.orders closed.unfollowed.items c (lines_of closed.ends) passed old new answer) (currency_heard done connected closed start.3 heard) (closes (log_of done) (log_judged done connected closed start.0 heard))))
 
 pub audited : (r : Reading) (scope : Scope) (trace : List ℕ) (form : Form) (tally : Tally) (answer : Result AuditSummary TraceFault) (old new : Option (List ℕ)) (connected closed : ByControl Auditor)
     → StartsIn scope connected → AnswersWalk r hears_by wants_memory_by scope (lines trace) connected closed (Ok tally)
-    → ((log : List Happening) → HasJudged log closed.listener.books → AnswersBooks form log tally closed.listener.orders (agreed closed.listener.named) (lines_of closed.listener.ends) closed.passed old new answer)
+    → ((log : List Happening) → HasJudged log closed.listener.books → AnswersBooks form log tally closed.listener.orders closed.listener.unfollowed.items (agreed closed.listener.named) (lines_of closed.listener.ends) closed.passed old new answer)
     → AnswersReadBy r scope form trace old new answer
 audited r scope trace form tally answer old new connected closed starts walked closes =
     let all = all_seen hears scope walked.0 connected closed starts.1 walked.2 in

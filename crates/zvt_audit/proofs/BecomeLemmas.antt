@@ -13,7 +13,7 @@ use Rattle.zvt_audit.specs.Audited.{Becomes, Takes}
 use Rattle.zvt_audit.specs.Currencies.{named_after, named_by}
 use Rattle.zvt_audit.specs.Ends.{lines_of}
 use Rattle.zvt_audit.specs.Happened.{happenings_of}
-use Rattle.zvt_audit.specs.Orders.{is_order_from, is_unfollowed, noticed}
+use Rattle.zvt_audit.specs.Orders.{is_order_from, noticed, unfollowed_at, with_unfollowed}
 use Rattle.zvt_audit.specs.declared.auditor.Auditor.{Auditor}
 use Rattle.zvt_audit.specs.declared.orders.Orders.{Orders}
 use Rattle.zvt_audit.proofs.EndLemmas.{none_ended}
@@ -29,17 +29,17 @@ takes_more a b c x y first second = λ log judged. subst (λ (l : List Happening
 pub takes_no : (books : BooksSoFar) (happened : List Happening) → happened ≡ [] → Takes books books happened
 takes_no books happened none = subst (λ (l : List Happening). Takes books books l) (sym none) (takes_none books)
 
-unordered : (orders : Orders) (event : TraceEvent) → is_order_from FromTill event ≡ false → is_order_from FromTerminal event ≡ false → is_unfollowed event ≡ false → orders ≡ noticed orders event
-unordered orders event till terminal unfollowed =
-    rw (till, terminal, unfollowed) (ap₂ (λ (a b : Bool). record { till = a; terminal = b; unfollowed = orders.unfollowed }) (or-false orders.till) (or-false orders.terminal) ∙ ap (λ (b : Bool). record { till = orders.till || false; terminal = orders.terminal || false; unfollowed = b }) (or-false orders.unfollowed))
+unordered : (orders : Orders) (event : TraceEvent) → is_order_from FromTill event ≡ false → is_order_from FromTerminal event ≡ false → orders ≡ noticed orders event
+unordered orders event till terminal = rw (till, terminal) (ap₂ (λ (a b : Bool). record { till = a; terminal = b }) (or-false orders.till) (or-false orders.terminal))
 
 -- an event by which nothing happened, and that is no order
-pub becomes_same : (old : Auditor) (line : ℕ) (event : TraceEvent) → happenings_of event ≡ [] → is_order_from FromTill event ≡ false → is_order_from FromTerminal event ≡ false → is_unfollowed event ≡ false → named_by event ≡ None → Becomes old (on line event) old
+pub becomes_same : (old : Auditor) (line : ℕ) (event : TraceEvent) → happenings_of event ≡ [] → is_order_from FromTill event ≡ false → is_order_from FromTerminal event ≡ false → unfollowed_at line event ≡ None → named_by event ≡ None → Becomes old (on line event) old
 becomes_same old line event none till terminal unfollowed unnamed = (
   takes_no old.books (happenings_of event) none,
-  unordered old.orders event till terminal unfollowed,
+  unordered old.orders event till terminal,
   ap (named_after old.named) (sym unnamed),
   λ before next is at judged ended. none_ended (lines_of old.ends) before next (is ∙ none) ended,
+  ap (with_unfollowed old.unfollowed.items) (sym unfollowed),
 )
 
 pub becomes_by_ack : (old : Auditor) (line : ℕ) (m : Message) → kind_of m ≡ kind.Ack → Becomes old (on line (trace_event.message FromTill m)) old

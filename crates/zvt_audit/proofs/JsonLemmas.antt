@@ -9,7 +9,7 @@ use Rattle.std.specs.Fmt.{decimal}
 use Rattle.hex.specs.Hex.{encode_upper}
 use Rattle.json.specs.Print.{escape, escape_byte}
 use Rattle.zvt_json.specs.Strings.{line_text}
-use Rattle.zvt_json.proofs.EscapeLemmas.{four_plain}
+use Rattle.zvt_json.proofs.EscapeLemmas.{IsPlain, command_plain, four_plain}
 use Rattle.zvt_text.specs.MessageTexts.{four_digits}
 use Rattle.zvt_till.specs.Books.{Booked, Books}
 use Rattle.zvt_till.specs.Names.{cause_name}
@@ -17,7 +17,11 @@ use Rattle.zvt_till.specs.declared.outcomes.Cause.{Cause}
 use Rattle.zvt_till.specs.declared.outcomes.Cause.TheVariants.{NoStatus, Conflict, AmountDiffers, NoTrace, TraceUsed, AbortAfterApproval, Line, Malformed, Unfinished, WrongCurrency}
 use Rattle.zvt_trace.specs.declared.fault.Tally.{Tally}
 use Rattle.zvt_audit.specs.Ends.{Lines}
-use Rattle.zvt_audit.specs.Json.{booked_text, booked_value, books_json, line_part, rows_text, summary_text, summary_value, unclear_text, unclear_value}
+use Rattle.serde_json.specs.Data.{Data, Members, object, string, no_members, member}
+use Rattle.zvt_json.specs.Strings.{count_value, hex_value}
+use Rattle.zvt_text.specs.Meanings.{command_name}
+use Rattle.zvt_audit.specs.Json.{booked_text, booked_value, books_json, line_part, name_part, rows_text, summary_text, summary_value, unclear_text, unclear_value, unfollowed_text, unfollowed_value, with_name}
+use Rattle.zvt_audit.specs.declared.orders.UnfollowedOrder.{UnfollowedOrder}
 use Rattle.zvt_audit.specs.Sums.{sum_json, sum_value}
 use Rattle.zvt_audit.specs.Booked.{total}
 use Rattle.zvt_audit.specs.declared.sum.Sum.{Sum}
@@ -123,12 +127,48 @@ all_said : {A : Type 0} (f g : A → Option ℕ → List ℕ) (ends : List ℕ) 
 all_said f g ends same [] = refl
 all_said f g ends same (entry ∷ entries) = ap₂ (λ (a b : List ℕ). a ++ b) (same entry.1 (slice_get ends entry.0)) (all_said f g ends same entries)
 
-pub books_said : (tally : Tally) (currency : Option ℕ) (ends : Lines) (books : Books)
-    → rows_text booked_text ends.booked books.booked ++ rows_text unclear_text ends.unclear books.unclear ++ summary_text tally currency (total books.booked) ≡ books_json tally currency ends books
-books_said tally currency ends books =
+-- a text part by part, from the left and from the right
+grouped_order : (p c l n e z : List ℕ) → p ++ c ++ l ++ n ++ e ++ z ≡ p ++ (c ++ (l ++ (n ++ (e ++ z))))
+grouped_order p c l n e z = simp append_assoc
+
+grouped_named : (p c l n k m q z : List ℕ) → p ++ c ++ l ++ n ++ (k ++ m ++ q) ++ z ≡ p ++ (c ++ (l ++ (n ++ (k ++ (m ++ (q ++ z))))))
+grouped_named p c l n k m q z = simp append_assoc
+
+abbrev order_object : (line : ℕ) (control : List ℕ) → Members → Data
+order_object line control name = object (member (codes "unfollowed") (object (member (codes "control") (hex_value control) (member (codes "line") (count_value line) name))) no_members)
+
+unnamed_nested : (line : ℕ) (control : List ℕ) → codes "{\"unfollowed\":{\"control\":\"" ++ (escape (encode_upper control) ++ (codes "\",\"line\":" ++ (decimal line ++ ([] ++ (codes "}}" ++ 10 ∷ []))))) ≡ line_text (order_object line control no_members)
+unfolding escape_byte
+unnamed_nested line control = simp append_assoc
+
+named_nested : (line : ℕ) (control name : List ℕ)
+    → codes "{\"unfollowed\":{\"control\":\"" ++ (escape (encode_upper control) ++ (codes "\",\"line\":" ++ (decimal line ++ (codes ",\"name\":\"" ++ (escape name ++ ((34 ∷ []) ++ (codes "}}" ++ 10 ∷ []))))))) ≡ line_text (order_object line control (member (codes "name") (string name) no_members))
+unfolding escape_byte
+named_nested line control name = simp append_assoc
+
+order_said : (line : ℕ) (control : List ℕ) (name : Option (List ℕ)) → IsPlain name
+    → codes "{\"unfollowed\":{\"control\":\"" ++ escape (encode_upper control) ++ codes "\",\"line\":" ++ decimal line ++ name_part name ++ (codes "}}" ++ 10 ∷ []) ≡ line_text (order_object line control (with_name name no_members))
+order_said line control None plain = grouped_order (codes "{\"unfollowed\":{\"control\":\"") (escape (encode_upper control)) (codes "\",\"line\":") (decimal line) [] (codes "}}" ++ 10 ∷ []) ∙ unnamed_nested line control
+order_said line control (Some name) plain =
+    let same : escape name ≡ name = plain in
+    grouped_named (codes "{\"unfollowed\":{\"control\":\"") (escape (encode_upper control)) (codes "\",\"line\":") (decimal line) (codes ",\"name\":\"") name (34 ∷ []) (codes "}}" ++ 10 ∷ [])
+    ∙ ap (λ (l : List ℕ). codes "{\"unfollowed\":{\"control\":\"" ++ (escape (encode_upper control) ++ (codes "\",\"line\":" ++ (decimal line ++ (codes ",\"name\":\"" ++ (l ++ ((34 ∷ []) ++ (codes "}}" ++ 10 ∷ [])))))))) (sym same)
+    ∙ named_nested line control name
+
+unfollowed_said : (order : UnfollowedOrder) → unfollowed_text order ≡ line_text (unfollowed_value order)
+unfolding unfollowed_text
+unfollowed_said order = order_said order.line (order.high ∷ order.low ∷ []) (command_name order.high order.low) (command_plain order.high order.low)
+
+each_said : (orders : List UnfollowedOrder) → flat_map unfollowed_text orders ≡ flat_map (λ order. line_text (unfollowed_value order)) orders
+each_said [] = refl
+each_said (order ∷ orders) = ap₂ (λ (a b : List ℕ). a ++ b) (unfollowed_said order) (each_said orders)
+
+pub books_said : (tally : Tally) (currency : Option ℕ) (ends : Lines) (unfollowed : List UnfollowedOrder) (books : Books)
+    → rows_text booked_text ends.booked books.booked ++ rows_text unclear_text ends.unclear books.unclear ++ flat_map unfollowed_text unfollowed ++ summary_text tally currency (total books.booked) ≡ books_json tally currency ends unfollowed books
+books_said tally currency ends unfollowed books =
     ap₂ (λ (a b : List ℕ). a ++ b)
-    (ap₂ (λ (a b : List ℕ). a ++ b) (all_said booked_text (λ row line. line_text (booked_value row line)) ends.booked booked_said (enumerate_from 0 books.booked))
-    (all_said unclear_text (λ row line. line_text (unclear_value row line)) ends.unclear unclear_said (enumerate_from 0 books.unclear)))
+    (ap₂ (λ (a b : List ℕ). a ++ b) (ap₂ (λ (a b : List ℕ). a ++ b) (all_said booked_text (λ row line. line_text (booked_value row line)) ends.booked booked_said (enumerate_from 0 books.booked))
+    (all_said unclear_text (λ row line. line_text (unclear_value row line)) ends.unclear unclear_said (enumerate_from 0 books.unclear))) (each_said unfollowed))
     (summary_said tally currency (total books.booked))
 
 -- ---- rows, one after another

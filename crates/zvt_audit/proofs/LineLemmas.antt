@@ -30,6 +30,7 @@ use Rattle.zvt_audit.specs.declared.auditor.Auditor.{Auditor}
 use Rattle.zvt_audit.specs.declared.line.LineAudit.{LineAudit}
 use Rattle.zvt_audit.specs.declared.line.LineBooks.{LineBooks}
 use Rattle.zvt_audit.specs.declared.orders.Orders.{Orders}
+use Rattle.zvt_audit.specs.declared.orders.UnfollowedOrder.{UnfollowedOrder}
 use Rattle.zvt_audit.specs.declared.summary.AuditSummary.{AuditSummary}
 use Rattle.zvt_audit.proofs.AuditLemmas.{audited_events}
 use Rattle.zvt_audit.proofs.BecomeLemmas.{becomes_same}
@@ -83,17 +84,17 @@ all_heard_on (event ∷ events) old new is (middle, (heard, after), rest) =
 abbrev line_books : AuditSummary → LineBooks
 line_books found = record { total = found.total; unclear = found.unclear; swapped = found.swapped; unfollowed = found.unfollowed; passed = found.passed }
 
-any_tally : (tally other : Tally) (log : List Happening) (orders : Orders) (currency : Option ℕ) (ends : Lines) (passed : ℕ) (old new : Option (List ℕ)) (found : AuditSummary)
-    → AnswersBooks Text log tally orders currency ends passed old new (Ok found) → AnswersBooks Text log other orders currency ends passed old new (Ok (with_tally other (line_books found)))
-any_tally tally other log orders currency ends passed old new found (appended, same, is, sums, unfollowed, is_passed) = (appended, refl, is, record { total = sums.total; unclear = sums.unclear }, unfollowed, is_passed)
+any_tally : (tally other : Tally) (log : List Happening) (orders : Orders) (apart : List UnfollowedOrder) (currency : Option ℕ) (ends : Lines) (passed : ℕ) (old new : Option (List ℕ)) (found : AuditSummary)
+    → AnswersBooks Text log tally orders apart currency ends passed old new (Ok found) → AnswersBooks Text log other orders apart currency ends passed old new (Ok (with_tally other (line_books found)))
+any_tally tally other log orders apart currency ends passed old new found (appended, same, is, sums, unfollowed, is_passed) = (appended, refl, is, record { total = sums.total; unclear = sums.unclear }, unfollowed, is_passed)
 
-no_tally : (tally other : Tally) (log : List Happening) (orders : Orders) (currency : Option ℕ) (ends : Lines) (passed : ℕ) (old new : Option (List ℕ)) (fault : TraceFault)
-    → AnswersBooks Text log tally orders currency ends passed old new (Err fault) → AnswersBooks Text log other orders currency ends passed old new (Err fault)
-no_tally tally other log orders currency ends passed old new Memory closed = closed
-no_tally tally other log orders currency ends passed old new Write closed = closed
-no_tally tally other log orders currency ends passed old new (Trace number what) never = absurd never
-no_tally tally other log orders currency ends passed old new TooLong never = absurd never
-no_tally tally other log orders currency ends passed old new Read never = absurd never
+no_tally : (tally other : Tally) (log : List Happening) (orders : Orders) (apart : List UnfollowedOrder) (currency : Option ℕ) (ends : Lines) (passed : ℕ) (old new : Option (List ℕ)) (fault : TraceFault)
+    → AnswersBooks Text log tally orders apart currency ends passed old new (Err fault) → AnswersBooks Text log other orders apart currency ends passed old new (Err fault)
+no_tally tally other log orders apart currency ends passed old new Memory closed = closed
+no_tally tally other log orders apart currency ends passed old new Write closed = closed
+no_tally tally other log orders apart currency ends passed old new (Trace number what) never = absurd never
+no_tally tally other log orders apart currency ends passed old new TooLong never = absurd never
+no_tally tally other log orders apart currency ends passed old new Read never = absurd never
 
 abbrev of_events : List At → Tally
 of_events events = record { messages = messages_in events; bad = bad_in events }
@@ -102,17 +103,17 @@ of_events events = record { messages = messages_in events; bad = bad_in events }
 module _ (r : Reading) (scope : Scope) (trace : List ℕ) (events : List At) (whole : WholeTrace r scope (lines trace) events) (start now : Auditor) (new : IsConnected start) (heard : HearsAll hears start (seen scope events) now)
     (passed : ℕ) (counted : passed ≡ passed_after scope 0 events) (tally : Tally) (before after : Option (List ℕ)) where
   abbrev Closes : Result AuditSummary TraceFault → Type 0
-  Closes answer = (log : List Happening) → HasJudged log now.books → AnswersBooks Text log tally now.orders (agreed now.named) (lines_of now.ends) passed before after answer
+  Closes answer = (log : List Happening) → HasJudged log now.books → AnswersBooks Text log tally now.orders now.unfollowed.items (agreed now.named) (lines_of now.ends) passed before after answer
 
-  told : (answer : Result AuditSummary TraceFault) → ((log : List Happening) → HasJudged log now.books → AnswersBooks Text log (of_events events) now.orders (agreed now.named) (lines_of now.ends) passed before after answer)
+  told : (answer : Result AuditSummary TraceFault) → ((log : List Happening) → HasJudged log now.books → AnswersBooks Text log (of_events events) now.orders now.unfollowed.items (agreed now.named) (lines_of now.ends) passed before after answer)
       → AnswersReadBy r scope Text trace before after answer
   told answer closes = audited_events r scope trace Text (of_events events) events whole (record { messages = refl; bad = refl }) start now new heard passed counted before after answer closes
 
   written : (found : AuditSummary) → Closes (Ok found) → AnswersReadBy r scope Text trace before after (Ok (with_tally (of_events events) (line_books found)))
-  written found closes = told (Ok (with_tally (of_events events) (line_books found))) (λ log judged. any_tally tally (of_events events) log now.orders (agreed now.named) (lines_of now.ends) passed before after found (closes log judged))
+  written found closes = told (Ok (with_tally (of_events events) (line_books found))) (λ log judged. any_tally tally (of_events events) log now.orders now.unfollowed.items (agreed now.named) (lines_of now.ends) passed before after found (closes log judged))
 
   failed : (fault : TraceFault) → Closes (Err fault) → AnswersReadBy r scope Text trace before after (Err fault)
-  failed fault closes = told (Err fault) (λ log judged. no_tally tally (of_events events) log now.orders (agreed now.named) (lines_of now.ends) passed before after fault (closes log judged))
+  failed fault closes = told (Err fault) (λ log judged. no_tally tally (of_events events) log now.orders now.unfollowed.items (agreed now.named) (lines_of now.ends) passed before after fault (closes log judged))
 
 -- The events of a line's trace as its books are read, what is seen of them heard, and the messages that were passed over.
 abbrev Heard : Reading → (reads_on : Bool) → (trace : List ℕ) → (start now : LineAudit) → Type 0
@@ -139,10 +140,10 @@ module _ (r : Reading) (reads_on : Bool) (trace : List ℕ) (events : List At) (
   all : Heard r reads_on trace start now
   all = heard_as_read r reads_on trace events start now new whole heard
 
-  pub line_written : (found : AuditSummary) → ((log : List Happening) → HasJudged log now.auditor.listener.listener.books → AnswersBooks Text log tally now.auditor.listener.listener.orders (agreed now.auditor.listener.listener.named) (lines_of now.auditor.listener.listener.ends) now.auditor.passed before after (Ok found))
+  pub line_written : (found : AuditSummary) → ((log : List Happening) → HasJudged log now.auditor.listener.listener.books → AnswersBooks Text log tally now.auditor.listener.listener.orders now.auditor.listener.listener.unfollowed.items (agreed now.auditor.listener.listener.named) (lines_of now.auditor.listener.listener.ends) now.auditor.passed before after (Ok found))
       → AnswersLine r reads_on trace before after (Ok (line_books found))
   line_written found closes = (of_events all.0, written r (books_scope reads_on) trace all.0 all.1 start.auditor.listener.listener now.auditor.listener.listener new.0 all.2 now.auditor.passed all.3 tally before after found closes)
 
-  pub line_failed : (fault : TraceFault) → ((log : List Happening) → HasJudged log now.auditor.listener.listener.books → AnswersBooks Text log tally now.auditor.listener.listener.orders (agreed now.auditor.listener.listener.named) (lines_of now.auditor.listener.listener.ends) now.auditor.passed before after (Err fault))
+  pub line_failed : (fault : TraceFault) → ((log : List Happening) → HasJudged log now.auditor.listener.listener.books → AnswersBooks Text log tally now.auditor.listener.listener.orders now.auditor.listener.listener.unfollowed.items (agreed now.auditor.listener.listener.named) (lines_of now.auditor.listener.listener.ends) now.auditor.passed before after (Err fault))
       → AnswersLine r reads_on trace before after (Err fault)
   line_failed fault closes = failed r (books_scope reads_on) trace all.0 all.1 start.auditor.listener.listener now.auditor.listener.listener new.0 all.2 now.auditor.passed all.3 tally before after fault closes

@@ -24,12 +24,13 @@ use Rattle.zvt_audit.specs.Currencies.{currencies_of, named_after, named_by, one
 use Rattle.zvt_audit.specs.Ends.{AreEndLines, Lines, lines_of}
 use Rattle.zvt_audit.specs.Happened.{happenings_of, log_of}
 use Rattle.zvt_audit.specs.Json.{books_in}
-use Rattle.zvt_audit.specs.Orders.{are_swapped, has_unfollowed, noticed}
+use Rattle.zvt_audit.specs.Orders.{are_swapped, noticed, unfollowed_at, unfollowed_in, with_unfollowed}
 use Rattle.zvt_text.specs.declared.form.Form.{Form}
 use Rattle.zvt_audit.specs.declared.auditor.Auditor.{Auditor}
 use Rattle.zvt_audit.specs.declared.by_control.ByControl.{ByControl}
 use Rattle.zvt_audit.specs.declared.currencies.NamedCurrency.TheVariants.{Absent}
 use Rattle.zvt_audit.specs.declared.orders.Orders.{Orders}
+use Rattle.zvt_audit.specs.declared.orders.UnfollowedOrder.{UnfollowedOrder}
 use Rattle.zvt_audit.specs.declared.summary.AuditSummary.{AuditSummary}
 
 -- the books of a log became those of the log with these happenings after it
@@ -40,7 +41,7 @@ Takes old new happened = (log : List Happening) → HasJudged log old → HasJud
 abbrev pub IsConnected : Auditor → Type 0
 IsConnected auditor =
     HasJudged (Connected ∷ []) auditor.books × (auditor.orders.till ≡ false) × (auditor.orders.terminal ≡ false) × (auditor.named ≡ Absent)
-    × AreEndLines [] (lines_of auditor.ends) × (auditor.orders.unfollowed ≡ false)
+    × AreEndLines [] (lines_of auditor.ends) × (auditor.unfollowed.items ≡ [])
 
 -- the lines stay those of the events, also after an event of this line by which that happened
 abbrev pub KeepsEnds : Auditor → List Happening → (line : ℕ) → Auditor → Type 0
@@ -50,13 +51,15 @@ KeepsEnds old happened line new =
 
 -- what an auditor becomes by what happened at a line that is no order
 abbrev pub BecomesBy : Auditor → List Happening → (line : ℕ) → Auditor → Type 0
-BecomesBy old happened line new = Takes old.books new.books happened × (new.orders ≡ old.orders) × (new.named ≡ old.named) × KeepsEnds old happened line new
+BecomesBy old happened line new =
+    Takes old.books new.books happened × (new.orders ≡ old.orders) × (new.named ≡ old.named) × KeepsEnds old happened line new × (new.unfollowed.items ≡ old.unfollowed.items)
 
 -- what an auditor becomes by an event
 abbrev pub Becomes : Auditor → At → Auditor → Type 0
 Becomes old event new =
     Takes old.books new.books (happenings_of event.trace_event) × (new.orders ≡ noticed old.orders event.trace_event)
     × (new.named ≡ named_after old.named (named_by event.trace_event)) × KeepsEnds old (happenings_of event.trace_event) event.line new
+    × (new.unfollowed.items ≡ with_unfollowed old.unfollowed.items (unfollowed_at event.line event.trace_event))
 
 -- orders came from where the terminal is said to be, and none from where the till is
 abbrev pub has_swapped : Orders → Bool
@@ -68,13 +71,13 @@ pub record SumsUp (audited : AuditSummary) (found : Books) : Type 0 where
   pub unclear : audited.unclear ≡ length found.unclear
 
 -- What writing the books of a log in that form answers.
-abbrev pub AnswersBooks : Form → List Happening → Tally → Orders → (currency : Option ℕ) → Lines → (passed : ℕ) → (old new : Option (List ℕ)) → Result AuditSummary TraceFault → Type 0
-AnswersBooks form log tally orders currency lines passed old new (Ok audited) = Appends old new (books_in form tally currency lines (books log)) × (audited.tally ≡ tally) × (audited.swapped ≡ has_swapped orders) × SumsUp audited (books log) × (audited.unfollowed ≡ orders.unfollowed) × (audited.passed ≡ passed)
-AnswersBooks form log tally orders currency lines passed old new (Err Memory) = Keeps old new
-AnswersBooks form log tally orders currency lines passed old new (Err Write) = AppendsPrefix old new (books_in form tally currency lines (books log))
-AnswersBooks form log tally orders currency lines passed old new (Err (Trace number what)) = ⊥
-AnswersBooks form log tally orders currency lines passed old new (Err TooLong) = ⊥
-AnswersBooks form log tally orders currency lines passed old new (Err Read) = ⊥
+abbrev pub AnswersBooks : Form → List Happening → Tally → Orders → List UnfollowedOrder → (currency : Option ℕ) → Lines → (passed : ℕ) → (old new : Option (List ℕ)) → Result AuditSummary TraceFault → Type 0
+AnswersBooks form log tally orders unfollowed currency lines passed old new (Ok audited) = Appends old new (books_in form tally currency lines unfollowed (books log)) × (audited.tally ≡ tally) × (audited.swapped ≡ has_swapped orders) × SumsUp audited (books log) × (audited.unfollowed.items ≡ unfollowed) × (audited.passed ≡ passed)
+AnswersBooks form log tally orders unfollowed currency lines passed old new (Err Memory) = Keeps old new
+AnswersBooks form log tally orders unfollowed currency lines passed old new (Err Write) = AppendsPrefix old new (books_in form tally currency lines unfollowed (books log))
+AnswersBooks form log tally orders unfollowed currency lines passed old new (Err (Trace number what)) = ⊥
+AnswersBooks form log tally orders unfollowed currency lines passed old new (Err TooLong) = ⊥
+AnswersBooks form log tally orders unfollowed currency lines passed old new (Err Read) = ⊥
 
 -- ---- an auditor as a listener
 
@@ -106,14 +109,14 @@ WritesBooks r trace tally old new =
 abbrev pub AnswersReadBy : Reading → Scope → Form → (trace : List ℕ) → (old new : Option (List ℕ)) → Result AuditSummary TraceFault → Type 0
 AnswersReadBy r scope form trace old new (Ok audited) =
     (events : List At) × (ends : Lines) × WholeTrace r scope (lines trace) events × AreEndLines (seen scope events) ends
-    × Appends old new (books_in form audited.tally (one_currency (currencies_of (seen scope events))) ends (books (log_of (seen scope events))))
+    × Appends old new (books_in form audited.tally (one_currency (currencies_of (seen scope events))) ends (unfollowed_in (seen scope events)) (books (log_of (seen scope events))))
     × Tallies audited.tally events × (audited.swapped ≡ are_swapped (seen scope events)) × SumsUp audited (books (log_of (seen scope events)))
-    × (audited.unfollowed ≡ has_unfollowed (seen scope events)) × (audited.passed ≡ passed_after scope 0 events)
+    × (audited.unfollowed.items ≡ unfollowed_in (seen scope events)) × (audited.passed ≡ passed_after scope 0 events)
 AnswersReadBy r scope form trace old new (Err (Trace number what)) = (events : List At) × BrokenTrace r scope (lines trace) number what events × Keeps old new
 AnswersReadBy r scope form trace old new (Err Memory) = Keeps old new
 AnswersReadBy r scope form trace old new (Err Write) =
     (events : List At) × (tally : Tally) × (ends : Lines) × WholeTrace r scope (lines trace) events × AreEndLines (seen scope events) ends
-    × AppendsPrefix old new (books_in form tally (one_currency (currencies_of (seen scope events))) ends (books (log_of (seen scope events)))) × Tallies tally events
+    × AppendsPrefix old new (books_in form tally (one_currency (currencies_of (seen scope events))) ends (unfollowed_in (seen scope events)) (books (log_of (seen scope events)))) × Tallies tally events
 AnswersReadBy r scope form trace old new (Err TooLong) = ⊥
 AnswersReadBy r scope form trace old new (Err Read) = ⊥
 

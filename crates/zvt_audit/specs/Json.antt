@@ -12,7 +12,9 @@ use Rattle.zvt_till.specs.Names.{cause_name}
 use Rattle.zvt_till.specs.declared.outcomes.Cause.{Cause}
 use Rattle.zvt_trace.specs.declared.fault.Tally.{Tally}
 use Rattle.zvt_audit.specs.Booked.{books_text, total}
+use Rattle.zvt_text.specs.Meanings.{command_name}
 use Rattle.zvt_audit.specs.Ends.{Lines}
+use Rattle.zvt_audit.specs.declared.orders.UnfollowedOrder.{UnfollowedOrder}
 use Rattle.zvt_text.specs.declared.form.Form.{Form}
 use Rattle.zvt_text.specs.declared.form.Form.TheVariants.{Text, Json}
 
@@ -52,16 +54,29 @@ summary_value tally currency total = object (member (codes "bad") (count_value t
 abbrev pub rows_text : {A : Type 0} → (A → Option ℕ → List ℕ) → (ends : List ℕ) → List A → List ℕ
 rows_text text ends rows = flat_map (λ entry. text entry.1 (slice_get ends entry.0)) (enumerate_from 0 rows)
 
--- a line for each payment that was completed, for each of which it is not known whether it happened, and for the whole trace
-abbrev pub books_json : Tally → (currency : Option ℕ) → Lines → Books → List ℕ
-books_json tally currency ends books =
+-- an order that is not followed: its control bytes, its line, and its name, if the control bytes have one
+abbrev pub with_name : Option (List ℕ) → Members → Members
+with_name None later = later
+with_name (Some name) later = member (codes "name") (string name) later
+
+abbrev pub order_value : UnfollowedOrder → Data
+order_value order =
+    object (member (codes "control") (hex_value (order.high ∷ order.low ∷ [])) (member (codes "line") (count_value order.line) (with_name (command_name order.high order.low) no_members)))
+
+abbrev pub unfollowed_value : UnfollowedOrder → Data
+unfollowed_value order = object (member (codes "unfollowed") (order_value order) no_members)
+
+-- a line for each payment that was completed, for each of which it is not known whether it happened, for each order that is
+-- not followed, and for the whole trace
+abbrev pub books_json : Tally → (currency : Option ℕ) → Lines → List UnfollowedOrder → Books → List ℕ
+books_json tally currency ends unfollowed books =
     rows_text (λ row line. line_text (booked_value row line)) ends.booked books.booked ++ rows_text (λ row line. line_text (unclear_value row line)) ends.unclear books.unclear
-    ++ line_text (summary_value tally currency (total books.booked))
+    ++ flat_map (λ order. line_text (unfollowed_value order)) unfollowed ++ line_text (summary_value tally currency (total books.booked))
 
 -- the books in that form
-abbrev pub books_in : Form → Tally → (currency : Option ℕ) → Lines → Books → List ℕ
-books_in Text tally currency ends books = books_text books
-books_in Json tally currency ends books = books_json tally currency ends books
+abbrev pub books_in : Form → Tally → (currency : Option ℕ) → Lines → List UnfollowedOrder → Books → List ℕ
+books_in Text tally currency ends unfollowed books = books_text books
+books_in Json tally currency ends unfollowed books = books_json tally currency ends unfollowed books
 
 -- ---- the same texts, as they are written
 
@@ -78,6 +93,14 @@ booked_text row line = codes "{\"booked\":{\"amount\":" ++ decimal row.amount ++
 
 unfoldable pub unclear_text : ℕ × Cause → Option ℕ → List ℕ
 unclear_text row line = codes "{\"unclear\":{\"amount\":" ++ decimal row.0 ++ codes ",\"cause\":\"" ++ cause_name row.1 ++ (34 ∷ []) ++ line_part line ++ (codes "}}" ++ 10 ∷ [])
+
+abbrev pub name_part : Option (List ℕ) → List ℕ
+name_part None = []
+name_part (Some name) = codes ",\"name\":\"" ++ name ++ 34 ∷ []
+
+unfoldable pub unfollowed_text : UnfollowedOrder → List ℕ
+unfollowed_text order =
+    codes "{\"unfollowed\":{\"control\":\"" ++ escape (encode_upper (order.high ∷ order.low ∷ [])) ++ codes "\",\"line\":" ++ decimal order.line ++ name_part (command_name order.high order.low) ++ (codes "}}" ++ 10 ∷ [])
 
 abbrev pub currency_part : Option ℕ → List ℕ
 currency_part None = []

@@ -2,18 +2,19 @@
 use crate::currencies::NamedCurrency;
 use crate::ends::{Ends, can_end};
 use crate::happened::ordered;
-use crate::orders::Orders;
+use crate::orders::{Orders, UnfollowedOrder, add_unfollowed};
 use std::alloc::AllocError;
 use zvt_apdu::{ApduView, Kind};
 use zvt_till::{Bookkeeping, Happening};
 use zvt_trace::{Direction, Listener, ListenerError, TraceEvent};
 
-/// Turns the events of a trace into the log of a till. It also notes who sends orders, which currencies the till names,
-/// and at which lines payments end.
+/// Turns the events of a trace into the log of a till. It also notes who sends orders, which of them move money that the
+/// books do not follow, which currencies the till names, and at which lines payments end.
 #[derive(Drop)]
 pub(crate) struct Auditor {
     pub(crate) books: Bookkeeping,
     pub(crate) orders: Orders,
+    pub(crate) unfollowed: Vec<UnfollowedOrder>,
     pub(crate) named: NamedCurrency,
     pub(crate) ends: Ends,
 }
@@ -69,6 +70,7 @@ impl Auditor {
         ensures { OnOk result (Becomes self.old (on line (trace_event.message FromTill apdu.now)) self.new) }
     {
         self.orders.notice(Direction::FromTill, apdu);
+        add_unfollowed(&mut self.unfollowed, line, apdu)?;
         self.named.notice(apdu.currency());
         match ordered(apdu) {
             Some(order) => {

@@ -18,5 +18,6 @@ mod summary;
 
 pub use follow::{Audit, follow_audit};
 pub use line::{LineAudit, LineBooks, line_scope};
+pub use orders::UnfollowedOrder;
 pub use sum::Sum;
 pub use summary::{AuditSummary, audit_trace};

@@ -9,6 +9,7 @@ ghost use Rattle.zvt_audit.specs.Line.{AnswersLine, IsNew, hears_line, line_scop
 
 use crate::auditor::Auditor;
 use crate::by_control::ByControl;
+use crate::orders::UnfollowedOrder;
 use crate::summary::{connected, write_books};
 use std::alloc::{AllocError, Global};
 use zvt_io::Sink;
@@ -27,7 +28,7 @@ pub struct LineAudit {
 }
 
 /// What the audit of a line finds, apart from its books.
-#[derive(Clone, Copy, Debug, PartialEq, Eq)]
+#[derive(Drop)]
 pub struct LineBooks {
     /// The sum of the payments that were completed, in the smallest unit of the currency.
     pub total: u128,
@@ -35,8 +36,8 @@ pub struct LineBooks {
     pub unclear: u64,
     /// Whether orders came only from the side that is marked as the terminal's.
     pub swapped: bool,
-    /// Whether the till sent an order that moves money and that the books do not follow.
-    pub unfollowed: bool,
+    /// The orders of the till that move money and that the books do not follow.
+    pub unfollowed: Vec<UnfollowedOrder>,
     /// The number of refused messages that were passed over and known by their control bytes alone. It saturates.
     pub passed: u64,
 }

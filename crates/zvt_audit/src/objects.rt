@@ -1,31 +1,36 @@
 //! The books of a trace as JSON objects, one per line.
 ghost use Rattle.std.specs.Prelude.{◌≡◌, ◌++◌, OnOk};
+ghost use Rattle.std.specs.List.{flat_map};
+ghost use Rattle.zvt_text.specs.Meanings.{command_name};
 ghost use Rattle.hex.specs.Hex.{encode_upper};
 ghost use Rattle.json.specs.Print.{escape};
 ghost use Rattle.zvt_text.specs.Writing.{Adds};
 ghost use Rattle.zvt_till.specs.Judging.{books_value, row_value};
 ghost use Rattle.zvt_audit.specs.Ends.{lines_of};
 ghost use Rattle.zvt_audit.specs.Json.{booked_text, books_json, currency_part, line_part, receipt_part, summary_text};
-ghost use Rattle.zvt_audit.specs.Json.{unclear_text};
+ghost use Rattle.zvt_audit.specs.Json.{name_part, unclear_text, unfollowed_text};
 
 use crate::booked::total;
 use crate::ends::Ends;
+use crate::orders::UnfollowedOrder;
 use std::alloc::AllocError;
 use zvt_bcd::{Amount, Currency};
-use zvt_text::Text;
+use zvt_text::{Text, command_name};
 use zvt_till::{Booked, Books, Cause};
 use zvt_trace::Tally;
 
-/// Writes one object per completed payment, then one per unclear payment, and a last one for the whole trace.
+/// Writes one object per completed payment, then one per unclear payment, then one per order that is not followed, and a
+/// last one for the whole trace.
 pub(crate) fn write(
     text: &mut Text,
     tally: Tally,
     currency: Option<Currency>,
     ends: &Ends,
+    unfollowed: &[UnfollowedOrder],
     books: &Books,
 ) -> Result<(), AllocError>
     ensures { OnOk result (text.new ≡ text.old ++ books_json tally currency (lines_of ends.now)
-        (books_value books.now)) }
+        unfollowed.now (books_value books.now)) }
 {
     for (at, row) in books.booked.iter().enumerate() {
         booked_row(text, row, ends.booked.get(at).copied())?;
@@ -33,6 +38,7 @@ pub(crate) fn write(
     for (at, row) in books.unclear.iter().enumerate() {
         unclear_row(text, row, ends.unclear.get(at).copied())?;
     }
+    unfollowed_rows(text, unfollowed)?;
     summary(text, tally, currency, total(books.booked.as_slice()))
 }
 
@@ -91,6 +97,41 @@ fn unclear_row(text: &mut Text, row: &(Amount, Cause), line: Option<u64>) -> Res
     text.push(b'"')?;
     ended_at(text, line)?;
     text.word(b"}}\n")
+}
+
+/// Writes one object per order that is not followed.
+fn unfollowed_rows(text: &mut Text, orders: &[UnfollowedOrder]) -> Result<(), AllocError>
+    ensures { OnOk result (text.new ≡ text.old ++ flat_map unfollowed_text orders.now) }
+{
+    for order in orders {
+        unfollowed_row(text, order)?;
+    }
+    Ok(())
+}
+
+/// Writes the object of an order that is not followed.
+fn unfollowed_row(text: &mut Text, order: &UnfollowedOrder) -> Result<(), AllocError>
+    ensures { OnOk result (text.new ≡ text.old ++ unfollowed_text order.now) }
+{
+    let UnfollowedOrder { line, high, low } = *order;
+    text.word(b"{\"unfollowed\":{\"control\":\"")?;
+    digits(text, &[high, low])?;
+    text.word(b"\",\"line\":")?;
+    text.number(line)?;
+    name(text, high, low)?;
+    text.word(b"}}\n")
+}
+
+/// Adds the name of the command with these control bytes, if it has one.
+fn name(text: &mut Text, high: u8, low: u8) -> Result<(), AllocError>
+    ensures { OnOk result (text.new ≡ text.old ++ name_part (command_name high low)) }
+{
+    let Some(name) = command_name(high, low) else {
+        return Ok(());
+    };
+    text.word(b",\"name\":\"")?;
+    text.word(name.as_bytes())?;
+    text.push(b'"')
 }
 
 /// Writes the object of the whole trace.

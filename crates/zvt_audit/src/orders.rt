@@ -1,9 +1,12 @@
-//! Records which sides of the line sent orders, and whether an order moves money that the books do not follow.
-ghost use Rattle.std.specs.Prelude.{◌≡◌, false, not, ◌&&◌};
+//! Records which sides of the line sent orders, and tells the orders that move money and that the books do not follow.
+ghost use Rattle.std.specs.Prelude.{◌≡◌, false, not, ◌&&◌, OnOk};
 ghost use Rattle.zvt_apdu.specs.Views.{control_of};
-ghost use Rattle.zvt_audit.specs.Orders.{is_order, moves_apart, noticed, pays_unknown};
+ghost use Rattle.zvt_trace.specs.declared.direction.Direction.TheVariants.{FromTill};
+ghost use Rattle.zvt_audit.specs.Orders.{is_order, is_unfollowed_from, moves_apart, noticed, pays_unknown, unfollowed_at};
+ghost use Rattle.zvt_audit.specs.Orders.{with_unfollowed};
 ghost use Rattle.zvt_trace.specs.TraceEvent as trace_event;
 
+use std::alloc::AllocError;
 use zvt_apdu::{ApduView, Kind};
 use zvt_trace::Direction;
 
@@ -12,19 +15,16 @@ use zvt_trace::Direction;
 pub(crate) struct Orders {
     pub(crate) till: bool,
     pub(crate) terminal: bool,
-    /// Whether the till sent a refund, an order of a pre-authorisation, or a payment without an amount.
-    pub(crate) unfollowed: bool,
 }
 
 impl Orders {
     /// Starts before any order.
     pub(crate) fn none() -> Orders
-        ensures { (result.till ≡ false) × (result.terminal ≡ false) × (result.unfollowed ≡ false) }
+        ensures { (result.till ≡ false) × (result.terminal ≡ false) }
     {
         Orders {
             till: false,
             terminal: false,
-            unfollowed: false,
         }
     }
 
@@ -36,9 +36,6 @@ impl Orders {
             Direction::FromTill => {
                 if is_order(apdu) {
                     self.till = true;
-                }
-                if moves_apart(apdu) || pays_unknown(apdu) {
-                    self.unfollowed = true;
                 }
             }
             Direction::FromTerminal => {
@@ -55,6 +52,41 @@ impl Orders {
     {
         !self.till && self.terminal
     }
+}
+
+/// An order of the till that moves money and that the books do not follow: a refund, an order of a pre-authorisation, or a
+/// payment without an amount.
+#[derive(Clone, Copy, Debug, PartialEq, Eq)]
+pub struct UnfollowedOrder {
+    /// The line of the trace at which the order ends, counted from 1.
+    pub line: u64,
+    /// The first control byte.
+    pub high: u8,
+    /// The second control byte.
+    pub low: u8,
+}
+
+/// Adds a message of the till that ends at this line, if it is such an order.
+pub(crate) fn add_unfollowed(
+    orders: &mut Vec<UnfollowedOrder>,
+    line: u64,
+    apdu: &ApduView<'_>,
+) -> Result<(), AllocError>
+    ensures { OnOk result (orders.new.items ≡ with_unfollowed orders.old.items
+        (unfollowed_at line (trace_event.message FromTill apdu.now))) }
+{
+    if is_unfollowed(apdu) {
+        let [high, low] = apdu.control();
+        orders.push(UnfollowedOrder { line, high, low })?;
+    }
+    Ok(())
+}
+
+/// Whether this message of a till moves money in a way that the books do not follow.
+fn is_unfollowed(apdu: &ApduView<'_>) -> bool
+    ensures { result ≡ is_unfollowed_from FromTill apdu.now }
+{
+    moves_apart(apdu) || pays_unknown(apdu)
 }
 
 /// Whether this message of a till is an order.

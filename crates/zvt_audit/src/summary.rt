@@ -12,7 +12,7 @@ use crate::auditor::Auditor;
 use crate::by_control::ByControl;
 use crate::currencies::NamedCurrency;
 use crate::ends::Ends;
-use crate::orders::Orders;
+use crate::orders::{Orders, UnfollowedOrder};
 use crate::{booked, form};
 use std::alloc::{AllocError, Global};
 use zvt_grammar::Lengths;
@@ -22,7 +22,7 @@ use zvt_till::{Bookkeeping, Happening};
 use zvt_trace::{Scope, Tally, TraceFault, walk};
 
 /// Findings of an audit apart from the books.
-#[derive(Clone, Copy, Debug, PartialEq, Eq)]
+#[derive(Drop)]
 pub struct AuditSummary {
     pub tally: Tally,
     /// The sum of the completed payments, in the smallest unit of the currency.
@@ -31,9 +31,8 @@ pub struct AuditSummary {
     pub unclear: u64,
     /// Whether orders came only from the side that is marked as the terminal's.
     pub swapped: bool,
-    /// Whether the till sent an order that moves money and that the books do not follow: a refund, an order of a
-    /// pre-authorisation, or a payment without an amount.
-    pub unfollowed: bool,
+    /// The orders of the till that move money and that the books do not follow.
+    pub unfollowed: Vec<UnfollowedOrder>,
     /// The number of refused messages that were passed over and known by their control bytes alone. It saturates.
     pub passed: u64,
 }
@@ -77,6 +76,7 @@ pub(crate) fn connected(alloc: Global, scope: Scope) -> Result<ByControl<Auditor
         listener: Auditor {
             books,
             orders: Orders::none(),
+            unfollowed: Vec::new(alloc),
             named: NamedCurrency::none(),
             ends: Ends::none(alloc),
         },
@@ -94,7 +94,7 @@ pub(crate) fn write_books<W: Sink>(
     writer: &mut W,
 ) -> Result<AuditSummary, TraceFault>
     ensures writes { (log : List Happening) → HasJudged log audit.listener.books → AnswersBooks form log tally
-        audit.listener.orders (agreed audit.listener.named) (lines_of audit.listener.ends) audit.passed
+        audit.listener.orders audit.listener.unfollowed.items (agreed audit.listener.named) (lines_of audit.listener.ends) audit.passed
         (W.written writer.old) (W.written writer.new) result }
     ensures write { result ≡ Err TraceFault.Write → W.failures writer.old < W.failures writer.new }
     ensures read { result ≡ Err TraceFault.Read → ⊥ }
@@ -105,11 +105,19 @@ pub(crate) fn write_books<W: Sink>(
         ..
     } = audit;
     let swapped = auditor.orders.are_swapped();
-    let unfollowed = auditor.orders.unfollowed;
+    let unfollowed = auditor.unfollowed;
     let currency = auditor.named.agreed();
     let found = auditor.books.close()?;
     let mut text = Text::new(alloc);
-    form::write(&mut text, form, tally, currency, &auditor.ends, &found)?;
+    form::write(
+        &mut text,
+        form,
+        tally,
+        currency,
+        &auditor.ends,
+        unfollowed.as_slice(),
+        &found,
+    )?;
     writer.write_all(text.bytes())?;
     Ok(AuditSummary {
         tally,

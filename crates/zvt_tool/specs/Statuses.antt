@@ -1,5 +1,5 @@
 -- The exit statuses of the program.
-use Rattle.std.specs.Prelude.{cond, ℕ, zero, suc, ◌+◌, ◌-◌, Bool, false, true, Result, Ok, Err}
+use Rattle.std.specs.Prelude.{ℕ, length, zero, suc, ◌+◌, ◌-◌, Bool, false, true, Result, Ok, Err}
 use Rattle.std.specs.IoError.{error_kind}
 use Rattle.std.specs.declared.io.ErrorKind.{ErrorKind}
 use Rattle.std.specs.declared.io.ErrorKind.TheVariants.{OutOfMemory}
@@ -89,7 +89,7 @@ status_of_device on_device.Full = 4
 -- the status of a command on a trace; if it checks that no payment is unclear, an unclear payment counts as bad
 abbrev pub status_of_found : (check : Bool) → Result AuditSummary TraceFault → ℕ
 status_of_found false (Ok found) = status_of_bad (found.tally.bad - found.passed)
-status_of_found true (Ok found) = status_of_bad (found.unclear + (found.tally.bad - found.passed) + cond found.unfollowed 1 0)
+status_of_found true (Ok found) = status_of_bad (found.unclear + (found.tally.bad - found.passed) + length found.unfollowed.items)
 status_of_found false (Err fault) = status_of_trace_fault fault
 status_of_found true (Err fault) = status_of_trace_fault fault
 

@@ -1,5 +1,5 @@
 //! The commands on a trace.
-ghost use Rattle.std.specs.Prelude.{◌≡◌, ◌<◌, ◌≤◌, false, length, Err, IfOk};
+ghost use Rattle.std.specs.Prelude.{◌≡◌, ◌<◌, ◌≤◌, false, length, [], Err, IfOk};
 ghost use Rattle.zvt_trace.specs.Written.{limit};
 ghost use Rattle.zvt_tool.specs.OnTrace.{AnswersOnTrace, FollowsTrace, tally_of};
 
@@ -28,10 +28,15 @@ pub fn work_on_trace<W: Sink>(
     let lengths = command.lengths;
     match command.work {
         TraceWork::Render(style) => {
-            found(render_trace(alloc, style, scope, lengths, trace, writer))
+            found(
+                alloc,
+                render_trace(alloc, style, scope, lengths, trace, writer),
+            )
         }
         TraceWork::Audit(form) => audit_trace(alloc, form, scope, lengths, trace, writer),
-        TraceWork::Vectors(form) => found(vectors(alloc, form, &mut Over::new(trace), writer)),
+        TraceWork::Vectors(form) => {
+            found(alloc, vectors(alloc, form, &mut Over::new(trace), writer))
+        }
     }
 }
 
@@ -51,17 +56,21 @@ pub fn follow_work<R: Source, W: Sink>(
     let lengths = command.lengths;
     match command.work {
         TraceWork::Render(style) => {
-            found(follow_trace(alloc, style, scope, lengths, reader, writer))
+            found(
+                alloc,
+                follow_trace(alloc, style, scope, lengths, reader, writer),
+            )
         }
         TraceWork::Audit(form) => follow_audit(alloc, form, scope, lengths, reader, writer),
-        TraceWork::Vectors(form) => found(vectors(alloc, form, reader, writer)),
+        TraceWork::Vectors(form) => found(alloc, vectors(alloc, form, reader, writer)),
     }
 }
 
 /// Returns the result of a command that does not look at payments.
-fn found(answer: Result<Tally, TraceFault>) -> Result<AuditSummary, TraceFault>
+fn found(alloc: Global, answer: Result<Tally, TraceFault>) -> Result<AuditSummary, TraceFault>
     ensures tally { tally_of result ≡ answer }
-    ensures swapped { IfOk result (λ found. (found.swapped ≡ false) × (found.unfollowed ≡ false)) }
+    ensures swapped { IfOk result (λ found. found.swapped ≡ false) }
+    ensures unfollowed { IfOk result (λ found. found.unfollowed.items ≡ []) }
     ensures none { IfOk result (λ found. (found.total ≡ 0) × (found.unclear ≡ 0) × (found.passed ≡ 0)) }
 {
     match answer {
@@ -70,7 +79,7 @@ fn found(answer: Result<Tally, TraceFault>) -> Result<AuditSummary, TraceFault>
             total: 0,
             unclear: 0,
             swapped: false,
-            unfollowed: false,
+            unfollowed: Vec::new(alloc),
             passed: 0,
         }),
         Err(fault) => Err(fault),

@@ -39,7 +39,7 @@ pub fn of_found(check: bool, answer: &Result<AuditSummary, TraceFault>) -> u8
     ensures { result ≡ status_of_found check answer.now }
 {
     match answer {
-        Ok(found) if check && (found.unclear > 0 || found.unfollowed) => BAD,
+        Ok(found) if check && (found.unclear > 0 || !found.unfollowed.is_empty()) => BAD,
         Ok(found) => of_bad(found.tally.bad.saturating_sub(found.passed)),
         Err(fault) => of_trace_fault(fault),
     }

@@ -28,4 +28,4 @@ loop-at-2-preserved c =
     one_row unclear_text c.args.ends.now.unclear.items (take c.loop-at-2.at items) _ c.row-item-in-loop-at-2.result c.copied-in-loop-at-2.result c.loop-at.text c.loop-at-2.text c.unclear_row.new.text grown (line ∙ ap (slice_get c.args.ends.now.unclear.items) (sym size)) c.loop-at-2.invariant c.in_ok-unclear_row.ensures
 
 pub returns : goal.returns
-returns c = let h = books_said c.args.tally c.args.currency (lines_of c.args.ends.now) (books_value c.args.books.now) in grind (arith, common_steps, h)
+returns c = let h = books_said c.args.tally c.args.currency (lines_of c.args.ends.now) c.args.unfollowed.now (books_value c.args.books.now) in grind (arith, common_steps, h)

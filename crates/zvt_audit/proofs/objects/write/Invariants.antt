@@ -1,6 +1,7 @@
 use Rattle.std.proofs.Common.{◌≡◌, ◌++◌, take}
 use Rattle.zvt_till.specs.Judging.{rows_value}
-use Rattle.zvt_audit.specs.Json.{booked_text, rows_text, unclear_text}
+use Rattle.std.specs.List.{flat_map}
+use Rattle.zvt_audit.specs.Json.{booked_text, rows_text, unclear_text, unfollowed_text}
 use Rattle.zvt_audit.proofs.objects.write.Given as goal
 
 abbrev pub invariant-loop-at : goal.invariant-loop-at

@@ -7,10 +7,10 @@ use Rattle.zvt_audit.proofs.auditor.Auditor.hear_terminal.Goals as goal
 pub returns-then-can_end : goal.returns-then-can_end
 returns-then-can_end c =
     let old = c.args.self.now in
-    where_ok c.notice-then-can_end.result (λ noticed. (c.in_ok-hear.ensures, c.notice.ensures, refl, ends_noticed old.books c.hear.new.self _ c.args.line (lines_of old.ends) (lines_of c.notice-then-can_end.new.self) c.in_ok-hear.ensures noticed)) c.notice-then-can_end.ensures
+    where_ok c.notice-then-can_end.result (λ noticed. (c.in_ok-hear.ensures, c.notice.ensures, refl, ends_noticed old.books c.hear.new.self _ c.args.line (lines_of old.ends) (lines_of c.notice-then-can_end.new.self) c.in_ok-hear.ensures noticed, refl)) c.notice-then-can_end.ensures
 
 pub returns-else-can_end : goal.returns-else-can_end
 returns-else-can_end c =
     let old = c.args.self.now in
     let passes : can_end (kind_of c.args.apdu.now) ≡ false = ap can_end (sym c.kind.ensures) ∙ sym c.can_end.ensures ∙ c.if-can_end.false in
-    (c.in_ok-hear.ensures, c.notice.ensures, refl, λ before event is at judged ended. passing_ended c.args.apdu.now old.books (lines_of old.ends) passes before event is judged ended)
+    (c.in_ok-hear.ensures, c.notice.ensures, refl, λ before event is at judged ended. passing_ended c.args.apdu.now old.books (lines_of old.ends) passes before event is judged ended, refl)

@@ -11,4 +11,4 @@ returns c =
     let old = c.args.self.now in
     let takes : Takes old.books c.take-2.new.self (Lost ∷ Connected ∷ []) =
     takes_more old.books c.take.new.self c.take-2.new.self (Lost ∷ []) (Connected ∷ []) c.in_ok-take.ensures c.in_ok-take-2.ensures in
-    where_ok c.notice.result (λ noticed. (takes, refl, refl, ends_noticed old.books c.take-2.new.self _ c.args.line (lines_of old.ends) (lines_of c.notice.new.self) takes noticed)) c.notice.ensures
+    where_ok c.notice.result (λ noticed. (takes, refl, refl, ends_noticed old.books c.take-2.new.self _ c.args.line (lines_of old.ends) (lines_of c.notice.new.self) takes noticed, refl)) c.notice.ensures
