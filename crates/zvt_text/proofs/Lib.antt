@@ -6,3 +6,6 @@ pub mod DetailLemmas
 pub mod ObjectLines
 pub mod FieldLemmas
 pub mod WordLemmas
+pub mod TextBlockLemmas
+pub mod CodepageLemmas
+pub mod ReceiptLaws

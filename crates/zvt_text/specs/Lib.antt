@@ -4,6 +4,9 @@ pub mod Words
 pub mod Results
 pub mod Secrets
 pub mod Lines
+pub mod TextBlocks
+pub mod Codepages
+pub mod Receipts
 pub mod MessageTexts
 pub mod Writing
 pub mod Laws
