@@ -1,4 +1,4 @@
--- The JSON lines of a receipt that a text block has printed.
+-- The JSON lines of a text block.
 use Rattle.std.specs.Prelude.{◌<◌, ℕ, List, [], ◌∷◌, ◌++◌, Option, Some, None, codes}
 use Rattle.std.specs.Fmt.{decimal}
 use Rattle.std.specs.List.{flat_map}
@@ -17,7 +17,7 @@ abbrev pub with_copy : Option ReceiptType → Members → Members
 with_copy None later = later
 with_copy (Some receipt_type) later = member (codes "copy") (string (type_name receipt_type)) later
 
--- a line that a text block in that line of the trace has printed
+-- a line of a text block, and the line of the trace in which the block ends
 abbrev pub printed_value : Option ReceiptType → (line : ℕ) → List ℕ → Data
 printed_value receipt_type line text =
     object (with_copy receipt_type (member (codes "from") (string (side_name FromTerminal))

@@ -1,4 +1,4 @@
-//! The JSON lines of a receipt that a text block has printed.
+//! The JSON lines of a text block.
 ghost use Rattle.std.specs.Prelude.{◌≤◌, length, map};
 ghost use Rattle.zvt_json.specs.Receipts.{IsByteType, copy_led, printed_line_text, receipt_lines, receipt_lines_text};
 ghost use Rattle.zvt_json.specs.Texts.{shut};
@@ -10,8 +10,8 @@ use std::alloc::AllocError;
 use zvt_text::cursor::{Full, decimal, fixed, push};
 use zvt_text::{ReceiptType, Says, Text, TextBlock, put_receipt_type};
 
-/// Appends one JSON line for each line of a receipt that a text block has printed. `line` is the line of the trace in
-/// which the block ends. If an allocation fails, the text does not change.
+/// Appends one JSON line for each line of a text block. `line` is the line of the trace in which the block ends. If an
+/// allocation fails, the text does not change.
 pub fn receipt(text: &mut Text, line: u64, block: &TextBlock<'_>) -> Result<(), AllocError>
     ensures { Adds result text.old text.new (receipt_lines block.now.receipt_type line
         (map (λ text. text.now) block.now.lines.items)) }

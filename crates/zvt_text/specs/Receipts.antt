@@ -28,7 +28,7 @@ receipt_line codepage line = decoded_text codepage line ++ 10 ∷ []
 abbrev pub receipt_text : Option Codepage → Option ReceiptType → List (List ℕ) → List ℕ
 receipt_text codepage receipt_type lines = heading receipt_type ++ flat_map (receipt_line codepage) lines
 
--- the receipt that a text block with these fields has printed
+-- the text of a text block with these fields
 abbrev pub block_text : Option Codepage → List Field → List ℕ
 block_text codepage fields = receipt_text codepage (block_type fields) (block_lines fields)
 

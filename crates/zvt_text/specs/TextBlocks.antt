@@ -33,7 +33,7 @@ abbrev pub field_printed : Field → List (List ℕ)
 field_printed (plain bmp content) = []
 field_printed (tree bmp objects) = printed_lines objects
 
--- the lines that the fields of a text block have printed
+-- the lines of a text block with these fields
 abbrev pub block_lines : List Field → List (List ℕ)
 block_lines = flat_map field_printed
 

@@ -21,7 +21,7 @@ pub enum Codepage {
     Utf8,
 }
 
-/// Writes a text in UTF-8. Without a code page, it has escapes for all bytes that are not ASCII.
+/// Writes a text in UTF-8. Without a code page, all bytes that are not ASCII become escapes.
 pub(crate) fn decode(
     buffer: &mut [u8],
     at: usize,
@@ -40,7 +40,7 @@ pub(crate) fn decode(
     }
 }
 
-/// Writes the characters of bytes, of which those from 80 on have these characters.
+/// Writes the characters of bytes. `characters` has those of the bytes from 80 on.
 fn decode_by(
     buffer: &mut [u8],
     at: usize,

@@ -1,4 +1,4 @@
-//! The lines that a text block has printed, and the type of its receipt.
+//! The lines of a text block, and the type of its receipt.
 ghost use Rattle.std.specs.Prelude.{◌≡◌, ◌++◌, IfOk, OnOk, map};
 ghost use Rattle.zvt_field.specs.Lent.{shown};
 ghost use Rattle.zvt_text.specs.TextBlocks.{block_lines, block_type, field_type, is_line_tag, is_texts_tag};
@@ -16,13 +16,13 @@ pub enum ReceiptType {
     Merchant,
     /// The customer's copy of the receipt of a transaction.
     Customer,
-    /// A receipt of the terminal's administration, such as the one of a day's end.
+    /// A receipt of the terminal's administration, for example of the end of a day.
     Administration,
-    /// A type that is not listed here.
+    /// Any other type, with its byte.
     Other(u8),
 }
 
-/// The text of a receipt, as a text block (06 D3) has it printed.
+/// A receipt that a terminal sends as a text block (06 D3).
 #[derive(Drop)]
 pub struct TextBlock<'a> {
     /// The type of the receipt, if the block names one.
