@@ -47,6 +47,8 @@ REFUSED = [
     ("join --resync", "error: unexpected argument '--resync' found\n"),
     ("receipts --safe", "error: unexpected argument '--safe' found\n"),
     ("join --explain", "error: unexpected argument '--explain' found\n"),
+    ("show --text-blocks", "error: unexpected argument '--text-blocks' found\n"),
+    ("receipts --codepage", "error: a value is required for '--codepage <PAGE>' but none was supplied\n"),
     ("till --port=1 --port=2", "error: the argument '--port <PORT>' cannot be used multiple times\n"),
 ]
 # Words that name no step of a loop: amounts, entries and codes that are none, and none of the names.
@@ -58,6 +60,7 @@ NO_SETTINGS = [
     ([*TILL, "--config"], ["", "B", "0BE", "BG", "+1"], "invalid configuration byte '{}': expected two hexadecimal digits, e.g. BE"),
     ([*TILL, "--currency"], ["", "978", "09780", "097a", "+978"], "invalid currency '{}': expected four decimal digits, e.g. 0978"),
     ([*TILL, "--timeout"], ["0"], "invalid number of seconds '{}': expected 1 to 65535"),
+    (["receipts", "--codepage"], ["", "cp437", "852", "UTF-8", "utf8"], "invalid code page '{}': expected 437, 850, iso-8859-1 or utf-8"),
     ([*TERMINAL, "--decline"], ["", "00", "6", "06C", "6G"], "invalid result code '{}': expected two hexadecimal digits other than 00, e.g. 6C"),
 ]
 STEPS = """register -> registered

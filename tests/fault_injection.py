@@ -131,6 +131,9 @@ class Trial(Checks):
         listed["show of a file"] = (["show", str(self.work / "small.trace")], b"")
         for words in ("show --json", "show --follow", "join --follow", "receipts --json --loose", "audit --json --check", "audit --follow"):
             listed[words] = (words.split(), self.traces["small"])
+        blocks = (TOP / "tests/data/real/girocard.trace").read_bytes()
+        for words in ("receipts", "receipts --text-blocks --codepage 437", "receipts --text-blocks --json"):
+            listed[f"{words} of text blocks"] = (words.split(), blocks)
         listed["help"] = (["--help"], b"")
         listed["a wrong word"] = (["loop", "--port", "1"], b"")
         return listed

@@ -4,7 +4,7 @@ program was looked at.
 
 `events_of` reads the bytes of a trace and gives an object for each thing that `show` says. `text_of` writes such an object as
 `show` does. `safe_of` hides what the safe form hides: `json_of` and `text_of` of it are what `show --json` and `show --safe`
-write. `receipts_of` leaves those of `receipts`. A trace with a line that can't be
+write. `receipts_of` leaves those of `receipts`, and `lines_of_block` gives those of a text block. A trace with a line that can't be
 read ends with `Fault`, after the events of the lines before. With files as arguments the events of each are written as
 JSON, with `--loose` of padded lengths, and with `--resync` after refused messages too.
 """
@@ -370,6 +370,34 @@ def events_of(trace, loose=False, resync=False):
 def receipts_of(events):
     """The events that `receipts` writes."""
     return (event for event in events if event.get("kind") == "PrintLine" and event["from"] == "terminal")
+
+
+TYPES = {"01": "merchant", "02": "customer", "03": "administration"}
+
+
+def type_of_receipt(objects):
+    """The type of the receipt in a container, or None."""
+    found = [one["content"] for one in objects if one["tag"] == "1F07"]
+    return TYPES.get(found[0], f"type {found[0]}") if found and len(found[0]) == 2 else None
+
+
+def block_of(event):
+    """The type of the receipt of a text block, and the bytes of its lines."""
+    containers = [field["objects"] for field in event["fields"] if "objects" in field]
+    types = [name for name in map(type_of_receipt, containers) if name]
+    texts = [one["objects"] for objects in containers for one in objects if one["tag"] == "25"]
+    return types[0] if types else None, [bytes.fromhex(one["content"]) for inner in texts for one in inner if one["tag"] == "07"]
+
+
+def is_block(event):
+    return event.get("kind") == "TextBlock" and event["from"] == "terminal"
+
+
+def lines_of_block(event):
+    """The objects that `receipts --text-blocks --json` writes of a text block."""
+    name, lines = block_of(event)
+    copy = {"copy": name} if name else {}
+    return [{**copy, "from": "terminal", "kind": "TextBlock", "line": event["line"], "text": quoted(line)} for line in lines]
 
 
 # ---- the safe form

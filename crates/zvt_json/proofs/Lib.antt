@@ -3,6 +3,7 @@ pub mod TextLemmas
 pub mod ObjectLemmas
 pub mod MessageLemmas
 pub mod EventLemmas
+pub mod ReceiptLemmas
 pub mod Rows
 pub mod Secrets
 pub mod ReadBack

@@ -10,6 +10,8 @@ mod lines;
 mod messages;
 mod objects;
 mod parts;
+mod receipts;
 mod strings;
 
 pub use lines::event;
+pub use receipts::receipt;

@@ -296,7 +296,7 @@ fn status(buffer: &mut [u8], at: usize, status: Option<u8>) -> Result<usize, Ful
 }
 
 /// Writes a print line.
-fn printed(buffer: &mut [u8], at: usize, line: Option<&[u8]>) -> Result<usize, Full>
+pub(crate) fn printed(buffer: &mut [u8], at: usize, line: Option<&[u8]>) -> Result<usize, Full>
     requires { at ≤ length buffer.old }
     ensures { Puts result at buffer.old buffer.new (ended printed_text (option_copied line.entry)) }
 {

@@ -12,9 +12,9 @@ use Rattle.zvt_show.specs.declared.render.Style.TheVariants.{Join, Json, JsonRec
 abbrev pub mark_of : Style → Option (List ℕ)
 mark_of (Show privacy) = Some []
 mark_of Join = Some (codes "# ")
-mark_of Receipts = None
+mark_of (Receipts options) = None
 mark_of Json = None
-mark_of JsonReceipts = None
+mark_of (JsonReceipts text_blocks) = None
 
 abbrev pub marked : Option (List ℕ) → List ℕ → List ℕ
 marked None text = []
@@ -38,6 +38,6 @@ truncated_text style from have = marked (mark_of style) (direction_text from ++ 
 abbrev pub lost_text : Style → List ℕ
 lost_text (Show privacy) = codes "! line lost" ++ 10 ∷ []
 lost_text Join = codes "!" ++ 10 ∷ []
-lost_text Receipts = []
+lost_text (Receipts options) = []
 lost_text Json = []
-lost_text JsonReceipts = []
+lost_text (JsonReceipts text_blocks) = []

@@ -1,12 +1,14 @@
 -- The text of what a trace emits.
-use Rattle.std.specs.Prelude.{◌≡◌, ℕ, Option, Some, None, List, [], ◌∷◌, ◌++◌}
+use Rattle.std.specs.Prelude.{◌≡◌, ℕ, Bool, true, false, Option, Some, None, List, [], ◌∷◌, ◌++◌, if◌then◌else◌}
 use Rattle.hex.specs.Hex.{encode_upper}
 use Rattle.zvt_grammar.specs.Reading.{shortest}
 use Rattle.zvt_apdu.specs.Grammar.{Spells}
 use Rattle.zvt_apdu.specs.Message.{Message, ack, nack, registration, authorisation, reversal, end_of_day, abort_order, status, intermediate, print_line, text_block, completion, abort, other}
 use Rattle.zvt_apdu.specs.Views.{text_in}
-use Rattle.zvt_text.specs.Bytes.{escaped_text}
+use Rattle.zvt_field.specs.Grammar.{Field}
 use Rattle.zvt_text.specs.MessageTexts.{said}
+use Rattle.zvt_text.specs.Receipts.{block_text, receipt_line}
+use Rattle.zvt_text.specs.TextBlocks.{block_lines, block_type}
 use Rattle.zvt_text.specs.declared.privacy.Privacy.{Privacy}
 use Rattle.zvt_trace.specs.Lines.{direction_text}
 use Rattle.zvt_trace.specs.TraceEvent.{At, TraceEvent}
@@ -14,7 +16,9 @@ use Rattle.zvt_trace.specs.TraceEvent as trace_event
 use Rattle.zvt_trace.specs.declared.direction.Direction.{Direction}
 use Rattle.zvt_trace.specs.declared.direction.Direction.TheVariants.{FromTill, FromTerminal}
 use Rattle.zvt_json.specs.Events.{EventLine}
+use Rattle.zvt_json.specs.Receipts.{receipt_lines}
 use Rattle.zvt_show.specs.Lines.{lost_text, refused_text, resumed_text, stopped_text, truncated_text}
+use Rattle.zvt_show.specs.declared.receipts.ReceiptOptions.{ReceiptOptions}
 use Rattle.zvt_show.specs.declared.render.Style.{Style}
 use Rattle.zvt_show.specs.declared.render.Style.TheVariants.{Join, Json, JsonReceipts, Receipts, Show}
 
@@ -27,32 +31,44 @@ shown privacy from message = direction_text from ++ 32 ∷ said privacy message
 abbrev pub joined : Direction → List ℕ → List ℕ
 joined from bytes = direction_text from ++ 32 ∷ encode_upper bytes ++ 10 ∷ []
 
--- of a print line of the terminal its text alone, of all else nothing
-abbrev pub receipt : Direction → Message → List ℕ
-receipt FromTill message = []
-receipt FromTerminal (ack payload) = []
-receipt FromTerminal (nack code payload) = []
-receipt FromTerminal (registration password config rest) = []
-receipt FromTerminal (authorisation fields) = []
-receipt FromTerminal (reversal password fields) = []
-receipt FromTerminal (end_of_day password fields) = []
-receipt FromTerminal (abort_order fields) = []
-receipt FromTerminal (status fields) = []
-receipt FromTerminal (intermediate step payload) = []
-receipt FromTerminal (print_line attribute text) = escaped_text text ++ 10 ∷ []
-receipt FromTerminal (text_block fields) = []
-receipt FromTerminal (completion fields) = []
-receipt FromTerminal (abort code payload) = []
-receipt FromTerminal (other high low payload) = []
+-- print lines alone, with escapes
+abbrev pub print_lines : ReceiptOptions
+print_lines = record { text_blocks = false; codepage = None }
+
+-- the receipt lines of a message of the terminal; those of a text block only if the options say so
+abbrev pub printed : ReceiptOptions → Message → List ℕ
+printed options (ack payload) = []
+printed options (nack code payload) = []
+printed options (registration password config rest) = []
+printed options (authorisation fields) = []
+printed options (reversal password fields) = []
+printed options (end_of_day password fields) = []
+printed options (abort_order fields) = []
+printed options (status fields) = []
+printed options (intermediate step payload) = []
+printed options (print_line attribute text) = receipt_line options.codepage text
+printed options (text_block fields) = if options.text_blocks then block_text options.codepage fields else []
+printed options (completion fields) = []
+printed options (abort code payload) = []
+printed options (other high low payload) = []
+
+-- the fields of a text block
+abbrev pub block_fields : Message → Option (List Field)
+block_fields (text_block fields) = Some fields
+block_fields _ = None
+
+abbrev pub receipt : ReceiptOptions → Direction → Message → List ℕ
+receipt options FromTill message = []
+receipt options FromTerminal message = printed options message
 
 -- in the styles that write JSON a message has no text but that
 abbrev pub MessageText : Style → Direction → Message → List ℕ → Type 0
 MessageText (Show privacy) from message text = text ≡ shown privacy from message
 MessageText Join from message text =
     (bytes : List ℕ) × Spells shortest message bytes × (text ≡ joined from bytes)
-MessageText Receipts from message text = text ≡ receipt from message
+MessageText (Receipts options) from message text = text ≡ receipt options from message
 MessageText Json from message text = text ≡ []
-MessageText JsonReceipts from message text = text ≡ []
+MessageText (JsonReceipts text_blocks) from message text = text ≡ []
 
 -- ---- all events
 
@@ -74,17 +90,33 @@ printed_in (trace_event.resumed from size) = None
 printed_in (trace_event.cut_off from head have) = None
 printed_in trace_event.lost = None
 
--- of an event with a line that is to be printed its JSON, of all else nothing
-abbrev pub PrintedLine : Option (List ℕ) → At → List ℕ → Type 0
-PrintedLine None event text = text ≡ []
-PrintedLine (Some line) event text = EventLine event text
+-- the fields of a text block of the terminal
+abbrev pub block_in : TraceEvent → Option (List Field)
+block_in (trace_event.message FromTill m) = None
+block_in (trace_event.message FromTerminal m) = block_fields m
+block_in (trace_event.refused from head byte place why) = None
+block_in (trace_event.unread from) = None
+block_in (trace_event.resumed from size) = None
+block_in (trace_event.cut_off from head have) = None
+block_in trace_event.lost = None
+
+-- a line of JSON for each line of a text block, if text blocks are read; nothing for another event
+abbrev pub block_json : (text_blocks : Bool) → (line : ℕ) → Option (List Field) → List ℕ
+block_json true line (Some fields) = receipt_lines (block_type fields) line (block_lines fields)
+block_json true line None = []
+block_json false line fields = []
+
+-- of an event with a line that is to be printed its JSON
+abbrev pub PrintedLine : (text_blocks : Bool) → Option (List ℕ) → At → List ℕ → Type 0
+PrintedLine text_blocks None event text = text ≡ block_json text_blocks event.line (block_in event.trace_event)
+PrintedLine text_blocks (Some line) event text = EventLine event text
 
 abbrev pub EventText : Style → At → List ℕ → Type 0
 EventText (Show privacy) event text = PlainText (Show privacy) event.trace_event text
 EventText Join event text = PlainText Join event.trace_event text
-EventText Receipts event text = PlainText Receipts event.trace_event text
+EventText (Receipts options) event text = PlainText (Receipts options) event.trace_event text
 EventText Json event text = EventLine event text
-EventText JsonReceipts event text = PrintedLine (printed_in event.trace_event) event text
+EventText (JsonReceipts text_blocks) event text = PrintedLine text_blocks (printed_in event.trace_event) event text
 
 abbrev pub EventsText : Style → List At → List ℕ → Type 0
 EventsText style [] text = text ≡ []

@@ -7,10 +7,12 @@
 pub mod diagnostics;
 mod follow;
 mod pages;
+mod receipts;
 mod render;
 mod shown;
 
 pub use follow::{Follower, follow_trace};
 pub use pages::render_trace;
+pub use receipts::ReceiptOptions;
 pub use render::Style;
 pub use shown::{Shown, ShownToEnd};

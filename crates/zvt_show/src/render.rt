@@ -1,5 +1,5 @@
 //! The text of an event.
-ghost use Rattle.std.specs.Prelude.{◌≡◌, ◌++◌, ◌∷◌, [], IfOk, OnErr, OnOk, is_some};
+ghost use Rattle.std.specs.Prelude.{◌≡◌, ◌++◌, ◌∷◌, [], IfOk, OnErr, OnOk};
 ghost use Rattle.zvt_grammar.specs.Lengths.{reading_of};
 ghost use Rattle.zvt_apdu.specs.Grammar.{Spells};
 ghost use Rattle.zvt_text.specs.Writing.{Adds};
@@ -7,10 +7,11 @@ ghost use Rattle.zvt_trace.specs.Lines.{direction_text};
 ghost use Rattle.zvt_trace.specs.TraceEvent.{HasItsBytes, event_of, on};
 ghost use Rattle.zvt_json.specs.Events.{AddsLine};
 ghost use Rattle.zvt_show.specs.Lines.{lost_text, refused_text, resumed_text, stopped_text, truncated_text};
-ghost use Rattle.zvt_show.specs.Text.{joined, printed_in, receipt, shown};
+ghost use Rattle.zvt_show.specs.Text.{joined, shown};
 ghost use Rattle.zvt_show.specs.Written.{AddsEvent, AddsMessage, AddsPlain};
-ghost use Rattle.zvt_show.specs.declared.render.Style.TheVariants.{Join, JsonReceipts};
+ghost use Rattle.zvt_show.specs.declared.render.Style.TheVariants.{Join};
 
+use crate::receipts::{ReceiptOptions, json_receipt, receipt};
 use std::alloc::{AllocError, Global};
 use zvt_apdu::{ApduView, encode, owned};
 use zvt_grammar::{Lengths, Why};
@@ -24,12 +25,15 @@ pub enum Style {
     Show(Privacy),
     /// Each message as a line of a trace, and each event of a side as a comment.
     Join,
-    /// The text of the terminal's print lines, and nothing else.
-    Receipts,
+    /// The lines of the terminal's receipts, and nothing else.
+    Receipts(ReceiptOptions),
     /// Each event as a line of JSON.
     Json,
-    /// The terminal's print lines, each as a line of JSON, and nothing else.
-    JsonReceipts,
+    /// The lines of the terminal's receipts, each as a line of JSON, and nothing else.
+    JsonReceipts {
+        /// Whether the lines of text blocks are written too.
+        text_blocks: bool,
+    },
 }
 
 impl Style {
@@ -43,7 +47,7 @@ impl Style {
         match self {
             Style::Show(_) => Some(""),
             Style::Join => Some("# "),
-            Style::Receipts | Style::Json | Style::JsonReceipts => None,
+            Style::Receipts(_) | Style::Json | Style::JsonReceipts { .. } => None,
         }
     }
 }
@@ -63,8 +67,10 @@ pub(crate) fn render_event(
 {
     match style {
         Style::Json => json(text, alloc, line, trace_event),
-        Style::JsonReceipts => json_receipt(text, alloc, line, trace_event),
-        Style::Show(_) | Style::Join | Style::Receipts => plain(text, alloc, style, trace_event),
+        Style::JsonReceipts { text_blocks } => {
+            json_receipt(text, alloc, text_blocks, line, trace_event)
+        }
+        Style::Show(_) | Style::Join | Style::Receipts(_) => plain(text, alloc, style, trace_event),
     }
 }
 
@@ -81,39 +87,6 @@ fn json(
     ensures keeps { OnErr result (text.new ≡ text.old) }
 {
     zvt_json::event(text, alloc, line, trace_event)
-}
-
-/// Adds a print line of the terminal as a line of JSON. Adds nothing for another event.
-#[inline(never)]
-fn json_receipt(
-    text: &mut Text,
-    alloc: Global,
-    line: u64,
-    trace_event: &TraceEvent<'_>,
-) -> Result<(), AllocError>
-    requires { HasItsBytes trace_event.now }
-    ensures adds { OnOk result (AddsEvent JsonReceipts (on line (event_of trace_event.now)) text.old text.new) }
-    ensures keeps { OnErr result (text.new ≡ text.old) }
-{
-    if is_receipt(trace_event) {
-        json(text, alloc, line, trace_event)
-    } else {
-        Ok(())
-    }
-}
-
-/// Whether an event is a print line of the terminal.
-fn is_receipt(trace_event: &TraceEvent<'_>) -> bool
-    ensures { result ≡ is_some (printed_in (event_of trace_event.now)) }
-{
-    match trace_event {
-        TraceEvent::Message {
-            from: Direction::FromTerminal,
-            apdu,
-            ..
-        } => apdu.text().is_some(),
-        _ => false,
-    }
 }
 
 /// Adds the text of an event in a style that writes no JSON.
@@ -137,8 +110,8 @@ fn plain(
         } => match style {
             Style::Show(privacy) => show(text, privacy, *from, apdu),
             Style::Join => join(text, alloc, *from, apdu, bytes, *lengths),
-            Style::Receipts => receipt(text, *from, apdu),
-            Style::Json | Style::JsonReceipts => Ok(()),
+            Style::Receipts(options) => receipt(text, alloc, options, *from, apdu),
+            Style::Json | Style::JsonReceipts { .. } => Ok(()),
         },
         TraceEvent::Refused { from, refusal } => {
             let Refusal { place, why, .. } = *refusal;
@@ -217,20 +190,6 @@ fn line(text: &mut Text, from: Direction, bytes: &[u8]) -> Result<(), AllocError
     ensures { Adds result text.old text.new (joined from bytes.now) }
 {
     zvt_text::line(text, prefix(from), bytes)
-}
-
-/// Adds the text of a print line of the terminal.
-#[inline(never)]
-fn receipt(text: &mut Text, from: Direction, apdu: &ApduView<'_>) -> Result<(), AllocError>
-    ensures { Adds result text.old text.new (receipt from apdu.now) }
-{
-    if from == Direction::FromTill {
-        return Ok(());
-    }
-    match apdu.text() {
-        Some(line) => zvt_text::escaped_line(text, line),
-        None => Ok(()),
-    }
 }
 
 /// Returns the first words of a line about a side. The line is built apart, so that the text takes it whole or not at
@@ -313,7 +272,7 @@ fn lost(text: &mut Text, style: Style) -> Result<(), AllocError>
     match style {
         Style::Show(_) => text.word(b"! line lost\n"),
         Style::Join => text.word(b"!\n"),
-        Style::Receipts | Style::Json | Style::JsonReceipts => Ok(()),
+        Style::Receipts(_) | Style::Json | Style::JsonReceipts { .. } => Ok(()),
     }
 }
 

@@ -40,11 +40,11 @@ pub low_digit : (byte : ℕ) (text : List ℕ) → text ≡ encode_upper (byte �
 unfolding encode_with
 low_digit byte text e = ap (λ (t : List ℕ). slice_index t 1) e
 
-abbrev all_ascii : List ℕ → Bool
+abbrev pub all_ascii : List ℕ → Bool
 all_ascii [] = true
 all_ascii (x ∷ xs) = nat_lt x 128 && all_ascii xs
 
-ascii_from : (xs : List ℕ) → all_ascii xs ≡ true → IsAscii xs
+pub ascii_from : (xs : List ℕ) → all_ascii xs ≡ true → IsAscii xs
 ascii_from [] all = IsAscii-nil
 ascii_from (x ∷ xs) all =
     let parts = and_parts (nat_lt x 128) (all_ascii xs) all in

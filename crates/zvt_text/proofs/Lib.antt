@@ -7,3 +7,6 @@ pub mod ObjectLines
 pub mod FieldLemmas
 pub mod WordLemmas
 pub mod MeaningLemmas
+pub mod TextBlockLemmas
+pub mod CodepageLemmas
+pub mod ReceiptLaws

@@ -19,7 +19,7 @@ primitive_lines privacy depth (primitive tag content rest) left v e k =
 primitive_lines privacy depth (constructed tag inner rest) left v e k = absurd (cc (k, e.1.0))
 
 -- the children are the objects inside
-children : (v : TlvView) (inner other : Objects) → (k : is_constructed v.tag.now ≡ true) × ((v.inside k).0 ≡ inner) → IsChildren v (Some other) → inner ≡ other
+pub children : (v : TlvView) (inner other : Objects) → (k : is_constructed v.tag.now ≡ true) × ((v.inside k).0 ≡ inner) → IsChildren v (Some other) → inner ≡ other
 children v inner other a b = sym a.1 ∙ ap (λ (k : is_constructed v.tag.now ≡ true). (v.inside k).0) (Bool-set _ _ a.0 b.0) ∙ b.1
 
 pub constructed_lines : (privacy : Privacy) (depth : ℕ) (f left other : Objects) (v : TlvView) → GivesObject f (Some v) left → IsChildren v (Some other) →

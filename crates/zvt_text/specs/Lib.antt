@@ -6,6 +6,9 @@ pub mod Results
 pub mod Secrets
 pub mod Notes
 pub mod Lines
+pub mod TextBlocks
+pub mod Codepages
+pub mod Receipts
 pub mod MessageTexts
 pub mod Writing
 pub mod Laws

@@ -68,7 +68,8 @@ pub fn plain_first(bytes: &[u8]) -> usize
     count
 }
 
-fn escape(buffer: &mut [u8], at: usize, character: u8) -> Result<usize, Full>
+/// One byte, as it is or as an escape.
+pub(crate) fn escape(buffer: &mut [u8], at: usize, character: u8) -> Result<usize, Full>
     requires { at ≤ length buffer.old }
     ensures { Puts result at buffer.old buffer.new (escaped character) }
 {

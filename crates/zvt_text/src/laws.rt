@@ -1,6 +1,7 @@
 //! Laws of the texts, each stated as the contract of an empty function.
 
 ghost use Rattle.zvt_text.specs.Laws.{PasswordsStayHidden, SafeTextsAgree, SecretsStayHidden};
+ghost use Rattle.zvt_text.specs.Receipts.{AsciiStays, TextsAreUtf8};
 
 /// The text does not depend on the password of a message, and shows only the size of a field that the table of BMPs
 /// hides. [`zvt_field::laws::secrets_are_hidden`] lists these fields.
@@ -14,4 +15,10 @@ pub fn secrets_stay_hidden()
 /// depth, and the data of messages outside the payment profile.
 pub fn safe_texts_agree()
     ensures { SafeTextsAgree }
+{}
+
+/// The text of a receipt is UTF-8 in every code page, and a code page does not change the text of ASCII.
+pub fn receipts_are_text()
+    ensures utf8 { TextsAreUtf8 }
+    ensures ascii { AsciiStays }
 {}

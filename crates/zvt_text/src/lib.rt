@@ -2,6 +2,7 @@
 #![tactic(auto)]
 
 mod bytes;
+mod codepages;
 pub mod cursor;
 mod details;
 mod digits;
@@ -13,15 +14,20 @@ mod meanings;
 mod notes;
 mod objects;
 mod privacy;
+mod receipts;
 mod text;
+mod text_blocks;
 mod values;
 pub mod words;
 mod write;
 
 pub use bytes::{is_plain, plain_first};
+pub use codepages::Codepage;
 pub use form::Form;
 pub use heads::kind_name;
 pub use meanings::{card_type_name, command_name, meaning, status_words, tag_name};
 pub use privacy::{Privacy, is_secret_tag};
+pub use receipts::{put_receipt_type, receipt_block, receipt_line};
 pub use text::{Says, Text};
+pub use text_blocks::{ReceiptType, TextBlock, text_block};
 pub use write::{currency_digits, escaped_line, hexadecimal, line, message, numbers, result_words};

@@ -2,13 +2,12 @@
 ghost use Rattle.std.specs.Prelude.{◌≡◌, ◌≤◌, ◌++◌, ◌∷◌, [], length};
 ghost use Rattle.std.specs.Option.{option_copied};
 ghost use Rattle.hex.specs.Hex.{encode_upper};
-ghost use Rattle.zvt_text.specs.Bytes.{escaped_text};
 ghost use Rattle.zvt_text.specs.Numbers.{numbers_text, trace_text};
 ghost use Rattle.zvt_text.specs.Results.{result_words, with_meaning};
 ghost use Rattle.zvt_text.specs.MessageTexts.{four_digits, said};
 ghost use Rattle.zvt_text.specs.Writing.{Adds, Puts};
 
-use crate::bytes::{bytes_or_dash, escape_all};
+use crate::bytes::bytes_or_dash;
 use crate::cursor::{self, Full, byte, fixed, push, repeat, word};
 use crate::heads::head;
 use crate::lines::field_lines;
@@ -62,14 +61,6 @@ pub fn currency_digits(text: &mut Text, currency: Currency) -> Result<(), AllocE
     ensures { Adds result text.old text.new (four_digits currency) }
 {
     text.add(&FourDigits(currency))
-}
-
-/// Writes bytes and the end of the line. Printable ASCII (20 to 7E) stays as it is, except the quotation mark and the
-/// backslash; every other byte becomes `\x` and two hexadecimal digits.
-pub fn escaped_line(text: &mut Text, bytes: &[u8]) -> Result<(), AllocError>
-    ensures { Adds result text.old text.new (escaped_text bytes.now ++ 10 ∷ []) }
-{
-    text.add(&Escaped(bytes))
 }
 
 /// Writes bytes in hexadecimal.
@@ -215,19 +206,6 @@ impl Says for FourDigits {
 
     fn put(&self, buffer: &mut [u8]) -> Result<usize, Full> {
         cursor::four_digits(buffer, 0, self.0.get())
-    }
-}
-
-/// A line of bytes with escapes.
-#[derive(Drop)]
-struct Escaped<'a>(&'a [u8]);
-
-impl Says for Escaped<'_> {
-    ghost said = { λ e. escaped_text e.0.now ++ 10 ∷ [] };
-
-    fn put(&self, buffer: &mut [u8]) -> Result<usize, Full> {
-        let at = escape_all(buffer, 0, self.0)?;
-        push(buffer, at, b'\n')
     }
 }
 

@@ -11,7 +11,7 @@ use Rattle.zvt_tool.specs.PlayOptions.{AreCheckOptionsOf, ArePlayOptionsOf}
 use Rattle.zvt_tool.specs.TapOptions.{AreTapOptionsOf}
 use Rattle.zvt_tool.specs.TerminalOptions.{AreTerminalOptionsOf}
 use Rattle.zvt_tool.specs.TillOptions.{AreTillOptionsOf}
-use Rattle.zvt_tool.specs.TraceCommands.{IsAudit, IsRendering, IsShow, IsTraceCommandOf, IsVectors}
+use Rattle.zvt_tool.specs.TraceCommands.{IsAudit, IsReceipts, IsShow, IsTraceCommandOf, IsVectors}
 use Rattle.zvt_tool.specs.declared.choices.Choice.{Choice}
 use Rattle.zvt_tool.specs.declared.choices.Choice.TheVariants.{Audit, Book, CheckTerminal, CheckTill, Join, Loop, Normalise, Play, Receipts, Show, Tap, Terminal, Till, Vectors}
 use Rattle.zvt_tool.specs.declared.choices.ChoiceFault.{ChoiceFault}
@@ -32,7 +32,7 @@ IsCommandOf name rows (Show command) = (name ≡ codes "show") × IsShow rows co
 IsCommandOf name rows (Join command) = (name ≡ codes "join") × IsTraceCommandOf rows (Render style.Join) Shortest command
 IsCommandOf name rows (Normalise command) = (name ≡ codes "normalise") × IsTraceCommandOf rows (Render style.Join) Padded command
 IsCommandOf name rows (Audit command) = (name ≡ codes "audit") × IsAudit rows command
-IsCommandOf name rows (Receipts command) = (name ≡ codes "receipts") × IsRendering rows style.Receipts style.JsonReceipts command
+IsCommandOf name rows (Receipts command) = (name ≡ codes "receipts") × IsReceipts rows command
 IsCommandOf name rows (Vectors command) = (name ≡ codes "vectors") × IsVectors rows command
 IsCommandOf name rows (Book files json records) =
     (name ≡ codes "book") × (map (λ file. file.now) files.items ≡ words_of (codes "file") rows)

@@ -1,15 +1,20 @@
 -- The commands on traces.
-use Rattle.std.specs.Prelude.{◌≡◌, ◌∷◌, [], ◌||◌, Bool, true, false, List, codes, map}
-use Rattle.clap.specs.Words.{App, Row, Rule}
+use Rattle.std.specs.Prelude.{◌≡◌, ◌∷◌, [], ◌||◌, Bool, cond, true, false, List, Option, Some, None, codes, map}
+use Rattle.std.specs.Option.{option_and_then}
+use Rattle.std.specs.Str.{bytes_eq}
+use Rattle.clap.specs.Words.{App, Row, Rule, Text, first_of}
 use Rattle.zvt_grammar.specs.declared.lengths.Lengths.{Lengths}
 use Rattle.zvt_grammar.specs.declared.lengths.Lengths.TheVariants.{Shortest}
+use Rattle.zvt_show.specs.declared.receipts.ReceiptOptions.{ReceiptOptions}
 use Rattle.zvt_show.specs.declared.render.Style.{Style}
 use Rattle.zvt_show.specs.declared.render.Style.TheVariants.{Show, Join, Receipts, Json, JsonReceipts}
+use Rattle.zvt_text.specs.declared.codepages.Codepage.{Codepage}
+use Rattle.zvt_text.specs.declared.codepages.Codepage.TheVariants.{Cp437, Cp850, Latin1, Utf8}
 use Rattle.zvt_text.specs.declared.form.Form.TheVariants as form
 use Rattle.zvt_trace.specs.declared.listener.Scope.{Scope}
 use Rattle.zvt_audit.specs.Line.{books_scope, line_scope}
-use Rattle.zvt_tool.specs.Given.{IsByFlag, IsFlagOf, words_of}
-use Rattle.zvt_tool.specs.Options.{command_app, flag_rule, form_by, lengths_by, privacy_by, several_rule}
+use Rattle.zvt_tool.specs.Given.{IsByFlag, IsFlagOf, IsTextOf, words_of}
+use Rattle.zvt_tool.specs.Options.{command_app, flag_rule, form_by, lengths_by, option_rule, privacy_by, several_rule}
 use Rattle.zvt_tool.specs.declared.trace_command.TraceCommand.{TraceCommand}
 use Rattle.zvt_tool.specs.declared.trace_command.TraceWork.{TraceWork}
 use Rattle.zvt_tool.specs.declared.trace_command.TraceWork.TheVariants.{Render, Audit, Vectors}
@@ -22,9 +27,9 @@ style_by plain objects true = objects
 abbrev pub is_json : TraceWork → Bool
 is_json (Render (Show privacy)) = false
 is_json (Render Join) = false
-is_json (Render Receipts) = false
+is_json (Render (Receipts options)) = false
 is_json (Render Json) = true
-is_json (Render JsonReceipts) = true
+is_json (Render (JsonReceipts text_blocks)) = true
 is_json (Audit form.Text) = false
 is_json (Audit form.Json) = true
 is_json (Vectors form.Text) = false
@@ -77,6 +82,8 @@ receipts_app = command_app (codes "receipts") (
     flag_rule (codes "json") ∷
     flag_rule (codes "follow") ∷
     flag_rule (codes "open") ∷
+    flag_rule (codes "text-blocks") ∷
+    option_rule (codes "codepage") ∷
     [])
 
 abbrev pub vectors_app : App
@@ -92,6 +99,7 @@ pub record IsTraceCommandOf (rows : List Row) (writes : TraceWork) (reads : Leng
   pub check : IsFlagOf (codes "check") rows command.check
   pub follow : IsFlagOf (codes "follow") rows command.follow
   pub reads_on : IsByFlag (codes "open") rows (λ by_name. IsByFlag (codes "resync") rows (λ by_other. command.reads_on ≡ (by_name || by_other)))
+  pub codepage : IsTextOf (codes "codepage") rows command.codepage
 
 -- the lengths and the form, by `--loose` and `--json`
 abbrev pub IsByForm : List Row → (Bool → TraceWork) → TraceCommand → Type 0
@@ -104,6 +112,24 @@ IsRendering rows plain objects = IsByForm rows (λ json. Render (style_by plain 
 -- the text, its safe form or either with the words of codes, or the JSON objects
 abbrev pub IsShow : List Row → TraceCommand → Type 0
 IsShow rows command = IsByFlag (codes "safe") rows (λ safe. IsByFlag (codes "explain") rows (λ explain. IsRendering rows (Show (privacy_by safe explain)) Json command))
+
+abbrev pub codepage_named : Text → Option Codepage
+codepage_named name =
+    cond (bytes_eq name (codes "437")) (Some Cp437)
+    (cond (bytes_eq name (codes "850")) (Some Cp850) (cond (bytes_eq name (codes "iso-8859-1")) (Some Latin1) (cond (bytes_eq name (codes "utf-8")) (Some Utf8) None)))
+
+-- the code page of a name, if there is a name and it is known
+abbrev pub codepage_by : Option Text → Option Codepage
+codepage_by = option_and_then codepage_named
+
+abbrev pub receipt_options : (text_blocks : Bool) → Option Codepage → ReceiptOptions
+receipt_options text_blocks codepage = record { text_blocks = text_blocks; codepage = codepage }
+
+-- the lines of receipts, those of text blocks too if that flag is set, in the named code page
+abbrev pub IsReceipts : List Row → TraceCommand → Type 0
+IsReceipts rows command =
+    IsByFlag (codes "text-blocks") rows
+    (λ text_blocks. IsRendering rows (Receipts (receipt_options text_blocks (codepage_by (first_of (codes "codepage") rows)))) (JsonReceipts text_blocks) command)
 
 abbrev pub IsAudit : List Row → TraceCommand → Type 0
 IsAudit rows = IsByForm rows (λ json. Audit (form_by json))

@@ -66,6 +66,13 @@ pub const JSON: &str = "Print one JSON object per line";
 
 pub const FOLLOW: &str = "Read FILE as it grows, of any size, and print each line's text at once";
 
+pub const TEXT_BLOCKS: &str =
+    "Also print the lines of text blocks (06 D3), after a line that says whose copy of the receipt it is";
+
+pub const CODEPAGE: &str =
+    "Decode the lines from this code page to UTF-8: 437, 850, iso-8859-1 or utf-8. Without it, bytes that are not \
+        ASCII are printed as \\xHH. Not with --json";
+
 pub const CHECK_STEPS: &str =
     "Exit with 1 if a step does not succeed: not sent, declined, refused, aborted or unclear. The total is printed \
         all the same.";

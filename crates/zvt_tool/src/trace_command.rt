@@ -1,8 +1,9 @@
 //! The commands on traces, and on vectors.
-ghost use Rattle.std.specs.Prelude.{◌≡◌, IfOk, []};
+ghost use Rattle.std.specs.Prelude.{◌≡◌, IfOk, [], option_map};
 ghost use Rattle.clap.specs.Words.{found_of, rows_of};
 ghost use Rattle.zvt_tool.specs.Options.{app_for, form_by, lengths_by};
-ghost use Rattle.zvt_tool.specs.TraceCommands.{IsAudit, IsRendering, IsShow, IsTraceCommandOf, IsVectors, audit_app};
+ghost use Rattle.zvt_tool.specs.TraceCommands.{IsAudit, IsReceipts, IsRendering, IsShow, IsTraceCommandOf, IsVectors};
+ghost use Rattle.zvt_tool.specs.TraceCommands.{audit_app, codepage_by, codepage_named};
 ghost use Rattle.zvt_tool.specs.TraceCommands.{is_json, join_app, normalise_app, receipts_app, show_app, style_by};
 ghost use Rattle.zvt_tool.specs.TraceCommands.{vectors_app, work_scope};
 ghost use Rattle.zvt_tool.specs.declared.trace_command.TraceWork.TheVariants.{Render};
@@ -10,14 +11,14 @@ ghost use Rattle.zvt_show.specs.declared.render.Style.TheVariants.{Show};
 ghost use Rattle.zvt_text.specs.declared.privacy.Privacy.TheVariants.{Plain};
 ghost use Rattle.zvt_grammar.specs.declared.lengths.Lengths.TheVariants.{Shortest};
 
-use crate::given::{flag, words};
+use crate::given::{flag, text, words};
 use crate::help;
 use crate::options::{CommandOption, CommandRow, form_by, lengths_by, privacy_by};
 use clap::ArgMatches;
 use std::alloc::{AllocError, Global};
 use zvt_grammar::Lengths;
-use zvt_show::Style;
-use zvt_text::{Form, Privacy};
+use zvt_show::{ReceiptOptions, Style};
+use zvt_text::{Codepage, Form, Privacy};
 use zvt_trace::Scope;
 
 /// The output of a command on traces or on vectors.
@@ -45,6 +46,8 @@ pub struct TraceCommand<'a> {
     pub follow: bool,
     /// Whether a side is read on after a refused message. `--resync` is another name for `--open`.
     pub reads_on: bool,
+    /// The code page of receipts, as it was given. One that [`codepage_named`] does not know decodes nothing.
+    pub codepage: Option<&'a str>,
 }
 
 impl<'a> TraceCommand<'a> {
@@ -59,6 +62,7 @@ impl<'a> TraceCommand<'a> {
             check: false,
             follow: false,
             reads_on: false,
+            codepage: None,
         }
     }
 
@@ -80,7 +84,7 @@ impl<'a> TraceCommand<'a> {
     {
         matches!(
             self.work,
-            TraceWork::Render(Style::Json | Style::JsonReceipts)
+            TraceWork::Render(Style::Json | Style::JsonReceipts { .. })
                 | TraceWork::Audit(Form::Json)
                 | TraceWork::Vectors(Form::Json)
         )
@@ -179,13 +183,15 @@ pub fn receipts_row() -> CommandRow<'static>
         name: "receipts",
         about: "Print the receipt lines that the terminal sent",
         more: "Example:
-  zvt receipts payment.trace",
+  zvt receipts --text-blocks --codepage 437 payment.trace",
         options: &[
             CommandOption::Several("file", "FILE", help::FILES),
             CommandOption::Flag("loose", help::LOOSE),
             CommandOption::Flag("json", help::JSON),
             CommandOption::Flag("follow", help::FOLLOW),
             CommandOption::Flag("open", help::OPEN),
+            CommandOption::Flag("text-blocks", help::TEXT_BLOCKS),
+            CommandOption::Value("codepage", "PAGE", help::CODEPAGE),
         ],
     }
 }
@@ -258,9 +264,40 @@ pub fn read_receipts<'a>(
     alloc: Global,
     inner: &ArgMatches<'a>,
 ) -> Result<TraceCommand<'a>, AllocError>
-    ensures { IfOk result (IsRendering (rows_of (found_of inner.now)) Style.Receipts Style.JsonReceipts) }
+    ensures { IfOk result (IsReceipts (rows_of (found_of inner.now))) }
 {
-    rendering(alloc, inner, Style::Receipts, Style::JsonReceipts)
+    let text_blocks = flag(inner, "text-blocks");
+    let codepage = codepage_by(text(inner, "codepage"));
+    let options = ReceiptOptions {
+        text_blocks,
+        codepage,
+    };
+    rendering(
+        alloc,
+        inner,
+        Style::Receipts(options),
+        Style::JsonReceipts { text_blocks },
+    )
+}
+
+/// Returns the code page that an option names, if it is given and known.
+fn codepage_by(name: Option<&str>) -> Option<Codepage>
+    ensures { result ≡ codepage_by (option_map (λ name. name.now) name.entry) }
+{
+    codepage_named(name?)
+}
+
+/// Returns the code page with this name.
+pub fn codepage_named(name: &str) -> Option<Codepage>
+    ensures { result ≡ codepage_named name.now }
+{
+    match name {
+        "437" => Some(Codepage::Cp437),
+        "850" => Some(Codepage::Cp850),
+        "iso-8859-1" => Some(Codepage::Latin1),
+        "utf-8" => Some(Codepage::Utf8),
+        _ => None,
+    }
 }
 
 /// Returns the choice from the arguments of `vectors`.
@@ -312,5 +349,6 @@ fn on_traces<'a>(
         check: flag(inner, "check"),
         follow: flag(inner, "follow"),
         reads_on: open || resync,
+        codepage: text(inner, "codepage"),
     })
 }

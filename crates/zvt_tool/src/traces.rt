@@ -4,6 +4,7 @@ ghost use Rattle.std.specs.Io.KnownBytes.{Consumes};
 ghost use Rattle.zvt_grammar.specs.Lengths.{reading_of};
 ghost use Rattle.zvt_grammar.specs.Reading.{padded, shortest};
 ghost use Rattle.zvt_audit.specs.Audited.{AnswersAuditBy};
+ghost use Rattle.zvt_show.specs.Text.{print_lines};
 ghost use Rattle.zvt_show.specs.Written.{AnswersTraceBy};
 ghost use Rattle.zvt_tool.specs.Faults.{Audits, Checks, Renders};
 ghost use Rattle.zvt_trace.specs.Written.{limit};
@@ -15,7 +16,7 @@ use std::alloc::Global;
 use zvt_audit::audit_trace;
 use zvt_grammar::Lengths;
 use zvt_io::{Sink, Source};
-use zvt_show::{Style, render_trace};
+use zvt_show::{ReceiptOptions, Style, render_trace};
 use zvt_text::{Form, Privacy};
 use zvt_trace::{Scope, Tally, TraceFault, read_trace};
 
@@ -67,12 +68,13 @@ pub fn receipts<R: Source, W: Sink>(
 ) -> Result<Tally, ToolFault>
     ensures taken { (taken : List ℕ) × (length taken ≤ limit + 1) × Consumes (R.remaining reader.old)
         (R.remaining reader.new) taken }
-    ensures writes { IfSome (R.remaining reader.old) (λ trace. Renders shortest Receipts trace (W.written writer.old)
-        (W.written writer.new) result) }
+    ensures writes { IfSome (R.remaining reader.old) (λ trace. Renders shortest (Receipts print_lines) trace
+        (W.written writer.old) (W.written writer.new) result) }
     ensures read { result ≡ Err ToolFault.Read → R.failures reader.old < R.failures reader.new }
     ensures write { result ≡ Err ToolFault.Write → W.failures writer.old < W.failures writer.new }
 {
-    read_and_render(alloc, Style::Receipts, Lengths::Shortest, reader, writer)
+    let style = Style::Receipts(ReceiptOptions::print_lines());
+    read_and_render(alloc, style, Lengths::Shortest, reader, writer)
 }
 
 /// Writes the same output as [`show`], but accepts lengths in any form.
@@ -122,12 +124,13 @@ pub fn receipts_loose<R: Source, W: Sink>(
 ) -> Result<Tally, ToolFault>
     ensures taken { (taken : List ℕ) × (length taken ≤ limit + 1) × Consumes (R.remaining reader.old)
         (R.remaining reader.new) taken }
-    ensures writes { IfSome (R.remaining reader.old) (λ trace. Renders padded Receipts trace (W.written writer.old)
-        (W.written writer.new) result) }
+    ensures writes { IfSome (R.remaining reader.old) (λ trace. Renders padded (Receipts print_lines) trace
+        (W.written writer.old) (W.written writer.new) result) }
     ensures read { result ≡ Err ToolFault.Read → R.failures reader.old < R.failures reader.new }
     ensures write { result ≡ Err ToolFault.Write → W.failures writer.old < W.failures writer.new }
 {
-    read_and_render(alloc, Style::Receipts, Lengths::Padded, reader, writer)
+    let style = Style::Receipts(ReceiptOptions::print_lines());
+    read_and_render(alloc, style, Lengths::Padded, reader, writer)
 }
 
 /// Writes the books of the trace, like [`audit_trace`].
