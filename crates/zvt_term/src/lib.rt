@@ -3,17 +3,23 @@
 
 mod answers;
 pub mod asked;
+mod extended;
+pub mod extras;
 pub mod laws;
 mod ledger;
 mod messages;
+mod refunds;
 mod served;
 mod terminal;
 mod turns;
 mod world;
 mod writer;
 
+pub use extended::Extended;
+pub use extras::{Extra, Extras};
 pub use ledger::Row;
 pub use messages::{Asked, Line, Report, Response};
+pub use refunds::Refunded;
 pub use served::Served;
 pub use terminal::{Input, MAX_LEDGER_ROWS, Terminal};
 pub use turns::{Phase, Verdict};

@@ -100,6 +100,13 @@ impl Terminal {
         self.ledger.as_slice()
     }
 
+    /// Returns the currency that the terminal keeps.
+    pub(crate) fn currency(&self) -> Option<Currency>
+        ensures { result ≡ self.now.currency }
+    {
+        self.currency
+    }
+
     /// Returns whether no order is running.
     fn is_idle(&self) -> bool
         ensures { result ≡ is_idle self.now.phase }
@@ -108,7 +115,7 @@ impl Terminal {
     }
 
     /// Returns whether the terminal accepts orders that need a registration.
-    fn is_ready(&self) -> bool
+    pub(crate) fn is_ready(&self) -> bool
         ensures { result ≡ is_ready self.now }
     {
         self.registered && self.is_idle()
@@ -128,14 +135,14 @@ impl Terminal {
     }
 
     /// Rejects the message.
-    fn refuses(&self, code: u8) -> Turn
+    pub(crate) fn refuses(&self, code: u8) -> Turn
         ensures { result ≡ refuses self.now code }
     {
         self.stays(Response::One(Report::Nack(code)))
     }
 
     /// Accepts the order, with a first report.
-    fn runs(&self, phase: Phase, report: Report) -> Turn
+    pub(crate) fn runs(&self, phase: Phase, report: Report) -> Turn
         ensures { result ≡ runs self.now phase report }
     {
         Turn {
@@ -161,7 +168,7 @@ impl Terminal {
     }
 
     /// Accepts the order and aborts it.
-    fn aborts(&self, code: u8) -> Turn
+    pub(crate) fn aborts(&self, code: u8) -> Turn
         ensures { result ≡ aborts self.now code }
     {
         self.runs(Phase::Ending, Report::Aborted(code))
