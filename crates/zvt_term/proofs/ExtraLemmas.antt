@@ -1,19 +1,24 @@
 -- The turns of orders beyond the profile add no row, and their reports can be written.
-use Rattle.std.proofs.Common.{◌≡◌, ℕ, zero, suc, ◌+◌, ◌-◌, ◌==◌, ◌<◌, ◌≤◌, Bool, true, false, cond, nat_le, nat_lt, List, [], ◌∷◌, ◌++◌, length, Option, Some, None, option_and_then, option_to_list, slice_get, refl, sym, subst, ap, ◌∙◌, arith, append-nil}
+use Rattle.std.proofs.Common.{◌≡◌, ℕ, zero, suc, ◌-◌, ◌==◌, ◌≤◌, Bool, true, false, cond, nat_le, List, [], ◌∷◌, ◌++◌, length, Option, Some, None, option_and_then, option_to_list, IfSome, slice_get, refl, sym, subst, ap, ◌∙◌, arith, append-nil}
 use Rattle.std.proofs.lemmas.Bool.{leb-true}
+use Rattle.zvt_term.specs.declared.messages.Asked.{Asked}
+use Rattle.zvt_term.specs.declared.messages.Asked.TheVariants.{Registration, Authorisation, Reversal, EndOfDay, AbortOrder, Answer, Unknown}
 use Rattle.zvt_term.specs.declared.messages.Report.{Report}
 use Rattle.zvt_term.specs.declared.messages.Report.TheVariants.{Approved, TakenBack, Done}
 use Rattle.zvt_term.specs.declared.ledger.Row.{Row}
-use Rattle.zvt_term.specs.declared.turns.Phase.TheVariants.{Completing, Ending}
+use Rattle.zvt_term.specs.declared.turns.Phase.TheVariants.{Ending}
 use Rattle.zvt_term.specs.declared.turns.Turn.{Turn}
+use Rattle.zvt_term.specs.declared.turns.Verdict.{Verdict}
+use Rattle.zvt_term.specs.declared.extras.Receipts.{Receipts}
 use Rattle.zvt_term.specs.declared.extras.Extra.{Extra}
 use Rattle.zvt_term.specs.declared.extras.Extra.TheVariants.{Service, LogOff, RepeatReceipt, Refund}
 use Rattle.zvt_term.specs.declared.refunds.Refunded.{Refunded}
-use Rattle.zvt_term.specs.Extended.{extra_turn, last_report, logs_off, new_refund, pays_back, repeats, report_of_refund, report_of_row}
+use Rattle.zvt_term.specs.Extended.{extra_turn, last_report, logs_off, new_refund, next_phase, pays_back, profile_turn, repeats, report_of_refund, report_of_row}
+use Rattle.zvt_term.specs.Ledger.{NumberedFrom}
 use Rattle.zvt_term.specs.Reports.{IsWritable}
 use Rattle.zvt_term.specs.Steps.{AreWritable, IsNext}
 use Rattle.zvt_term.specs.Terminal.{TerminalState, most_rows, is_ready, runs, when, after, reports_of}
-use Rattle.zvt_term.proofs.TurnLemmas.{AllShort, Short}
+use Rattle.zvt_term.proofs.TurnLemmas.{AllShort, Short, Sound, goes_on-sound, numbered-short, turn-sound}
 
 -- ---- no row
 
@@ -45,8 +50,7 @@ same_ledger s last extra = ap (λ (row : Option Row). s.ledger ++ option_to_list
 -- ---- reports
 
 abbrev pub AllWritable : Option Report → Type 0
-AllWritable None = Unit {0}
-AllWritable (Some report) = IsWritable report
+AllWritable o = IfSome o (λ report. IsWritable report)
 
 row_writable : (row : Row) → row.number ≤ 9999 → AllWritable (report_of_row row)
 row_writable row few = by_original row.reverses
@@ -65,10 +69,17 @@ get_writable [] k h = tt
 get_writable (row ∷ rows) zero h = row_writable row h.0
 get_writable (row ∷ rows) (suc k) h = get_writable rows k h.1
 
+pub last_row_writable : (rows : List Row) (row : Row) → AllShort rows → Some row ≡ slice_get rows (length rows - 1) → AllWritable (report_of_row row)
+last_row_writable rows row h e = subst (λ (o : Option Row). AllWritable (option_and_then report_of_row o)) (sym e) (get_writable rows (length rows - 1) h)
+
+pub all_short : (rows : List Row) → NumberedFrom 1 rows → length rows ≤ 9999 → AllShort rows
+all_short rows numbered few =
+    numbered-short 1 rows [] (subst (λ (l : List Row). NumberedFrom 1 l) (sym (append-nil rows)) numbered) (omega (arith, few, ap length (append-nil rows)))
+
 refund_writable : (refund : Refunded) → IsWritable (report_of_refund refund)
 refund_writable refund = omega arith
 
-last_writable : (rows : List Row) (last : Option Refunded) → AllShort rows → AllWritable (last_report rows last)
+pub last_writable : (rows : List Row) (last : Option Refunded) → AllShort rows → AllWritable (last_report rows last)
 last_writable rows None h = get_writable rows (length rows - 1) h
 last_writable rows (Some refund) h = by_test (refund.rows == length rows)
   where
@@ -94,3 +105,14 @@ extra_writable s last LogOff k = when_writable s (is_ready s) logs_off (tt, tt)
 extra_writable s last RepeatReceipt k =
     when_writable s (is_ready s) (repeats s (last_report s.ledger last)) (repeats_writable s (last_report s.ledger last) (last_writable s.ledger last k.rows))
 extra_writable s last (Refund amount) k = when_writable s (is_ready s) (pays_back s (new_refund s last amount)) (pays_back_writable s (new_refund s last amount))
+
+-- ---- messages of the profile
+
+pub profile_sound : (receipts : Receipts) (s : TerminalState) (asked : Asked) (v : Verdict) → Sound s (profile_turn receipts s asked v)
+profile_sound receipts s (Registration currency) v = turn-sound s (Registration currency) v
+profile_sound receipts s (Authorisation amount named) v = turn-sound s (Authorisation amount named) v
+profile_sound receipts s (Reversal receipt) v = turn-sound s (Reversal receipt) v
+profile_sound receipts s EndOfDay v = turn-sound s EndOfDay v
+profile_sound receipts s AbortOrder v = turn-sound s AbortOrder v
+profile_sound receipts s Answer v = goes_on-sound s (next_phase receipts s.phase)
+profile_sound receipts s Unknown v = turn-sound s Unknown v

@@ -15,6 +15,7 @@ pub mod Returning
 pub mod Reverting
 pub mod Returned
 pub mod AmountLemmas
+pub mod DressingLemmas
 pub mod ExtraLemmas
 pub mod ExtraLaws
 mod Rows

@@ -1,5 +1,5 @@
 -- The orders beyond the profile.
-use Rattle.std.specs.Prelude.{◌≡◌, ℕ, ◌==◌, ◌&&◌, Bool, false, cond, nat_lt, List, [], ◌∷◌, length, take, drop, get_or, Option, Some, None, refl}
+use Rattle.std.specs.Prelude.{◌≡◌, ℕ, ◌==◌, ◌&&◌, false, cond, nat_lt, List, [], ◌∷◌, length, take, drop, get_or, Option, Some, None, refl}
 use Rattle.std.specs.List.{list_all}
 use Rattle.zvt_bcd.specs.Digits.{is_digit_pair, number_of}
 use Rattle.zvt_field.specs.Named.{positive}
@@ -7,9 +7,10 @@ use Rattle.zvt_apdu.specs.Message.{Message, ack, nack, registration, authorisati
 use Rattle.zvt_term.specs.declared.extras.Extra.{Extra}
 use Rattle.zvt_term.specs.declared.extras.Extra.TheVariants.{Service, LogOff, RepeatReceipt, Refund}
 use Rattle.zvt_term.specs.declared.extras.Extras.{Extras}
+use Rattle.zvt_term.specs.declared.extras.Receipts.TheVariants.{Lines}
 
 abbrev pub no_extras : Extras
-no_extras = record { extended = false }
+no_extras = record { extended = false; card = None; receipts = Lines; intermediate = false }
 
 -- digits of an amount that is not zero
 abbrev pub amount_in : List ℕ → Option ℕ

@@ -6,6 +6,7 @@ pub mod Reports
 pub mod Steps
 pub mod Served
 pub mod Extras
+pub mod Dressing
 pub mod Extended
 pub mod World
 pub mod Simulation

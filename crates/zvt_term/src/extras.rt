@@ -2,6 +2,7 @@
 ghost use Rattle.std.specs.Prelude.{◌≡◌, length};
 ghost use Rattle.zvt_term.specs.Extras.{amount_in, extra_at, extra_of, no_extras, refund_amount};
 
+use crate::cards::Card;
 use zvt_apdu::{ApduView, Kind};
 use zvt_bcd::{Amount, is_digits, number};
 use zvt_field::bmp::AMOUNT;
@@ -30,6 +31,23 @@ const SELECT_LANGUAGE: [u8; 2] = [0x08, 0x30];
 pub struct Extras {
     /// Whether it also accepts the orders of [`Extra`].
     pub extended: bool,
+    /// The card whose fields are in the status of each approval, refund and reversal, if there is one.
+    pub card: Option<Card>,
+    /// The form of its receipts.
+    pub receipts: Receipts,
+    /// Whether it sends an intermediate status, and waits for the reply, before the first status of an order.
+    pub intermediate: bool,
+}
+
+/// The form of receipts.
+#[derive(Clone, Copy)]
+pub enum Receipts {
+    /// Print lines (06 D1).
+    Lines,
+    /// Text blocks (06 D3), each with one line.
+    Blocks,
+    /// No receipts.
+    Nothing,
 }
 
 impl Extras {
@@ -37,7 +55,12 @@ impl Extras {
     pub fn none() -> Extras
         ensures { result ≡ no_extras }
     {
-        Extras { extended: false }
+        Extras {
+            extended: false,
+            card: None,
+            receipts: Receipts::Lines,
+            intermediate: false,
+        }
     }
 }
 

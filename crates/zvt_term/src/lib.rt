@@ -3,6 +3,9 @@
 
 mod answers;
 pub mod asked;
+mod cards;
+mod codes;
+mod dressing;
 mod extended;
 pub mod extras;
 pub mod laws;
@@ -15,8 +18,9 @@ mod turns;
 mod world;
 mod writer;
 
+pub use cards::Card;
 pub use extended::Extended;
-pub use extras::{Extra, Extras};
+pub use extras::{Extra, Extras, Receipts};
 pub use ledger::Row;
 pub use messages::{Asked, Line, Report, Response};
 pub use refunds::Refunded;
