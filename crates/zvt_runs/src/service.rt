@@ -5,7 +5,7 @@ ghost use Rattle.zvt_runs.specs.Service.{Serves};
 use std::alloc::Global;
 use zvt_io::{Sink, Source};
 use zvt_stream::{Endpoint, LineFault, Until, pump};
-use zvt_term::Served;
+use zvt_term::Extended;
 
 /// The number of reads before a terminal gives up its connection.
 const READS_OF_A_SERVICE: u64 = 1_000_000;
@@ -16,7 +16,7 @@ const READS_OF_A_SERVICE: u64 = 1_000_000;
 pub fn serve<R: Source, W: Sink>(
     alloc: Global,
     end: &mut Endpoint<R, W>,
-    served: &mut Served,
+    served: &mut Extended,
 ) -> Result<(), LineFault>
     ensures { Serves
         (end_state end.old.stream (R.remaining end.old.reader) (W.written end.old.writer) (R.reads end.old.reader)

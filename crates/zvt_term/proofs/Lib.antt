@@ -14,4 +14,8 @@ pub mod Accounting
 pub mod Returning
 pub mod Reverting
 pub mod Returned
+pub mod AmountLemmas
+pub mod DressingLemmas
+pub mod ExtraLemmas
+pub mod ExtraLaws
 mod Rows

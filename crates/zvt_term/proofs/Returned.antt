@@ -17,7 +17,7 @@ use Rattle.zvt_term.specs.declared.turns.Verdict.{Verdict}
 use Rattle.zvt_term.specs.declared.turns.Phase.{Phase}
 use Rattle.zvt_term.specs.declared.world.Move.{Move}
 use Rattle.zvt_term.specs.declared.world.Move.TheVariants.{Connect, Order as Ordered, ToTerminal, ToTill, TillLost, TerminalLost}
-use Rattle.zvt_term.specs.Orderly.{Line, no_line, is_orderly, line_after, are_orderly, are_orderly_with}
+use Rattle.zvt_term.specs.Orderly.{Line, no_line, is_orderly, line_after, are_orderly}
 use Rattle.zvt_term.specs.Returned.{Reverses, KeepsReversals, OrderlyWorldsKeepReversals}
 use Rattle.zvt_term.specs.Terminal.{turn_of, reports_of}
 use Rattle.zvt_term.specs.World.{Ends, ends_with, world, world_with, FitMoves, HasCurrency, AllMatch}

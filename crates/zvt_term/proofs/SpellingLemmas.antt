@@ -53,7 +53,7 @@ digits_field bmp k n shape small =
       is_content = are-digits k n small;
     }
 
-fixed_field : (bmp k : ℕ) (content : List ℕ) → shape_of bmp ≡ Some (Fixed k) → length content ≡ k → AreBytes content → FieldOf shortest (plain bmp content) (bmp ∷ content)
+pub fixed_field : (bmp k : ℕ) (content : List ℕ) → shape_of bmp ≡ Some (Fixed k) → length content ≡ k → AreBytes content → FieldOf shortest (plain bmp content) (bmp ∷ content)
 fixed_field bmp k content shape long are =
     record {
       digits = false;

@@ -93,7 +93,7 @@ reverses-sound s (Some receipt) = by_row (approval_by receipt s.ledger) refl
     by_row None is = aborts-sound s 181
     by_row (Some row) is = takes_back-sound s row (λ k. short-found (is_approval_named receipt) s.ledger row k.rows is)
 
-goes_on-sound : (s : TerminalState) (phase : Phase) → Sound s (goes_on s phase)
+pub goes_on-sound : (s : TerminalState) (phase : Phase) → Sound s (goes_on s phase)
 goes_on-sound s Idle = record { next = tt; writable = λ k. tt }
 goes_on-sound s (Printing line) = record { next = tt; writable = λ k. (tt, tt) }
 goes_on-sound s Completing = record { next = tt; writable = λ k. (tt, tt) }

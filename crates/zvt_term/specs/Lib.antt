@@ -5,6 +5,9 @@ pub mod Inside
 pub mod Reports
 pub mod Steps
 pub mod Served
+pub mod Extras
+pub mod Dressing
+pub mod Extended
 pub mod World
 pub mod Simulation
 pub mod Orderly

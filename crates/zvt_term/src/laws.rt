@@ -1,4 +1,5 @@
-//! Laws of both ends together. Each is stated as the contract of an empty function.
+//! Laws of both ends together, and of orders beyond the profile. Each is stated as the contract of an empty function.
+ghost use Rattle.zvt_term.specs.Extended.{ExtrasKeepLedger, PlainIsServed, RepeatsChangeNothing};
 ghost use Rattle.zvt_term.specs.World.{WorldsMatch};
 ghost use Rattle.zvt_term.specs.Orderly.{OrderlyWorldsAccount};
 ghost use Rattle.zvt_term.specs.Returned.{OrderlyWorldsKeepReversals};
@@ -18,4 +19,19 @@ pub fn orderly_worlds_account()
 /// as reversed, its reversal is unclear or running, or the terminal answered B4.
 pub fn orderly_worlds_keep_reversals()
     ensures { OrderlyWorldsKeepReversals }
+{}
+
+/// Without extras, a terminal processes every message like a terminal of the profile.
+pub fn plain_is_served()
+    ensures { PlainIsServed }
+{}
+
+/// No order beyond the profile changes the ledger.
+pub fn extras_keep_ledger()
+    ensures { ExtrasKeepLedger }
+{}
+
+/// A repeat receipt changes nothing except the order in progress.
+pub fn repeats_change_nothing()
+    ensures { RepeatsChangeNothing }
 {}

@@ -5,6 +5,7 @@ ghost use Rattle.zvt_term.specs.Ledger.{NumberedFrom};
 
 use crate::answers::answers_of;
 use crate::asked::{asked, asked_view};
+use crate::codes::{ALREADY_REVERSED, NO_APPROVAL, NOT_POSSIBLE, SYSTEM_ERROR, WRONG_CURRENCY};
 use crate::ledger::{Row, approval_by, is_taken_back};
 use crate::messages::{Asked, Line, Report, Response};
 use crate::turns::{Phase, Turn, Verdict};
@@ -17,21 +18,6 @@ use zvt_till::CurrencyFact;
 
 /// Maximum number of rows in the ledger. A row's number has four digits.
 pub const MAX_LEDGER_ROWS: usize = 9_999;
-
-/// Error code: the terminal cannot accept the order now.
-const NOT_POSSIBLE: u8 = 0x83;
-
-/// Result code: the payment's currency differs from the registration's.
-const WRONG_CURRENCY: u8 = 0x6F;
-
-/// Result code: the approval was reversed before.
-const ALREADY_REVERSED: u8 = 0xB4;
-
-/// Result code: the reversal names no approval.
-const NO_APPROVAL: u8 = 0xB5;
-
-/// Any other failure.
-const SYSTEM_ERROR: u8 = 0xFF;
 
 /// An event at the terminal.
 #[derive(Clone, Copy)]
@@ -100,6 +86,20 @@ impl Terminal {
         self.ledger.as_slice()
     }
 
+    /// Returns the currency that the terminal keeps.
+    pub(crate) fn currency(&self) -> Option<Currency>
+        ensures { result ≡ self.now.currency }
+    {
+        self.currency
+    }
+
+    /// Returns the progress of the running order.
+    pub(crate) fn phase(&self) -> Phase
+        ensures { result ≡ self.now.phase }
+    {
+        self.phase
+    }
+
     /// Returns whether no order is running.
     fn is_idle(&self) -> bool
         ensures { result ≡ is_idle self.now.phase }
@@ -108,7 +108,7 @@ impl Terminal {
     }
 
     /// Returns whether the terminal accepts orders that need a registration.
-    fn is_ready(&self) -> bool
+    pub(crate) fn is_ready(&self) -> bool
         ensures { result ≡ is_ready self.now }
     {
         self.registered && self.is_idle()
@@ -128,14 +128,14 @@ impl Terminal {
     }
 
     /// Rejects the message.
-    fn refuses(&self, code: u8) -> Turn
+    pub(crate) fn refuses(&self, code: u8) -> Turn
         ensures { result ≡ refuses self.now code }
     {
         self.stays(Response::One(Report::Nack(code)))
     }
 
     /// Accepts the order, with a first report.
-    fn runs(&self, phase: Phase, report: Report) -> Turn
+    pub(crate) fn runs(&self, phase: Phase, report: Report) -> Turn
         ensures { result ≡ runs self.now phase report }
     {
         Turn {
@@ -161,7 +161,7 @@ impl Terminal {
     }
 
     /// Accepts the order and aborts it.
-    fn aborts(&self, code: u8) -> Turn
+    pub(crate) fn aborts(&self, code: u8) -> Turn
         ensures { result ≡ aborts self.now code }
     {
         self.runs(Phase::Ending, Report::Aborted(code))
@@ -278,11 +278,11 @@ impl Terminal {
         }
     }
 
-    /// Continues the order after the till has acknowledged the last message.
-    fn goes_on(&self) -> Turn
-        ensures { result ≡ goes_on self.now self.now.phase }
+    /// Continues the order from this phase, after the till has acknowledged the last message.
+    pub(crate) fn goes_on(&self, phase: Phase) -> Turn
+        ensures { result ≡ goes_on self.now phase }
     {
-        let (phase, reply) = match self.phase {
+        let (phase, reply) = match phase {
             Phase::Idle => (Phase::Idle, Response::Nothing),
             Phase::Printing(line) => (Phase::Completing, Response::One(Report::Line(line))),
             Phase::Completing => (Phase::Ending, Response::One(Report::Done)),
@@ -312,7 +312,7 @@ impl Terminal {
                 self.runs(Phase::Printing(Line::DayClosed), Report::Result(0))
             }
             Asked::AbortOrder => self.stays(Response::One(Report::Ack)),
-            Asked::Answer => self.goes_on(),
+            Asked::Answer => self.goes_on(self.phase),
             _ => self.refuses(NOT_POSSIBLE),
         }
     }

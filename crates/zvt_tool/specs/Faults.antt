@@ -18,6 +18,7 @@ use Rattle.zvt_runs.specs.declared.fault.EndFault.TheVariants as at_end
 use Rattle.zvt_runs.specs.declared.plans.Planned.{Planned}
 use Rattle.zvt_runs.specs.declared.plans.StepOptions.{StepOptions}
 use Rattle.zvt_runs.specs.Tills.{AnswersService}
+use Rattle.zvt_term.specs.Extras.{no_extras}
 use Rattle.zvt_term.specs.declared.turns.Verdict.{Verdict}
 use Rattle.zvt_tool.specs.Checked.{AnswersVectors}
 use Rattle.zvt_tool.specs.Options.{lengths_by}
@@ -81,4 +82,4 @@ MakesWords ends words old new Runs result = (planned : Result (Vec Planned Globa
 
 -- the result of a terminal that serves one till
 abbrev pub ServesOne : (loose : Bool) → (tid : ℕ) → Verdict → Result Unit ToolFault → Type 0
-ServesOne loose tid verdict result = (answer : Result Unit EndFault) × AnswersService (reading_of (lengths_by loose)) 1 tid verdict answer × (result ≡ in_run answer)
+ServesOne loose tid verdict result = (answer : Result Unit EndFault) × AnswersService (reading_of (lengths_by loose)) 1 tid verdict no_extras answer × (result ≡ in_run answer)

@@ -13,6 +13,10 @@ terminal_app = command_app (codes "terminal") (
     tid_rule ∷
     number_rule (codes "connections") (codes "1") ∷
     option_rule (codes "decline") ∷
+    flag_rule (codes "extended") ∷
+    option_rule (codes "card") ∷
+    option_rule (codes "receipt") ∷
+    flag_rule (codes "intermediate") ∷
     option_rule (codes "trace") ∷
     flag_rule (codes "loose") ∷
     flag_rule (codes "json") ∷
@@ -25,6 +29,10 @@ pub record AreTerminalOptionsOf (rows : List Row) (options : TerminalOptions) : 
   pub tid : GivesNumber (codes "tid") rows 99999999 options.tid
   pub connections : GivesNumber (codes "connections") rows 65535 options.connections
   pub decline : IsTextOf (codes "decline") rows options.decline
+  pub extended : IsFlagOf (codes "extended") rows options.extended
+  pub card : IsTextOf (codes "card") rows options.card
+  pub receipt : IsTextOf (codes "receipt") rows options.receipt
+  pub intermediate : IsFlagOf (codes "intermediate") rows options.intermediate
   pub trace : IsTextOf (codes "trace") rows options.trace
   pub loose : IsFlagOf (codes "loose") rows options.loose
   pub json : IsFlagOf (codes "json") rows options.json

@@ -17,7 +17,7 @@ use std::net::{Net, TcpListener, TcpStream};
 use zvt_io::{Failed, Sink};
 use zvt_runs::tcp::{LoopRun, PATIENCE_SECONDS, TerminalRun, TillRun};
 use zvt_runs::{EndFault, Ends, NoNotes, StepOptions, plan};
-use zvt_term::Verdict;
+use zvt_term::{Extras, Verdict};
 use zvt_text::Form;
 
 /// The address on which a terminal listens.
@@ -174,6 +174,7 @@ where
         port,
         tid,
         verdict,
+        extras: Extras::none(),
         lengths: lengths_by(loose),
         connections: 1,
         trace: None,

@@ -25,6 +25,14 @@ pub struct TerminalOptions<'a> {
     /// The number of connections: 1 by default, and 0 for any number.
     pub connections: u16,
     pub decline: Option<&'a str>,
+    /// Whether orders beyond the profile are accepted too.
+    pub extended: bool,
+    /// The card whose fields are in statuses.
+    pub card: Option<&'a str>,
+    /// The form of receipts.
+    pub receipt: Option<&'a str>,
+    /// Whether intermediate statuses are sent.
+    pub intermediate: bool,
     pub trace: Option<&'a str>,
     /// Whether lengths are accepted in any form.
     pub loose: bool,
@@ -60,6 +68,25 @@ pub fn terminal_row() -> CommandRow<'static>
                 "XX",
                 "Decline every payment with this code: two hexadecimal digits, not 00",
             ),
+            CommandOption::Flag(
+                "extended",
+                "Also accept status enquiry, diagnosis, initialisation, log-off, repeat receipt, refund, date and time, \
+                    and language",
+            ),
+            CommandOption::Value(
+                "card",
+                "CARD",
+                "Show this card in the status of each transaction: girocard or visa",
+            ),
+            CommandOption::Value(
+                "receipt",
+                "FORM",
+                "How receipts are sent: lines (the default), blocks or none",
+            ),
+            CommandOption::Flag(
+                "intermediate",
+                "Send an intermediate status before the first status of an order",
+            ),
             CommandOption::Value("trace", "FILE", help::TRACE),
             CommandOption::Flag("loose", "Accept padded lengths, as some tills send them"),
             CommandOption::Flag(
@@ -84,6 +111,10 @@ pub fn read_terminal<'a>(inner: &ArgMatches<'a>) -> Option<Choice<'a>>
         tid,
         connections,
         decline: text(inner, "decline"),
+        extended: flag(inner, "extended"),
+        card: text(inner, "card"),
+        receipt: text(inner, "receipt"),
+        intermediate: flag(inner, "intermediate"),
         trace: text(inner, "trace"),
         loose: flag(inner, "loose"),
         json: flag(inner, "json"),

@@ -3,7 +3,7 @@ use crate::{Planned, StepOptions};
 use std::fs::File;
 use std::io::Stderr;
 use zvt_grammar::Lengths;
-use zvt_term::Verdict;
+use zvt_term::{Extras, Verdict};
 use zvt_text::Form;
 
 /// The options of a till's run: the terminal to connect to, the steps, how the line is read, traced and shown, and how
@@ -40,7 +40,7 @@ pub struct LoopRun<'a, 'f> {
     pub options: StepOptions,
 }
 
-/// The options of a simulated terminal: its address, its decisions, how its lines are read and traced, and the form of
+/// The options of a simulated terminal: its address, its decisions, what it does beyond the profile, how its lines are read and traced, and the form of
 /// its reports.
 #[derive(Clone, Copy)]
 pub struct TerminalRun<'a, 'f> {
@@ -52,6 +52,8 @@ pub struct TerminalRun<'a, 'f> {
     pub tid: u32,
     /// The terminal's decision on each payment.
     pub verdict: Verdict,
+    /// What the terminal does beyond the profile.
+    pub extras: Extras,
     /// The length encodings that the terminal accepts.
     pub lengths: Lengths,
     /// The number of connections to serve, one after another.

@@ -15,7 +15,7 @@ use std::net::{Net, TcpListener, TcpStream};
 use zvt_grammar::Lengths;
 use zvt_io::Sink;
 use zvt_stream::LineFault;
-use zvt_term::{Served, Terminal};
+use zvt_term::Extended;
 
 /// Listens, and serves tills one after another with one terminal, waiting for each without limit. The terminal's ledger
 /// carries over from till to till, but each till has to register anew.
@@ -39,17 +39,15 @@ where
     R: Net<Listener = TcpListener, Stream = TcpStream>,
     W: Sink,
     requires { run.now.tid ≤ 99999999 }
-    ensures { AnswersService (reading_of run.now.lengths) run.now.connections run.now.tid run.now.verdict result }
+    ensures { AnswersService (reading_of run.now.lengths) run.now.connections run.now.tid run.now.verdict run.now.extras
+        result }
 {
     let mut door = match listen(rt, run.host, run.port) {
         Ok(door) => door,
         Err(why) => return Err(EndFault::Net(why)),
     };
     report_address(alloc, run.form, &door.listener, report)?;
-    let mut served = Served {
-        terminal: Terminal::new(alloc, run.tid),
-        verdict: run.verdict,
-    };
+    let mut served = Extended::new(alloc, run.tid, run.verdict, run.extras);
     serve_tills(alloc, run, &mut door, &mut served, report)
 }
 
@@ -58,24 +56,24 @@ fn serve_tills<W: Sink>(
     alloc: Global,
     run: &TerminalRun<'_, '_>,
     door: &mut Door,
-    served: &mut Served,
+    served: &mut Extended,
     report: &mut W,
 ) -> Result<(), EndFault>
-    requires { IsOffline served.old.terminal }
+    requires { IsOffline served.old.served.terminal }
     ensures served { AnswersTills (reading_of run.now.lengths) run.now.connections served.old served.new result }
     ensures taken { TakesTills run.now.connections (given_by door.old) (given_by door.new) result }
 {
     let mut first = None;
     'tills: for gone in 0..run.connections {
         let connection = door.next().map_err(EndFault::Net)?;
-        let rows_before = served.terminal.ledger().len();
+        let rows_before = served.served.terminal.ledger().len();
         let broke = serve_till(alloc, &connection, run.lengths, served, run.trace)?;
         let till = GoneTill {
             number: gone + 1,
             broke,
             rows_before,
         };
-        report_till(alloc, run.form, &till, &served.terminal, report)?;
+        report_till(alloc, run.form, &till, &served.served.terminal, report)?;
         if first.is_none() {
             first = broke;
         }
@@ -92,10 +90,10 @@ fn serve_till(
     alloc: Global,
     connection: &TcpStream,
     lengths: Lengths,
-    served: &mut Served,
+    served: &mut Extended,
     trace: Option<&File>,
 ) -> Result<Option<LineFault>, EndFault>
-    requires { IsOffline served.old.terminal }
+    requires { IsOffline served.old.served.terminal }
     ensures { AnswersTill (reading_of lengths) served.old served.new result }
 {
     let mut end = terminal_end_of(alloc, connection, lengths, trace)?;

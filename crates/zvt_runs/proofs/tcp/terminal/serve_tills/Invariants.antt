@@ -7,6 +7,6 @@ use Rattle.zvt_runs.proofs.tcp.terminal.serve_tills.Given as goal
 abbrev pub invariant-tills : goal.invariant-tills
 invariant-tills g l = record {
   served : ServesMany (reading_of l.run.lengths) l.gone l.first l.fn.served l.served;
-  offline : IsOffline l.served.terminal;
+  offline : IsOffline l.served.served.terminal;
   taken : given_by l.door ≡ given_by l.fn.door + l.gone;
 }
