@@ -30,4 +30,4 @@ pub use privacy::{Privacy, is_secret_tag};
 pub use receipts::{put_receipt_type, receipt_block, receipt_line};
 pub use text::{Says, Text};
 pub use text_blocks::{ReceiptType, TextBlock, text_block};
-pub use write::{currency_digits, escaped_line, hexadecimal, line, message, numbers, result_words};
+pub use write::{currency_digits, hexadecimal, line, message, numbers, result_words};
