@@ -58,6 +58,8 @@ NO_SETTINGS = [
     ([*TILL, "--currency"], ["", "978", "09780", "097a", "+978"], "invalid currency '{}': expected four decimal digits, e.g. 0978"),
     ([*TILL, "--timeout"], ["0"], "invalid number of seconds '{}': expected 1 to 65535"),
     ([*TERMINAL, "--decline"], ["", "00", "6", "06C", "6G"], "invalid result code '{}': expected two hexadecimal digits other than 00, e.g. 6C"),
+    ([*TERMINAL, "--card"], ["", "Visa", "visa ", "maestro"], "invalid card '{}': expected girocard or visa"),
+    ([*TERMINAL, "--receipt"], ["", "line", "Blocks", "no"], "invalid form of receipts '{}': expected lines, blocks or none"),
 ]
 STEPS = """register -> registered
 pay:1 -> paid trace 000001 receipt 0001
