@@ -62,6 +62,8 @@ NO_SETTINGS = [
     ([*TILL, "--timeout"], ["0"], "invalid number of seconds '{}': expected 1 to 65535"),
     (["receipts", "--codepage"], ["", "cp437", "852", "UTF-8", "utf8"], "invalid code page '{}': expected 437, 850, iso-8859-1 or utf-8"),
     ([*TERMINAL, "--decline"], ["", "00", "6", "06C", "6G"], "invalid result code '{}': expected two hexadecimal digits other than 00, e.g. 6C"),
+    ([*TERMINAL, "--card"], ["", "Visa", "visa ", "maestro"], "invalid card '{}': expected girocard or visa"),
+    ([*TERMINAL, "--receipt"], ["", "line", "Blocks", "no"], "invalid form of receipts '{}': expected lines, blocks or none"),
 ]
 STEPS = """register -> registered
 pay:1 -> paid trace 000001 receipt 0001

@@ -216,6 +216,12 @@ class Trial:
         ended = till(served.port, "register", "pay:1000", "reverse:1", "close")
         ends("a till and its terminal", ended, 0, "register -> registered", "pay:1000 -> paid trace 000001 receipt 0001", "reverse:1 -> reversed", "close -> day closed", "total 0")
         ends("the terminal", Ended(*served.ended()), 0)
+        for extras in "--extended", "--card girocard", "--card visa", "--receipt blocks", "--receipt none", "--intermediate", \
+                "--extended --card girocard --receipt blocks --intermediate":
+            served = terminal(*extras.split())
+            extra = till(served.port, "register", "pay:1000", "reverse:1", "close")
+            check(f"a till at a terminal with {extras}", (extra.status, extra.text), (ended.status, ended.text))
+            served.ended()
         served = terminal("--decline", "6c")
         ended = till(served.port, "register", "pay:500", "pay:0000000001")
         ends("a terminal that declines", ended, 0, "register -> registered", f"pay:500 -> {ABORTED}", f"pay:0000000001 -> {ABORTED}", "total 0")

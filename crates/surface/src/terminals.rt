@@ -4,13 +4,22 @@ use zvt_apdu::{Apdu, scan};
 use zvt_bcd::Amount;
 use zvt_grammar::Scan;
 use zvt_stream::{Answers, Machine, Stream};
-use zvt_term::{Input, Move, Row, Served, Terminal, Verdict, World, run_world};
+use zvt_term::extras::extra_of;
+use zvt_term::{
+    Card, Extended, Extra, Extras, Input, Move, Receipts, Row, Served, Terminal, Verdict, World,
+    run_world,
+};
 use zvt_till::Order;
 
 const REGISTRATION: [u8; 9] = [0x06, 0x00, 0x06, 0x00, 0x00, 0x00, 0xBE, 0x09, 0x78];
 
+/// A refund of 10.00.
+const REFUND: [u8; 13] = [
+    0x06, 0x31, 0x0A, 0x00, 0x00, 0x00, 0x04, 0x00, 0x00, 0x00, 0x00, 0x10, 0x00,
+];
+
 pub fn all(alloc: Global) -> bool {
-    stepped(alloc) && served(alloc) && matches!(matched(alloc), Ok(true))
+    stepped(alloc) && served(alloc) && extended(alloc) && matches!(matched(alloc), Ok(true))
 }
 
 fn stepped(alloc: Global) -> bool {
@@ -46,6 +55,27 @@ fn served(alloc: Global) -> bool {
         _ => false,
     };
     heard && !served.resting()
+}
+
+/// A refund, before any registration.
+fn extended(alloc: Global) -> bool {
+    let mut stream = Stream::new(alloc);
+    if stream.feed_view(&REFUND).is_err() {
+        return false;
+    }
+    let Some(apdu) = stream.lent() else {
+        return false;
+    };
+    let extras = Extras {
+        extended: true,
+        card: Some(Card::Girocard),
+        receipts: Receipts::Blocks,
+        intermediate: true,
+    };
+    let mut terminal = Extended::new(alloc, 1, Verdict::Approve, extras);
+    let refused = terminal.hear(alloc, &apdu).is_ok() && terminal.refund.is_none();
+    let plain = Extended::new(alloc, 1, Verdict::Approve, Extras::none());
+    refused && !plain.resting() && matches!(extra_of(&apdu), Some(Extra::Refund(Some(_))))
 }
 
 fn hears(terminal: &mut Terminal, apdu: &Apdu) -> bool {

@@ -12,7 +12,7 @@ use crate::exit::Exit;
 use crate::finish::{finish_plan, finish_run};
 use crate::one_file::report_one_file;
 use crate::output::Output;
-use crate::settings::verdict;
+use crate::settings::{extras, verdict};
 use crate::{book, trace_file};
 use std::fs::File;
 use std::io;
@@ -162,6 +162,9 @@ pub fn terminal(rt: &HostRuntime, options: &TerminalOptions<'_>) -> Result<u8, E
     let Some(verdict) = verdict(rt, options.decline)? else {
         return Ok(WORDS);
     };
+    let Some(extras) = extras(rt, options)? else {
+        return Ok(WORDS);
+    };
     let file = trace_file::opened(rt, options.trace)?;
     let trace = file.as_ref();
     let run = TerminalRun {
@@ -169,6 +172,7 @@ pub fn terminal(rt: &HostRuntime, options: &TerminalOptions<'_>) -> Result<u8, E
         port: options.port,
         tid: options.tid,
         verdict,
+        extras,
         lengths: lengths_by(options.loose),
         connections: connections_by(options.connections),
         trace,

@@ -1,15 +1,15 @@
-//! The settings of a till and the verdict of a terminal, from the arguments.
+//! The settings of a till, and the verdict and the extras of a terminal, from the arguments.
 ghost use Rattle.std.specs.Prelude.{◌≡◌, IfOk};
 ghost use Rattle.zvt_runs.specs.Settings.{config_of, currency_of, password_of};
-ghost use Rattle.zvt.specs.Settings.{AreSettings, named, verdict_named};
+ghost use Rattle.zvt.specs.Settings.{AreExtras, AreSettings, card_named, card_of, named, receipts_of, verdict_named};
 
 use crate::reports::report_invalid;
 use std::io;
 use zvt_bcd::Currency;
 use zvt_runs::{config_of, currency_of, password_of, result_code};
-use zvt_term::Verdict;
+use zvt_term::{Card, Extras, Receipts, Verdict};
 use zvt_till::TillSettings;
-use zvt_tool::TillOptions;
+use zvt_tool::{TerminalOptions, TillOptions};
 
 /// Returns the settings that the words name, with the default for each missing word. Reports the first wrong word, and
 /// returns `None` then.
@@ -104,4 +104,78 @@ pub fn verdict(rt: &HostRuntime, decline: Option<&str>) -> io::Result<Option<Ver
         return Ok(None);
     };
     Ok(Some(Verdict::Decline(code)))
+}
+
+/// Returns what the terminal does beyond the profile. Reports the first wrong word, and returns `None` then.
+pub fn extras(rt: &HostRuntime, options: &TerminalOptions<'_>) -> io::Result<Option<Extras>>
+    ensures { IfOk result (λ extras. AreExtras options.now extras) }
+{
+    let Some(card) = card(rt, options.card)? else {
+        return Ok(None);
+    };
+    let Some(receipts) = receipts(rt, options.receipt)? else {
+        return Ok(None);
+    };
+    Ok(Some(Extras {
+        extended: options.extended,
+        card,
+        receipts,
+        intermediate: options.intermediate,
+    }))
+}
+
+/// Returns the card that the word names.
+fn card_of(word: &str) -> Option<Card>
+    ensures { result ≡ card_of word.now }
+{
+    match word {
+        "girocard" => Some(Card::Girocard),
+        "visa" => Some(Card::Visa),
+        _ => None,
+    }
+}
+
+/// Returns the card that the word names, or no card if there is no word. Reports a wrong word.
+fn card(rt: &HostRuntime, word: Option<&str>) -> io::Result<Option<Option<Card>>>
+    ensures { IfOk result (λ card. card ≡ card_named word.entry) }
+{
+    let Some(word) = word else {
+        return Ok(Some(None));
+    };
+    let Some(card) = card_of(word) else {
+        report_invalid(rt, "card", word, "expected girocard or visa")?;
+        return Ok(None);
+    };
+    Ok(Some(Some(card)))
+}
+
+/// Returns the form of receipts that the word names.
+fn receipts_of(word: &str) -> Option<Receipts>
+    ensures { result ≡ receipts_of word.now }
+{
+    match word {
+        "lines" => Some(Receipts::Lines),
+        "blocks" => Some(Receipts::Blocks),
+        "none" => Some(Receipts::Nothing),
+        _ => None,
+    }
+}
+
+/// Returns the form of receipts that the word names, or lines if there is no word. Reports a wrong word.
+fn receipts(rt: &HostRuntime, word: Option<&str>) -> io::Result<Option<Receipts>>
+    ensures { IfOk result (λ receipts. receipts ≡ named Receipts.Lines receipts_of word.entry) }
+{
+    let Some(word) = word else {
+        return Ok(Some(Receipts::Lines));
+    };
+    let receipts = receipts_of(word);
+    if receipts.is_none() {
+        report_invalid(
+            rt,
+            "form of receipts",
+            word,
+            "expected lines, blocks or none",
+        )?;
+    }
+    Ok(receipts)
 }
