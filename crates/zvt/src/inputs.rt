@@ -3,7 +3,8 @@ use crate::finish::finish_trace;
 use crate::notes::{faulty_line, report_counts, report_hint, report_notes};
 use crate::output::Output;
 use crate::progress::Progress;
-use crate::reports::{NO_TRACE, report, report_failed};
+use crate::reports::{NO_TRACE, report, report_failed, report_invalid};
+use crate::text_blocks::report_text_blocks;
 use std::alloc::{AllocError, Global};
 use std::fs::File;
 use std::io::{self, IsTerminal, Write};
@@ -14,7 +15,7 @@ use zvt_tool::label::Label;
 use zvt_tool::on_trace::{follow_work, work_on_trace};
 use zvt_tool::options::form_by;
 use zvt_tool::statuses::{DEVICE, DONE, MEMORY, WORDS};
-use zvt_tool::trace_command::{TraceCommand, TraceWork};
+use zvt_tool::trace_command::{TraceCommand, TraceWork, codepage_named};
 use zvt_trace::{TraceFault, read_trace};
 
 /// A trace of a command: its file, or `-` for standard input, and whether it is one of several.
@@ -99,6 +100,9 @@ impl Ended {
 /// Runs the command on the trace in each of its files, or on standard input if no file is named. Returns the highest
 /// exit status.
 pub fn work_on(rt: &HostRuntime, command: &TraceCommand<'_>) -> io::Result<u8> {
+    if !takes_codepage(rt, command)? {
+        return Ok(WORDS);
+    }
     match command.files.as_slice() {
         [] => work_on_only(rt, command, "-"),
         [file] => work_on_only(rt, command, file),
@@ -111,6 +115,30 @@ pub fn work_on(rt: &HostRuntime, command: &TraceCommand<'_>) -> io::Result<u8> {
         }
         files => work_on_all(rt, command, files),
     }
+}
+
+/// Returns whether the command can use its code page, if it has one, and reports if it cannot.
+fn takes_codepage(rt: &HostRuntime, command: &TraceCommand<'_>) -> io::Result<bool> {
+    let Some(name) = command.codepage else {
+        return Ok(true);
+    };
+    if codepage_named(name).is_none() {
+        report_invalid(
+            rt,
+            "code page",
+            name,
+            "expected 437, 850, iso-8859-1 or utf-8",
+        )?;
+        return Ok(false);
+    }
+    if command.is_json() {
+        report(
+            rt,
+            "'--codepage' does not go with '--json', where bytes that are not ASCII stay escapes",
+        )?;
+        return Ok(false);
+    }
+    Ok(true)
 }
 
 /// Runs the command on the only trace.
@@ -262,7 +290,8 @@ fn work_on_whole<R: Source>(
     let answer = work_on_trace(rt.alloc(), command, trace, &mut writer);
     let answer = writer.inner.explained(answer);
     let faulty = faulty_line(command, &answer);
-    let had_memory = report_notes(rt, command, input, trace, &answer)?;
+    let had_memory = report_notes(rt, command, input, trace, &answer)?
+        && (writer.inner.has_text || report_text_blocks(rt, command, input, trace, &answer)?);
     let total = match &answer {
         Ok(found) => Some(found.total),
         Err(_) => None,

@@ -21,6 +21,7 @@ mod reports;
 mod screen;
 mod settings;
 mod tap;
+mod text_blocks;
 mod till;
 mod trace_file;
 mod waiting;

@@ -18,6 +18,8 @@ pub struct Output<W> {
     pub broken_pipe: bool,
     /// Whether a write failed since memory was refused for a label.
     pub out_of_memory: bool,
+    /// Whether anything was to be written.
+    pub has_text: bool,
 }
 
 /// A label, the text written last, and its last byte.
@@ -40,6 +42,7 @@ impl<W: Drop> Output<W> {
             labelling: None,
             broken_pipe: false,
             out_of_memory: false,
+            has_text: false,
         }
     }
 
@@ -60,6 +63,7 @@ impl<W: Drop> Output<W> {
             labelling: Some(labelling),
             broken_pipe: false,
             out_of_memory: false,
+            has_text: false,
         }
     }
 }
@@ -83,6 +87,9 @@ impl<W: Write> Write for Output<W> {
     ghost contents = { λ output. known output.labelling (W.contents output.inner) };
 
     fn write(&mut self, bytes: &[u8]) -> io::Result<usize> {
+        if !bytes.is_empty() {
+            self.has_text = true;
+        }
         let written = match &mut self.labelling {
             None => self.inner.write(bytes),
             Some(labelling) => write_labelled(&mut self.inner, labelling, bytes),
