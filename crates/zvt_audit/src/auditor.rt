@@ -8,8 +8,8 @@ use zvt_apdu::{ApduView, Kind};
 use zvt_till::{Bookkeeping, Happening};
 use zvt_trace::{Direction, Listener, ListenerError, TraceEvent};
 
-/// Turns the events of a trace into the log of a till. It also notes who sends orders, which of them move money that the
-/// books do not follow, which currencies the till names, and at which lines payments end.
+/// Turns the events of a trace into the log of a till. It also notes who sends orders, which of them move money that
+/// the books do not follow, which currencies the till names, and at which lines payments end.
 #[derive(Drop)]
 pub(crate) struct Auditor {
     pub(crate) books: Bookkeeping,

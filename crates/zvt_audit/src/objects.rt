@@ -19,8 +19,8 @@ use zvt_text::{Text, command_name};
 use zvt_till::{Booked, Books, Cause};
 use zvt_trace::Tally;
 
-/// Writes one object per completed payment, then one per unclear payment, then one per order that is not followed, and a
-/// last one for the whole trace.
+/// Writes one object per completed payment, then one per unclear payment, then one per order that is not followed, and
+/// a last one for the whole trace.
 pub(crate) fn write(
     text: &mut Text,
     tally: Tally,

@@ -2,8 +2,8 @@
 ghost use Rattle.std.specs.Prelude.{◌≡◌, false, not, ◌&&◌, OnOk};
 ghost use Rattle.zvt_apdu.specs.Views.{control_of};
 ghost use Rattle.zvt_trace.specs.declared.direction.Direction.TheVariants.{FromTill};
-ghost use Rattle.zvt_audit.specs.Orders.{is_order, is_unfollowed_from, moves_apart, noticed, pays_unknown, unfollowed_at};
-ghost use Rattle.zvt_audit.specs.Orders.{with_unfollowed};
+ghost use Rattle.zvt_audit.specs.Orders.{is_order, is_unfollowed_from, moves_apart, noticed, pays_unknown};
+ghost use Rattle.zvt_audit.specs.Orders.{unfollowed_at, with_unfollowed};
 ghost use Rattle.zvt_trace.specs.TraceEvent as trace_event;
 
 use std::alloc::AllocError;
@@ -54,8 +54,8 @@ impl Orders {
     }
 }
 
-/// An order of the till that moves money and that the books do not follow: a refund, an order of a pre-authorisation, or a
-/// payment without an amount.
+/// An order of the till that moves money and that the books do not follow: a refund, an order of a pre-authorisation, or
+/// a payment without an amount.
 #[derive(Clone, Copy, Debug, PartialEq, Eq)]
 pub struct UnfollowedOrder {
     /// The line of the trace at which the order ends, counted from 1.

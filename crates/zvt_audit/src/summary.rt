@@ -94,8 +94,8 @@ pub(crate) fn write_books<W: Sink>(
     writer: &mut W,
 ) -> Result<AuditSummary, TraceFault>
     ensures writes { (log : List Happening) → HasJudged log audit.listener.books → AnswersBooks form log tally
-        audit.listener.orders audit.listener.unfollowed.items (agreed audit.listener.named) (lines_of audit.listener.ends) audit.passed
-        (W.written writer.old) (W.written writer.new) result }
+        audit.listener.orders audit.listener.unfollowed.items (agreed audit.listener.named)
+        (lines_of audit.listener.ends) audit.passed (W.written writer.old) (W.written writer.new) result }
     ensures write { result ≡ Err TraceFault.Write → W.failures writer.old < W.failures writer.new }
     ensures read { result ≡ Err TraceFault.Read → ⊥ }
 {

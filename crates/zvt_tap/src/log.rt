@@ -16,9 +16,9 @@ use zvt_show::{Shown, ShownToEnd, Style};
 use zvt_text::Privacy;
 use zvt_trace::{Tally, TraceFault};
 
-/// The log of a line: a trace, and on an output the text that `show --safe` prints for the trace, followed by its audit.
-/// The bytes are decoded once, for the text and for the audit. Each of the three stops at its own failure, and the others
-/// continue. Without memory to decode a chunk both the text and the audit stop.
+/// The log of a line: a trace, and on an output the text that `show --safe` prints for the trace, followed by its
+/// audit. The bytes are decoded once, for the text and for the audit. Each of the three stops at its own failure, and
+/// the others continue. Without memory to decode a chunk both the text and the audit stop.
 pub type TapLog<T, O> = Watched<Tracing<T>, Shown<O, LineAudit>>;
 
 /// The findings of a log, and its devices.

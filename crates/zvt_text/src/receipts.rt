@@ -23,8 +23,8 @@ pub fn receipt_line(
     text.add(&ReceiptLine { codepage, line })
 }
 
-/// Writes the receipt of a text block: a line such as `# merchant receipt` if the block names a type, and then its lines
-/// in the form of [`receipt_line`].
+/// Writes the receipt of a text block: a line such as `# merchant receipt` if the block names a type, and then its
+/// lines in the form of [`receipt_line`].
 pub fn receipt_block(
     text: &mut Text,
     codepage: Option<Codepage>,

@@ -70,8 +70,8 @@ pub fn terminal_row() -> CommandRow<'static>
             ),
             CommandOption::Flag(
                 "extended",
-                "Also accept status enquiry, diagnosis, initialisation, log-off, repeat receipt, refund, date and time, \
-                    and language",
+                "Also accept status enquiry, diagnosis, initialisation, log-off, repeat receipt, refund, date and \
+                    time, and language",
             ),
             CommandOption::Value(
                 "card",

@@ -66,8 +66,8 @@ impl<'a> TraceCommand<'a> {
         }
     }
 
-    /// Returns how much input to skip after a refused message: with `--open` the message, else its side, or for an audit
-    /// the whole line.
+    /// Returns how much input to skip after a refused message: with `--open` the message, else its side, or for an
+    /// audit the whole line.
     pub fn scope(&self) -> Scope
         ensures { result ≡ work_scope self.now.work self.now.reads_on }
     {

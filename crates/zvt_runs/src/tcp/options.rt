@@ -40,8 +40,8 @@ pub struct LoopRun<'a, 'f> {
     pub options: StepOptions,
 }
 
-/// The options of a simulated terminal: its address, its decisions, what it does beyond the profile, how its lines are read and traced, and the form of
-/// its reports.
+/// The options of a simulated terminal: its address, its decisions, what it does beyond the profile, how its lines are
+/// read and traced, and the form of its reports.
 #[derive(Clone, Copy)]
 pub struct TerminalRun<'a, 'f> {
     /// The name or address on which the terminal listens.
