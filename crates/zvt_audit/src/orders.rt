@@ -54,8 +54,8 @@ impl Orders {
     }
 }
 
-/// An order of the till that moves money and that the books do not follow: a refund, an order of a pre-authorisation, or
-/// a payment without an amount.
+/// An order of the till that moves money and that the books do not follow: a refund, an order of a pre-authorisation,
+/// or a payment without exactly one amount.
 #[derive(Clone, Copy, Debug, PartialEq, Eq)]
 pub struct UnfollowedOrder {
     /// The line of the trace at which the order ends, counted from 1.
