@@ -149,6 +149,9 @@ class Fleet:
             check("what is missing", self.run(command("comm -23")).split(), [UNREADABLE])
             wanted = [f"{file}\t{amount}\t{cause}" for file, audit in self.audits.items() for amount, cause in audit.unclear]
             check("what is unclear", sorted(self.run(command(".unclear.cause] | @tsv' books.json")).splitlines()), sorted(wanted))
+            wanted = [f"{file}\t{order['line']}\t{order.get('name', '')}" for file, audit in self.audits.items() for order in audit.unfollowed]
+            check("what is not followed", sorted(self.run(command(".unfollowed.name] | @tsv' books.json")).splitlines()), sorted(wanted))
+            check("some orders are not followed", bool(wanted), True)
             said.append("jq")
 
     def database(self):
