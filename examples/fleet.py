@@ -17,7 +17,7 @@ import os
 import subprocess
 import sys
 
-COLUMNS = ("traces", "booked", "total", "unclear", "amount", "bad")
+COLUMNS = ("traces", "booked", "total", "unclear", "amount", "bad", "unfollowed")
 CONNECT = 10  # seconds
 
 
@@ -35,8 +35,10 @@ def audit(program, files):
         elif "unclear" in row:
             of["unclear"] += 1
             of["amount"] += row["unclear"]["amount"]
+        elif "unfollowed" in row:
+            of["unfollowed"] += 1
         else:
-            of.update(traces=1, total=row["total"], bad=row["bad"])
+            of["traces"], of["total"], of["bad"] = 1, row["total"], row["bad"]
             whole.add(row["file"])
     return {file: of for file, of in sums.items() if file in whole}, done.stderr
 

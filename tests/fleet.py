@@ -174,12 +174,12 @@ class Fleet:
 
     def sums(self):
         """The lines that examples/fleet.py must write."""
-        shops = collections.defaultdict(lambda: [0] * 6)
+        shops = collections.defaultdict(lambda: [0] * 7)
         for file, audit in self.audits.items():
-            row = (1, len(audit.booked), audit.total(), len(audit.unclear), sum(amount for amount, _ in audit.unclear), audit.bad)
+            row = (1, len(audit.booked), audit.total(), len(audit.unclear), sum(amount for amount, _ in audit.unclear), audit.bad, len(audit.unfollowed))
             for shop in (file.split("/")[2], "~all"):
                 shops[shop] = [one + other for one, other in zip(shops[shop], row)]
-        return ["shop\ttraces\tbooked\ttotal\tunclear\tamount\tbad",
+        return ["shop\ttraces\tbooked\ttotal\tunclear\tamount\tbad\tunfollowed",
                 *("\t".join([shop.strip("~"), *map(str, row)]) for shop, row in sorted(shops.items()))]
 
     def many_machines(self):
