@@ -12,7 +12,7 @@ pub returns-in-None-clause-chosen : goal.returns-in-None-clause-chosen
 returns-in-None-clause-chosen c =
     let m = c.in_ok-matches.matches in
     let none : subcommand_rows_of m ≡ None = no_rows (out-ArgMatches m).subcommand (sym c.in-None.ensures.name) in
-    subst (λ (o : Option (Text × List Row)). IsChoiceOf o (Show c.show.result)) (sym none ∙ c.in_ok-matches.ensures.read) (refl, (false, (λ _. refl, λ bad. cc, λ _. refl), (false, (λ _. refl, λ bad. cc, λ _. refl), (false, (λ _. refl, λ bad. cc, λ _. refl), c.show.ensures))))
+    subst (λ (o : Option (Text × List Row)). IsChoiceOf o (Show c.show.result)) (sym none ∙ c.in_ok-matches.ensures.read) (refl, (false, (λ _. refl, λ bad. cc, λ _. refl), (false, (λ _. refl, λ bad. cc, λ _. refl), (false, (λ _. refl, λ bad. cc, λ _. refl), (false, (λ _. refl, λ bad. cc, λ _. refl), c.show.ensures)))))
 
 pub returns-in-Some-2-clause-chosen : goal.returns-in-Some-2-clause-chosen
 returns-in-Some-2-clause-chosen c =
