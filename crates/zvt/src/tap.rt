@@ -342,12 +342,18 @@ fn report_found<W: Write + Drop>(
     rt: &HostRuntime,
     found: Found<Over<Noted<'_>>, Over<Output<W>>>,
 ) -> u8 {
-    let is_pipe_closed = found.output.inner.broken_pipe;
-    let passed = match &found.audited {
+    let Found {
+        shown,
+        audited,
+        output,
+        ..
+    } = found;
+    let is_pipe_closed = output.inner.broken_pipe;
+    let passed = match &audited {
         Ok(audited) => audited.passed,
         Err(_) => 0,
     };
-    let shown = match found.shown {
+    let shown = match shown {
         Ok(tally) => {
             if tally.bad > 0 {
                 let _ = report_tally(rt, tally);
@@ -357,7 +363,7 @@ fn report_found<W: Write + Drop>(
         Err(TraceFault::Write) if is_pipe_closed => return DEVICE,
         Err(fault) => return report_fault(rt, &fault),
     };
-    match found.audited {
+    match audited {
         Ok(audited) => {
             let _ = report_unfollowed(rt, audited.unfollowed.as_slice());
             shown
