@@ -4,7 +4,7 @@ program was looked at.
 
 `events_of` reads the bytes of a trace and gives an object for each thing that `show` says. `text_of` writes such an object as
 `show` does. `safe_of` hides what the safe form hides: `json_of` and `text_of` of it are what `show --json` and `show --safe`
-write. `receipts_of` leaves those of `receipts`, and `lines_of_block` gives those of a text block. A trace with a line that can't be
+write. `receipts_of` gives the events that `receipts` prints, and `lines_of_block` the lines of a text block. A trace with a line that can't be
 read ends with `Fault`, after the events of the lines before. With files as arguments the events of each are written as
 JSON, with `--loose` of padded lengths, and with `--resync` after refused messages too.
 """

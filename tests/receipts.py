@@ -3,7 +3,7 @@
 
     tests/receipts.py [PROGRAM]
 
-PROGRAM is the one that `rt ci` built, unless another is named. The traces are those of tests/data/real, every byte on a line of
+PROGRAM is the one that `rt ci` built, unless another is named. It reads the traces of tests/data/real, every byte on a line of
 its own, and random blocks: objects in any order, other containers, empty lines, several types or none. Without the options the
 output is the same as ever, and standard error says where it has text blocks alone. The status is 1 where anything is not as
 expected.

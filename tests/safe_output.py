@@ -49,7 +49,7 @@ def nested(depth, tag, secret):
     return b"".join(reversed(before)).hex(), "?" + secret
 
 
-# The messages of the till whose password stands where it does in the profile, and those of both sides with fields.
+# The till's messages with a password where the profile has it, and messages of both sides with fields.
 MESSAGES = {
     "a registration": (">", *message("06 00", "!12 34 56", "BE 09 78 03 01")),
     "a reversal": (">", *message("06 30", "!12 34 56", "87 00 01")),
