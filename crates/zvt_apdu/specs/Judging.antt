@@ -156,7 +156,7 @@ pub record Headed (r : Reading) (bytes : List ℕ) (opening : Opening) (head : L
   pub there : head_size head ≤ length (drop opening.start bytes)
   pub are_digits : AreDigits (take head.digits (drop head.free (drop opening.start bytes)))
 
--- What is stored after the head: all of the free bytes, or fields of which some take memory.
+-- What is stored after the head: all of the free bytes, or fields, some of which take memory.
 abbrev pub Keeps : Bool → Reading → (size : ℕ) → (head : Layout) → (content : List ℕ) → Type 0
 Keeps false r size head content = size ≤ length content
 Keeps true r size head content = fields.TakesMemory r (size - head_size head) (drop (head_size head) content)

@@ -33,7 +33,7 @@ use Rattle.zvt_audit.specs.declared.orders.Orders.{Orders}
 use Rattle.zvt_audit.specs.declared.orders.UnfollowedOrder.{UnfollowedOrder}
 use Rattle.zvt_audit.specs.declared.summary.AuditSummary.{AuditSummary}
 
--- the books of a log became those of the log with these happenings after it
+-- the books of a log, after these further happenings
 abbrev pub Takes : (old new : BooksSoFar) → List Happening → Type 0
 Takes old new happened = (log : List Happening) → HasJudged log old → HasJudged (log ++ happened) new
 
@@ -43,7 +43,7 @@ IsConnected auditor =
     HasJudged (Connected ∷ []) auditor.books × (auditor.orders.till ≡ false) × (auditor.orders.terminal ≡ false) × (auditor.named ≡ Absent)
     × AreEndLines [] (lines_of auditor.ends) × (auditor.unfollowed.items ≡ [])
 
--- the lines stay those of the events, also after an event of this line by which that happened
+-- each event keeps its line, also after an event of this line
 abbrev pub KeepsEnds : Auditor → List Happening → (line : ℕ) → Auditor → Type 0
 KeepsEnds old happened line new =
     (before : List At) (event : At) → happenings_of event.trace_event ≡ happened → event.line ≡ line
@@ -65,7 +65,7 @@ Becomes old event new =
 abbrev pub has_swapped : Orders → Bool
 has_swapped orders = not orders.till && orders.terminal
 
--- the sum of what was booked, and how many payments are unclear
+-- the booked total, and the number of unclear payments
 pub record SumsUp (audited : AuditSummary) (found : Books) : Type 0 where
   pub total : audited.total ≡ total found.booked
   pub unclear : audited.unclear ≡ length found.unclear
@@ -81,7 +81,7 @@ AnswersBooks form log tally orders unfollowed currency lines passed old new (Err
 
 -- ---- an auditor as a listener
 
--- what it becomes by an event, and how it fails
+-- what an event makes of it, and how it fails
 abbrev pub hears : Hears Auditor
 hears old event new = Becomes old event new
 

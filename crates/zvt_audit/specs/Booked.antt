@@ -20,6 +20,6 @@ total rows = sum_by (λ row. row.amount) rows
 abbrev pub total_line : List Booked → List ℕ
 total_line rows = codes "total " ++ decimal (total rows) ++ 10 ∷ []
 
--- the payments that were completed, those of which it is not known whether they happened, and the sum of the former
+-- the completed payments, the unclear ones, and the sum of the completed ones
 abbrev pub books_text : Books → List ℕ
 books_text books = flat_map booked_line books.booked ++ flat_map unclear_line books.unclear ++ total_line books.booked

@@ -36,7 +36,7 @@ pub record HasAudited (r : Reading) (scope : Scope) (bytes : List ℕ) (audit : 
 abbrev pub IsAuditing : Audit → Type 0
 IsAuditing audit = IsReady audit.walker
 
--- What a fault says of the bytes over the last of which it came.
+-- What a fault says of the bytes up to the last one it read.
 abbrev pub HearingFaults : Reading → Scope → (bytes : List ℕ) → TraceFault → Type 0
 HearingFaults r scope bytes (Trace number what) = (events : List At) × BrokenTrace r scope (lines bytes) number what events
 HearingFaults r scope bytes TooLong = (events : List At) × IsTooLong r scope bytes events

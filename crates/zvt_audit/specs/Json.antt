@@ -50,7 +50,7 @@ with_currency (Some currency) later = member (codes "currency") (string (four_di
 abbrev pub summary_value : Tally → (currency : Option ℕ) → (total : ℕ) → Data
 summary_value tally currency total = object (member (codes "bad") (count_value tally.bad) (with_currency currency (member (codes "messages") (count_value tally.messages) (member (codes "total") (count_value total) no_members))))
 
--- what is written of rows, each with the line at which it ended
+-- a JSON line for each row, with the line of the trace where it ended
 abbrev pub rows_text : {A : Type 0} → (A → Option ℕ → List ℕ) → (ends : List ℕ) → List A → List ℕ
 rows_text text ends rows = flat_map (λ entry. text entry.1 (slice_get ends entry.0)) (enumerate_from 0 rows)
 

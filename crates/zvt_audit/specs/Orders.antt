@@ -12,7 +12,7 @@ use Rattle.zvt_trace.specs.declared.direction.Direction.TheVariants.{FromTill, F
 use Rattle.zvt_audit.specs.declared.orders.Orders.{Orders}
 use Rattle.zvt_audit.specs.declared.orders.UnfollowedOrder.{UnfollowedOrder}
 
--- a message by which a till, and no terminal, gives an order
+-- a message that gives an order, which only a till sends
 abbrev pub is_order : Message → Bool
 is_order (ack payload) = false
 is_order (nack code payload) = false

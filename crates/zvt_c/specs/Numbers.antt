@@ -45,12 +45,12 @@ abbrev pub outcome_of : Option Outcome → ZvtOutcome
 outcome_of None = coded 0 0
 outcome_of (Some outcome) = ended outcome
 
--- A step in which nothing is sent.
+-- A step that sends nothing.
 abbrev pub silent : (taken place reason : ℕ) → ZvtOutcome → ZvtStep
 silent taken place reason outcome =
     record { taken = taken; send = 0; place = place; line = 0; reason = reason; message = 0; printed = 0; outcome = outcome }
 
--- A step in which nothing is taken, sent or ended.
+-- A step that takes, sends and ends nothing.
 abbrev pub nothing : ZvtStep
 nothing = silent 0 0 0 (outcome_of None)
 

@@ -95,7 +95,7 @@ pub fn no_outcome() -> ZvtOutcome
     }
 }
 
-/// Returns a step in which nothing was taken, sent or ended.
+/// Returns a step that took, sent and ended nothing.
 pub fn no_step() -> ZvtStep
     ensures { result ≡ nothing }
 {

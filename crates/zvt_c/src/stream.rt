@@ -188,7 +188,7 @@ fn report(
     }
 }
 
-/// Returns a step in which nothing is sent.
+/// Returns a step that sends nothing.
 fn silent(taken: usize, place: usize, reason: u32, outcome: Option<Outcome>) -> ZvtStep
     ensures { result ≡ silent taken place reason (outcome_of outcome) }
 {

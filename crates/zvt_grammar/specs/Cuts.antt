@@ -8,7 +8,7 @@ Spelled spells bytes [] rest = bytes ≡ rest
 Spelled spells bytes (value ∷ values) rest =
     (prefix : List ℕ) × (later : List ℕ) × (bytes ≡ prefix ++ later) × spells value prefix × Spelled spells later values rest
 
--- The values of the bytes, and the rest, of which no spelling is a prefix.
+-- The values of the bytes, and the rest, which begins with no spelling.
 pub record Cut {V : Type 0} (spells : V → List ℕ → Type 0) (bytes : List ℕ) (values : List V) (rest : List ℕ) : Type 0 where
   pub spelled : Spelled spells bytes values rest
   pub none_whole : NoneWhole spells rest

@@ -17,7 +17,7 @@ file_may_leave device = may_leave_after device.calls.start device.calls.made
 abbrev pub IsNamed : List ℕ → Type 0
 IsNamed file = take 15 file ≡ codes "# zvt journal 1"
 
--- the bytes that the first append writes after the gate, for a currency with this many digits, each of which is `0`
+-- the bytes that the first append writes after the gate, for a currency of this many digits, all `0`
 -- here
 abbrev pub opening_behind : ℕ → List ℕ
 opening_behind digits = codes " zvt journal 1, currency " ++ replicate digits 48 ++ 10 ∷ 10 ∷ []
@@ -26,7 +26,7 @@ opening_behind digits = codes " zvt journal 1, currency " ++ replicate digits 48
 abbrev pub may_stand : ℕ → ℕ → Bool
 may_stand byte wanted = byte == 0 || byte == wanted || wanted == 48 && nat_le 48 byte && nat_le byte 57
 
--- a prefix of these bytes in which each byte is there or still 0
+-- a prefix of these bytes, with some bytes still 0
 abbrev pub is_part : List ℕ → List ℕ → Bool
 is_part [] wanted = true
 is_part (byte ∷ part) [] = false

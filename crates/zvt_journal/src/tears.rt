@@ -4,7 +4,7 @@ ghost use Rattle.zvt_journal.specs.Torn.{torn};
 
 use std::alloc::{AllocError, Global};
 
-/// The way in which a crash tears a write.
+/// How a crash tears a write.
 #[derive(Clone, Copy, Debug)]
 pub enum Tear {
     /// The bytes before the index are new.

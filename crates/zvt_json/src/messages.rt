@@ -20,7 +20,7 @@ use zvt_text::cursor::{Full, decimal, fixed, four_digits, push, word};
 use zvt_text::{command_name, kind_name, meaning, status_words};
 use zvt_trace::Direction;
 
-/// The sender of a message, the line of the trace in which it ends, and its size with the shortest lengths.
+/// The sender of a message, the line of the trace where it ends, and its size with the shortest lengths.
 #[derive(Clone, Copy, Drop)]
 pub(crate) struct Origin {
     pub from: Direction,

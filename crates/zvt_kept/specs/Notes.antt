@@ -26,7 +26,7 @@ is_moment text = fits moment_form text
 abbrev pub is_reference : List ℕ → Bool
 is_reference text = is_count 40 (length text) && list_all is_ascii_graphic text
 
--- ---- the words of a note, behind those of its order
+-- ---- the words of a note, after the words of its order
 
 -- a word behind its key, if there is one
 abbrev pub keyed : (key : List ℕ) → (word : Option (List ℕ)) → List ℕ

@@ -103,7 +103,7 @@ pub record NoMessage (r : Reading) (why : Difference) (unheard : List ℕ) (comi
   pub cut : unheard ++ read ≡ bytes ++ rest
   pub none : NoneOf r why bytes left
 
--- some bytes are unheard: the earlier ones, or those of one read
+-- some bytes are unheard: the earlier ones, or the bytes of one read
 pub record Fills (old : List ℕ) (coming : Option (List ℕ)) (new : List ℕ) (left : Option (List ℕ)) : Type 0 where
   pub read : List ℕ
   pub consumed : Consumes coming left read

@@ -84,7 +84,7 @@ payment_value currency number entry note =
     object (member (codes "amount") (count_value entry.amount) (with_time note (with_number currency number
     (with_receipt entry.receipt (with_reference note (with_reversals entry.reversed entry.doubt (with_trace (Some entry.trace) no_members)))))))
 
--- an entry, the number in the book by which it is reversed, and its note
+-- an entry, its number in the book, which a reversal names, and its note
 abbrev pub entry_value : (currency number : ℕ) → Entry → (note : Option (List ℕ)) → Data
 entry_value currency number entry note = object (member (codes "booked") (payment_value currency number entry note) no_members)
 
@@ -186,7 +186,7 @@ two_entries : entries_json 978 (entry_of None false No ∷ entry_of None false N
 unfolding digits escape_byte
 two_entries = refl
 
--- a time and a reference, in which JSON escapes a quotation mark
+-- a time and a reference, with its quotation mark escaped as JSON does
 noted : line_text (entry_value 978 1 (entry_of (Some (0x00 ∷ 0x01 ∷ [])) true No) (Some (codes " at 2026-11-28T09:14:03Z ref A\"9")))
     ≡ codes "{\"booked\":{\"amount\":1000,\"at\":\"2026-11-28T09:14:03Z\",\"currency\":\"0978\",\"number\":1,\"receipt\":\"0001\",\"ref\":\"A\\\"9\",\"reversed\":true,\"trace\":1}}\n"
 unfolding digits escape_byte encode_with

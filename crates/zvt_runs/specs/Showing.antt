@@ -1,4 +1,4 @@
--- The form in which the messages of a terminal are shown.
+-- How the messages of a terminal are shown.
 use Rattle.zvt_text.specs.declared.form.Form.{Form}
 use Rattle.zvt_text.specs.declared.form.Form.TheVariants as form
 use Rattle.zvt_show.specs.declared.render.Style.{Style}

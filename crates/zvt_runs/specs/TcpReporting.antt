@@ -19,7 +19,7 @@ approvals rows = count_by (λ row. is_none row.reverses) rows
 abbrev pub ledger_text : ℕ → List ℕ
 ledger_text approved = codes "; approvals in the ledger: " ++ decimal approved ++ 10 ∷ []
 
--- The text that a till disconnected is appended: its number, and how its connection failed, if it did.
+-- Appends that a till disconnected: its number, and why its connection failed, if it did.
 abbrev pub SaysGone : (till : ℕ) → Option LineFault → (old new : List ℕ) → Type 0
 SaysGone till None old new = new ≡ old ++ codes "zvt: till " ++ decimal till ++ codes " disconnected"
 SaysGone till (Some fault) old new = (why : List ℕ) × (new ≡ old ++ codes "zvt: connection of till " ++ decimal till ++ codes " failed: " ++ why)

@@ -51,7 +51,7 @@ MayWatch printing_fault (Some fault) walker pages = Unit {0}
 
 -- ---- the text
 
--- the fault by which a text stops, if there is one
+-- the fault that ends a text, if any
 abbrev pub first_fault : Option ListenerError → Option TraceFault → Option TraceFault
 first_fault (Some why) fault = Some (fault_of why)
 first_fault None fault = fault
@@ -88,7 +88,7 @@ HasToldBy None None hears r scope bytes start now walker = HearsRead hears r sco
 HasToldBy None (Some why) hears r scope bytes start now walker = Unit {0}
 HasToldBy (Some fault) failed hears r scope bytes start now walker = Unit {0}
 
--- the listener became that of what these lines of a trace say
+-- the listener heard what these lines of a trace say
 abbrev pub HasTold : {W L : Type 0} → Hears L → Reading → Scope → (trace : List ℕ) → (start : L) → Watching W L → Type 0
 HasTold hears r scope trace start one = HasToldBy one.fault one.beside_fault hears r scope trace start one.beside one.follower.walker
 

@@ -32,7 +32,7 @@ pub record IsFollowing (follower : Follower) : Type 0 where
   pub ready : IsReady follower.walker
   pub empty : follower.pages.block ≡ []
 
--- the device has besides the text of events of which that is so
+-- the device has, besides, the text of events with this property
 abbrev pub WritesText : Style → (List At → Type 0) → (first now : Option (List ℕ)) → Type 0
 WritesText style Says first now = (events : List At) × (text : List ℕ) × Says events × EventsText style events text × Appends first now text
 

@@ -24,11 +24,11 @@ abbrev pub refused_text : Style → Direction → ℕ → Why → List ℕ
 refused_text style from place why =
     marked (mark_of style) (direction_text from ++ codes " refused at " ++ decimal place ++ codes ": " ++ why_name why)
 
--- what is said of each piece after a refusal
+-- the text for each piece after a refusal
 abbrev pub stopped_text : Style → Direction → List ℕ
 stopped_text style from = marked (mark_of style) (direction_text from ++ codes " stopped")
 
--- what is said of a side that is read on after a refused message of that size
+-- the text for a side that is read on after a refused message of that size
 abbrev pub resumed_text : Style → Direction → (size : ℕ) → List ℕ
 resumed_text style from size = marked (mark_of style) (direction_text from ++ codes " resumed after " ++ decimal size ++ codes " bytes")
 

@@ -211,7 +211,7 @@ streams_text (suc r) (suc c) = counted (suc r) (codes "stream") ++ codes " refus
 abbrev pub summary_words : (messages refused cut_off : ℕ) → List ℕ
 summary_words n r c = codes "zvt: " ++ counted n (codes "message") ++ codes ", " ++ streams_text r c ++ 10 ∷ []
 
--- how many messages came, and how many streams were bad; nothing where none was
+-- the numbers of messages and of bad streams; nothing if no stream was bad
 abbrev pub summary_text : (messages refused cut_off : ℕ) → List ℕ
 summary_text n zero zero = []
 summary_text n zero (suc c) = summary_words n zero (suc c)

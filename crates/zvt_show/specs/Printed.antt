@@ -5,7 +5,7 @@ use Rattle.zvt_show.specs.Written.{FailsEvent, Page, WritesEvent, page}
 use Rattle.zvt_show.specs.declared.pages.Printer.{Printer}
 use Rattle.zvt_show.specs.declared.pages.Printing.{Printing}
 
--- what its device has, what is to be written there, and how many writes failed
+-- what its device has, what is still to be written there, and the number of failed writes
 abbrev pub printed : {W : Type 0} → (W → Option (List ℕ)) → (W → ℕ) → Printer W → Page
 printed written failures printer = page printer.pages.now.style (written printer.writer.now) printer.pages.now.block (failures printer.writer.now)
 
@@ -20,6 +20,6 @@ Prints written failures old event new = WritesEvent event (printed written failu
 abbrev pub FailsPrinting : {W : Type 0} → (W → Option (List ℕ)) → (W → ℕ) → Fails (Printer W)
 FailsPrinting written failures old event why new = FailsEvent why (printed written failures old) (printed written failures new) × IsSamePrinter old new
 
--- what the device of a printing has, what is to be written there, and how many writes failed
+-- what the device of a printing has, what is still to be written there, and the number of failed writes
 abbrev pub printing_page : {W : Type 0} → (W → Option (List ℕ)) → (W → ℕ) → Printing W → Page
 printing_page written failures printing = page printing.pages.style (written printing.output) printing.pages.block (failures printing.output)

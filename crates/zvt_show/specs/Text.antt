@@ -35,7 +35,7 @@ joined from bytes = direction_text from ++ 32 ∷ encode_upper bytes ++ 10 ∷ [
 abbrev pub print_lines : ReceiptOptions
 print_lines = record { text_blocks = false; codepage = None }
 
--- the receipt lines of a message of the terminal; those of a text block only if the options say so
+-- the receipt lines in a message of the terminal: a print line, or a text block if the options include them
 abbrev pub printed : ReceiptOptions → Message → List ℕ
 printed options (ack payload) = []
 printed options (nack code payload) = []

@@ -27,13 +27,13 @@ pub record AddsMessage (style : Style) (from : Direction) (message : Message) (o
   pub says : MessageText style from message one
   pub grown : new ≡ old ++ one
 
--- the text grew by that of an event, in a style that writes no JSON
+-- the text grew by the text of an event, in a style that writes no JSON
 pub record AddsPlain (style : Style) (trace_event : TraceEvent) (old new : List ℕ) : Type 0 where
   pub one : List ℕ
   pub says : PlainText style trace_event one
   pub grown : new ≡ old ++ one
 
--- the text grew by that of the event
+-- the text grew by the text of the event
 pub record AddsEvent (style : Style) (event : At) (old new : List ℕ) : Type 0 where
   pub one : List ℕ
   pub says : EventText style event one
@@ -58,7 +58,7 @@ abbrev pub after : Option (List ℕ) → List ℕ → Option (List ℕ)
 after None block = None
 after (Some bytes) block = Some (bytes ++ block)
 
--- what the device has, what is to be written, and how many writes failed
+-- what the device has, what is still to be written, and the number of failed writes
 pub record Page : Type 0 where
   pub style : Style
   pub written : Option (List ℕ)

@@ -12,11 +12,11 @@ use zvt_field::FieldsView;
 use zvt_text::{Codepage, Text, text_block};
 use zvt_trace::{Direction, TraceEvent};
 
-/// What is written of receipts, and how.
+/// Which receipts are written, and in which characters.
 #[derive(Clone, Copy, Debug, PartialEq, Eq)]
 pub struct ReceiptOptions {
-    /// Whether the lines of text blocks are written too. A line such as `# merchant receipt` comes before those of a
-    /// block that names the type of its receipt.
+    /// Whether the lines of text blocks are written too. A block that names the type of its receipt begins with a line
+    /// such as `# merchant receipt`.
     pub text_blocks: bool,
     /// The code page of the text. Without one, bytes that are not ASCII are written as escapes.
     pub codepage: Option<Codepage>,

@@ -32,7 +32,7 @@ IsRefusedIn r bytes place why = NoneWholeIn r bytes × PlaceIn r bytes place × 
 abbrev pub SpelledIn : Reading → List ℕ → List Message → (rest : List ℕ) → Type 0
 SpelledIn r = cuts.Spelled (grammar.Spells r)
 
--- The messages of the bytes, and the rest, of which no message is a prefix.
+-- The messages of the bytes, and the rest, which begins with no message.
 abbrev pub CutIn : Reading → List ℕ → List Message → (rest : List ℕ) → Type 0
 CutIn r = cuts.Cut (grammar.Spells r)
 
@@ -64,6 +64,6 @@ IsRefused = IsRefusedIn shortest
 abbrev pub Spelled : List ℕ → List Message → (rest : List ℕ) → Type 0
 Spelled = SpelledIn shortest
 
--- The messages of the bytes, and the rest, of which no message is a prefix.
+-- The messages of the bytes, and the rest, which begins with no message.
 abbrev pub Cut : List ℕ → List Message → (rest : List ℕ) → Type 0
 Cut = CutIn shortest

@@ -18,7 +18,7 @@ abbrev pub FedPieces : StreamState → List (List ℕ) → List Message → Stre
 FedPieces old [] messages new = (messages ≡ []) × (new ≡ old)
 FedPieces old (piece ∷ pieces) messages new = (here : List Message) × (later : List Message) × (middle : StreamState) × (messages ≡ here ++ later) × FedWhole old piece here middle × FedPieces middle pieces later new
 
--- However a line is cut into pieces, the messages are those of its bytes.
+-- However a line is cut into pieces, its bytes decide its messages.
 abbrev pub AnyCutting : Type 0
 AnyCutting = (start : StreamState) (pieces : List (List ℕ)) (messages : List Message) (new : StreamState) → Holds [] start → FedPieces start pieces messages new → CutIn start.reading (concat pieces) messages new.held
 

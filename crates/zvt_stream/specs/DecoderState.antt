@@ -105,7 +105,7 @@ depth_of [] = 0
 depth_of (k ∷ []) = 0
 depth_of (k ∷ j ∷ ks) = suc (depth_of (j ∷ ks))
 
--- The innermost level has `room` bytes, of which these have arrived. The levels around it are listed from the inside out.
+-- The innermost level has `room` bytes, and these of them have arrived. The levels around it are listed from the inside out.
 abbrev pub Level : Reading → List ℕ → (outer : List ℕ) → (room : ℕ) → (inside : List ℕ) → Type 0
 Level r bytes [] room inside = ⊥
 Level r bytes (k ∷ []) room inside = (k ≡ 0) × Fields r room inside bytes

@@ -23,12 +23,12 @@ pub data OpenItem : Type 0 where
   read : (message : Message) → OpenItem
   unread : (high low size place byte : ℕ) → (why : Why) → OpenItem
 
--- The bytes are those of the item.
+-- The bytes spell the item.
 abbrev pub OpenSpells : Reading → OpenItem → List ℕ → Type 0
 OpenSpells r (read message) bytes = Spells r message bytes
 OpenSpells r (unread high low size place byte why) bytes = IsFrame high low bytes × (size ≡ length bytes) × IsRefusedIn r bytes place why × (slice_get bytes place ≡ Some byte)
 
--- The items of a line, and the rest, in which no frame is complete.
+-- The items of a line, and the rest, which has no complete frame.
 abbrev pub OpenCutIn : Reading → List ℕ → List OpenItem → (rest : List ℕ) → Type 0
 OpenCutIn r = cuts.Cut (OpenSpells r)
 

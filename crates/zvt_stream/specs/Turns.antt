@@ -24,7 +24,7 @@ pub record Turned {S : Type 0} (step : S → Message → Answered → S → Type
   pub some_read : 0 < length pumped.read
   pub sending : new.sent ≡ (old.sent || sent)
 
--- This many turns, after none of which the condition held.
+-- This many turns. The condition held after none of them.
 abbrev pub Waited : {S : Type 0} → (S → Message → Answered → S → Type 0) → (S → Bool) → Until → ℕ → LineState S → LineState S → Type 0
 Waited step resting until zero old new = old ≡ new
 Waited {S} step resting until (suc n) old new = (middle : LineState S) × Waited step resting until n old middle × Turned step middle new × (reached until (resting new.machine) new.sent ≡ false)

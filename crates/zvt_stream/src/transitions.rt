@@ -24,7 +24,7 @@ pub(crate) enum Part {
     FirstSize,
     LowSize,
     HighSize,
-    /// A byte of data in which no fields stand.
+    /// A byte of data without fields.
     Payload,
     /// A byte before the fields.
     Head,

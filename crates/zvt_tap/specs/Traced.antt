@@ -1,4 +1,4 @@
--- What the trace of a line has, and how it fails.
+-- The contents of the trace of a line, and how writing it fails.
 use Rattle.std.specs.Prelude.{◌≡◌, ◌⊎◌, ◌<◌, ◌≤◌, ◌++◌, ◌&&◌, [], ℕ, Bool, true, false, List, Option, None, Some}
 use Rattle.std.specs.Io.KnownBytes.{Appends}
 use Rattle.zvt_io.specs.Devices.{IsPrefix}
@@ -45,7 +45,7 @@ is_stopped tracing = tracing.failed && tracing.required
 abbrev pub GoesOn : {T : Type 0} → (T → Option (List ℕ)) → (T → ℕ) → (old : Tracing T) → (text : List ℕ) → (new : Tracing T) → Type 0
 GoesOn written failures old text new = TracesOn written failures old text new × (is_stopped new ≡ false)
 
--- the line has to end: there was no memory for the text, of which nothing was written; or the trace can't be written
+-- the line has to end: there was no memory for the text, and none of it was written; or the trace can't be written
 abbrev pub Stops : {T : Type 0} → (T → Option (List ℕ)) → (T → ℕ) → (old : Tracing T) → (text : List ℕ) → ListenerError → (new : Tracing T) → Type 0
 Stops written failures old text Memory new = TracesOn written failures old [] new
 Stops written failures old text Write new = TracesOn written failures old text new × (is_stopped new ≡ true)

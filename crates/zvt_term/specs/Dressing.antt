@@ -34,7 +34,7 @@ card_fields Visa =
     ∷ plain 0x8B (codes "Visa" ++ 0 ∷ [])
     ∷ []
 
--- the fields of a card come after those of a status
+-- a status, and then the fields of the card
 abbrev pub with_fields : List Field → Message → Message
 with_fields more (status fields) = status (fields ++ more)
 with_fields more message = message

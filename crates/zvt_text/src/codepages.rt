@@ -40,7 +40,7 @@ pub(crate) fn decode(
     }
 }
 
-/// Writes the characters of bytes. `characters` has those of the bytes from 80 on.
+/// Writes the characters of bytes. `characters` has the characters of bytes 80 to FF.
 fn decode_by(
     buffer: &mut [u8],
     at: usize,

@@ -34,7 +34,7 @@ books_value found = record { booked = rows_value found.booked.items; unclear = f
 abbrev pub as_book : List Booked → List Entry
 as_book rows = map (entry_of false No) rows
 
--- the used trace numbers are those of the rows
+-- the used trace numbers are the numbers of the rows
 abbrev pub KnowsTraces : BooksFound → Type 0
 KnowsTraces found = AreTracesOf found.used (as_book (rows_value found.booked.items))
 

@@ -125,7 +125,7 @@ codepage_by = option_and_then codepage_named
 abbrev pub receipt_options : (text_blocks : Bool) → Option Codepage → ReceiptOptions
 receipt_options text_blocks codepage = record { text_blocks = text_blocks; codepage = codepage }
 
--- the lines of receipts, those of text blocks too if that flag is set, in the named code page
+-- the lines of receipts in the named code page, with text blocks if that flag is set
 abbrev pub IsReceipts : List Row → TraceCommand → Type 0
 IsReceipts rows command =
     IsByFlag (codes "text-blocks") rows

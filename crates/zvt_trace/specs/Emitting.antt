@@ -82,7 +82,7 @@ told line from (running bytes) events = events
 told line from (skipping size left) events = or_unread line from events
 told line from stopped events = or_unread line from events
 
--- The events of a piece: those of its bytes, or that it is not read.
+-- The events of a piece: what its bytes say, or that it is not read.
 pub record PieceEmits (r : Reading) (scope : Scope) (line : ℕ) (from : Direction) (side : Side) (bytes : List ℕ) (events : List At) (after : Side) : Type 0 where
   pub own : List At
   pub passes : Passes r scope line from side bytes own after

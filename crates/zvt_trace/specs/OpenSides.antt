@@ -56,7 +56,7 @@ pub data RestFacts (r : Reading) (from : Direction) (rest : List ℕ) (facts : L
   begun : AliveIn r rest → facts ≡ [] → RestFacts r from rest facts
   refused : (place byte : ℕ) (why : Why) → IsRefusedIn r rest place why → slice_get rest place ≡ Some byte → facts ≡ trace_event.refused from (head_of rest) byte place why ∷ [] → RestFacts r from rest facts
 
--- The events are those of the open cut of the bytes.
+-- The events report the open cut of the bytes.
 pub record HearsCut (r : Reading) (from : Direction) (bytes : List ℕ) (events : List At) : Type 0 where
   pub items : List OpenItem
   pub rest : List ℕ

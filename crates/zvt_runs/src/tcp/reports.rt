@@ -170,7 +170,7 @@ fn report_text<W: Sink>(text: &Text, report: &mut W)
     let _ = report.write_all(text.bytes());
 }
 
-/// Adds that the till of this number disconnected, and how its connection failed, if it did.
+/// Adds that the till of this number disconnected, and why its connection failed, if it did.
 fn say_gone(
     alloc: Global,
     text: &mut Text,
