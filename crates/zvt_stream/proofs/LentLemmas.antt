@@ -1,7 +1,7 @@
 -- What is borrowed is what the bytes spell.
-use Rattle.std.proofs.Common.{◌≡◌, ℕ, ◌+◌, Bool, true, false, Option, Some, None, IfSome, List, [], ◌++◌, length, take, append-nil, sym, ◌∙◌, ap, subst, refl}
+use Rattle.std.proofs.Common.{◌≡◌, ℕ, suc, ◌+◌, Bool, true, false, Option, Some, None, IfSome, List, [], ◌++◌, length, take, append-nil, arith, sym, ◌∙◌, ap, subst, refl, suc}
 use Rattle.std.proofs.Math.Logic.{∥∥₁_elim}
-use Rattle.std.proofs.Math.Seq.{take-length}
+use Rattle.std.proofs.Math.Seq.{take-append-add, take-length}
 use Rattle.std.specs.Coded.{Coded-set}
 use Rattle.zvt_grammar.specs.Reading.{Reading, shortest, padded}
 use Rattle.zvt_apdu.specs.Message.{Message}
@@ -14,7 +14,7 @@ use Rattle.zvt_stream.specs.Apdus.{UnfinishedIn}
 use Rattle.zvt_stream.specs.Feeds.{Feeds, Lends}
 use Rattle.zvt_stream.specs.Judge.{JudgeState, IsMessageIn, Ran, StandsFor, start}
 use Rattle.zvt_stream.specs.Lending.{LentBytes, lent_of, held_of}
-use Rattle.zvt_stream.specs.StreamState.{StreamState, IsSound, Keeps}
+use Rattle.zvt_stream.specs.StreamState.{StreamState, IsSound, Keeps, opening_of}
 use Rattle.zvt_stream.specs.declared.stream.Fed.TheVariants as fed
 use Rattle.zvt_stream.specs.declared.stream.FedView.TheVariants as view
 use Rattle.zvt_stream.specs.declared.judge.DecodeRun.{DecodeRun}
@@ -63,13 +63,13 @@ pub record Idle (has_message : Bool) (bytes : List ℕ) (judge : JudgeState) (ol
   pub stands : StandsFor judge bytes
   pub alike : judge.reading ≡ old.reading
 
-pub idle : (has_message stopped : Bool) (bytes : List ℕ) (s : LentBytes has_message bytes) (room judged : ℕ) (judge : JudgeState) (old now : StreamState)
-    → (let state : StreamState = record { held = held_of has_message bytes; stopped = stopped; lent = lent_of has_message bytes s; room = room; judged = judged; reading = judge.reading } in state) ≡ now → Keeps old now
+pub idle : (has_message stopped : Bool) (bytes : List ℕ) (s : LentBytes has_message bytes) (room judged : ℕ) (judge : JudgeState) (opening : List ℕ) (old now : StreamState)
+    → (let state : StreamState = record { held = held_of has_message bytes; stopped = stopped; lent = lent_of has_message bytes s; room = room; judged = judged; reading = judge.reading; opening = opening } in state) ≡ now → Keeps old now
     → IsSound judge.reading (held_of has_message bytes) stopped × StandsFor judge (held_of has_message bytes) × (has_message ≡ true → IsMessageIn judge.reading bytes) → Idle has_message bytes judge old
-idle false stopped bytes s room judged judge old now is keeps sound =
+idle false stopped bytes s room judged judge opening old now is keeps sound =
     let alike : judge.reading ≡ old.reading = ap (λ (t : StreamState). t.reading) is ∙ keeps.3 in
     record { idle = refl; is_held = ap (λ (t : StreamState). t.held) is ∙ keeps.0; unfinished = subst (λ (r : Reading). UnfinishedIn r bytes) alike sound.0.unfinished; stands = sound.1; alike = alike }
-idle true stopped bytes s room judged judge old now is keeps sound = absurd (some_is_none (ap (λ (t : StreamState). t.lent) is ∙ keeps.2))
+idle true stopped bytes s room judged judge opening old now is keeps sound = absurd (some_is_none (ap (λ (t : StreamState). t.lent) is ∙ keeps.2))
   where
     some_is_none : {m : Message} → Some m ≡ None → ⊥
     some_is_none e = cc
@@ -98,29 +98,32 @@ lending r stopped bytes judge runs e whole =
     (new.0, new.1, λ lent. subst (λ (k : Reading). IsMessageIn k bytes) (sym (ap (λ (j : JudgeState). j.reading) e)) whole)
 
 -- what a feed gives where no message ended
-pub feeds_more : (has_message stopped : Bool) (bytes piece after : List ℕ) (lent : Option Message) (room judged : ℕ) (judge new : JudgeState) (old : StreamState)
+pub feeds_more : (has_message stopped : Bool) (bytes piece after : List ℕ) (lent : Option Message) (room judged : ℕ) (judge new : JudgeState) (opening : List ℕ) (old : StreamState)
     → Idle has_message bytes judge old → StandsFor new (bytes ++ piece) × (new.reading ≡ old.reading) → after ≡ bytes ++ piece → stopped ≡ false
-    → Feeds old piece fed.More (let state : StreamState = record { held = held_of has_message after; stopped = stopped; lent = lent; room = room; judged = judged; reading = new.reading } in state)
-feeds_more false stopped bytes piece after lent room judged judge new old i s is runs =
+    → Feeds old piece fed.More (let state : StreamState = record { held = held_of has_message after; stopped = stopped; lent = lent; room = room; judged = judged; reading = new.reading; opening = opening } in state)
+feeds_more false stopped bytes piece after lent room judged judge new opening old i s is runs =
     let same : bytes ++ piece ≡ old.held ++ piece = ap (λ (b : List ℕ). b ++ piece) i.is_held in
     (subst (UnfinishedIn old.reading) same (subst (λ (r : Reading). UnfinishedIn r (bytes ++ piece)) s.1 s.0.unfinished), (is ∙ same, runs), s.1)
-feeds_more true stopped bytes piece after lent room judged judge new old i s is runs = absurd (cc (i.idle))
+feeds_more true stopped bytes piece after lent room judged judge new opening old i s is runs = absurd (cc (i.idle))
+
+up_to : (at : ℕ) (bytes piece : List ℕ) → bytes ++ take (at + 1) piece ≡ take (suc (length bytes + at)) (bytes ++ piece)
+up_to at bytes piece = sym (take-append-add bytes piece (at + 1)) ∙ ap (λ (n : ℕ). take n (bytes ++ piece)) {y = suc (length bytes + at)} (omega arith)
 
 -- and where bytes were refused
-pub feeds_refused : (has_message : Bool) (bytes piece after : List ℕ) (lent : Option Message) (room judged at place : ℕ) (why : Why) (judge new : JudgeState) (old : StreamState)
-    → Idle has_message bytes judge old → Ran old.reading bytes piece (run.Refused at why) new → place ≡ length bytes + at → after ≡ []
-    → Feeds old piece (fed.Refused place why) (let state : StreamState = record { held = held_of has_message after; stopped = true; lent = lent; room = room; judged = judged; reading = new.reading } in state)
-feeds_refused false bytes piece after lent room judged at place why judge new old i ran is none =
+pub feeds_refused : (has_message : Bool) (bytes piece after : List ℕ) (lent : Option Message) (room judged at place : ℕ) (why : Why) (judge new : JudgeState) (opening : List ℕ) (old : StreamState)
+    → Idle has_message bytes judge old → Ran old.reading bytes piece (run.Refused at why) new → place ≡ length bytes + at → after ≡ [] → opening ≡ opening_of (bytes ++ take (at + 1) piece)
+    → Feeds old piece (fed.Refused place why) (let state : StreamState = record { held = held_of has_message after; stopped = true; lent = lent; room = room; judged = judged; reading = new.reading; opening = opening } in state)
+feeds_refused false bytes piece after lent room judged at place why judge new opening old i ran is none opens =
     let out = ran_out old.reading new bytes piece at why i.unfinished ran in
     let alike : new.reading ≡ old.reading = ap (λ (j : JudgeState). j.reading) ran.2 in
-    rw (← i.is_held, is) (out.0, out.1, (none, refl), alike)
-feeds_refused true bytes piece after lent room judged at place why judge new old i ran is none = absurd (cc (i.idle))
+    rw (← i.is_held, is) (out.0, out.1, (none, refl), alike, opens ∙ ap opening_of (up_to at bytes piece))
+feeds_refused true bytes piece after lent room judged at place why judge new opening old i ran is none opens = absurd (cc (i.idle))
 
 -- and where a message ended, which is borrowed
-pub lends_message : (stopped : Bool) (bytes piece after : List ℕ) (s : LentBytes true after) (room judged taken : ℕ) (judge new : JudgeState) (has_message : Bool) (old : StreamState)
+pub lends_message : (stopped : Bool) (bytes piece after : List ℕ) (s : LentBytes true after) (room judged taken : ℕ) (judge new : JudgeState) (opening : List ℕ) (has_message : Bool) (old : StreamState)
     → Idle has_message bytes judge old → Ran old.reading bytes piece (run.Ended taken) new → after ≡ bytes ++ take taken piece → stopped ≡ false
-    → Lends old piece (view.Message taken) (let state : StreamState = record { held = []; stopped = stopped; lent = lent_of true after s; room = room; judged = judged; reading = new.reading } in state)
-lends_message stopped bytes piece after s room judged taken judge new has_message old i ran is runs =
+    → Lends old piece (view.Message taken) (let state : StreamState = record { held = []; stopped = stopped; lent = lent_of true after s; room = room; judged = judged; reading = new.reading; opening = opening } in state)
+lends_message stopped bytes piece after s room judged taken judge new opening has_message old i ran is runs =
     let r = old.reading in
     let whole : IsMessageIn r after = subst (IsMessageIn r) (sym is) ran.2 in
     let spells : Spells r whole.0 (old.held ++ take taken piece) = subst (Spells r whole.0) (is ∙ ap (λ (b : List ℕ). b ++ take taken piece) i.is_held) whole.1 in
@@ -142,3 +145,7 @@ kept_first bytes piece old new taken is same = is ∙ ap (λ (b : List ℕ). b +
 
 pub kept_none : (bytes piece old new : List ℕ) → new ≡ old ++ take 0 piece → old ≡ bytes → new ≡ bytes
 kept_none bytes piece old new is same = is ∙ append-nil old ∙ same
+
+-- the first bytes of a refused message
+pub opens_by : (bytes piece held last : List ℕ) (opening : List ℕ) (at : ℕ) → opening ≡ opening_of (held ++ last) → held ≡ bytes → last ≡ take (at + 1) piece → opening ≡ opening_of (bytes ++ take (at + 1) piece)
+opens_by bytes piece held last opening at opens is rest = opens ∙ ap (λ (b : List ℕ). opening_of (b ++ last)) is ∙ ap (λ (l : List ℕ). opening_of (bytes ++ l)) rest

@@ -156,6 +156,13 @@ impl Held {
         self.size
     }
 
+    /// Returns the bytes.
+    pub(crate) fn bytes(&self) -> &[u8]
+        ensures { result.now ≡ self.now.bytes }
+    {
+        &self.room[..self.size]
+    }
+
     /// Returns the bytes of a complete message.
     #[inline(always)]
     pub fn spelled(&self) -> &[u8]

@@ -9,7 +9,7 @@ ghost use Rattle.zvt_grammar.specs.Reading.{padded, shortest};
 ghost use Rattle.zvt_grammar.specs.Lengths.{reading_of};
 ghost use Rattle.zvt_apdu.specs.Grammar.{Spells};
 ghost use Rattle.zvt_stream.specs.Apdus.{UnfinishedIn};
-ghost use Rattle.zvt_stream.specs.StreamState.{at_start, start_in, Holds, Keeps, IsReserved};
+ghost use Rattle.zvt_stream.specs.StreamState.{at_start, opening_of, start_in, Holds, Keeps, IsReserved};
 ghost use Rattle.zvt_stream.specs.Lending.{LentBytes, lent_once};
 ghost use Rattle.zvt_stream.specs.Feeds.{Feeds, Lends, taken_by, taken_in_view};
 ghost use Rattle.zvt_stream.specs.Head.{head_of};
@@ -18,6 +18,7 @@ ghost use Rattle.zvt_stream.specs.Judge.{HasLevelsIn, IsMessageIn, judged_of};
 use crate::buffer::Held;
 use crate::head::Head;
 use crate::judge::{DecodeRun, Judge, Steps};
+use arrayvec::ArrayVec;
 use std::alloc::{AllocError, Global};
 use std::marker::Model;
 use thiserror::Error;
@@ -88,6 +89,7 @@ pub struct Stream {
     steps: Steps,
     pub(crate) stopped: bool,
     pub(crate) has_message: bool,
+    opening: ArrayVec<u8, 5>,
     ghost spelled: { LentBytes has_message held.bytes } by { lent_once has_message held.bytes },
 }
 
@@ -108,6 +110,7 @@ impl Model for Stream {
       room = s.held.room;
       judged = judged_of s.steps;
       reading = s.judge.reading;
+      opening = s.opening.items;
     } };
 
     ghost invariant = { λ s. IsSound s.judge.reading (held_of s.has_message s.held.bytes) s.stopped
@@ -140,6 +143,7 @@ impl Stream {
             steps: Steps::new(),
             stopped: false,
             has_message: false,
+            opening: ArrayVec::new(),
         }
     }
 
@@ -236,6 +240,7 @@ impl Stream {
             }
             DecodeRun::Refused { at, why } => {
                 let place = self.held.len() + at;
+                self.opening = opening(self.held.bytes(), &piece[..at + 1]);
                 self.held.cut(0);
                 self.judge = judge;
                 self.stopped = true;
@@ -270,11 +275,20 @@ impl Stream {
             }
             DecodeRun::Refused { at, why } => {
                 let place = self.held.len() + at;
+                self.opening = opening(self.held.bytes(), &piece[..at + 1]);
                 self.held.cut(0);
                 self.stopped = true;
                 Ok(FedView::Refused { place, why })
             }
         }
+    }
+
+    /// Returns the first bytes of the refused message, at most five, which tell its control bytes and its size. There
+    /// are none before a refusal.
+    pub fn opening(&self) -> &[u8]
+        ensures { result.now ≡ self.now.opening }
+    {
+        self.opening.as_slice()
     }
 
     /// Checks that the input does not end in the middle of a message. Always succeeds after a refusal, because the
@@ -321,6 +335,27 @@ impl Stream {
             self.judge.levels()
         }
     }
+}
+
+/// Returns the first bytes of a message, at most five. `last` is the part of it that arrived last.
+#[cold]
+#[inline(never)]
+fn opening(held: &[u8], last: &[u8]) -> ArrayVec<u8, 5>
+    ensures { result.items ≡ opening_of (held.now ++ last.now) }
+{
+    let mut first = ArrayVec::new();
+    add(&mut first, held);
+    add(&mut first, last);
+    first
+}
+
+/// Adds the next bytes of a message to its first ones, up to five.
+fn add(first: &mut ArrayVec<u8, 5>, bytes: &[u8])
+    ensures { (held : List ℕ) → first.old.items ≡ opening_of held → first.new.items ≡ opening_of (held ++ bytes.now) }
+{
+    let room = first.remaining_capacity();
+    let count = bytes.len().min(room);
+    let _ = first.try_extend_from_slice(&bytes[..count]);
 }
 
 /// Takes the message out of the buffer. If an allocation fails, the first `before` bytes stay.

@@ -10,7 +10,7 @@ use Rattle.zvt_apdu.specs.Grammar.{Spells}
 use Rattle.zvt_apdu.specs.Message.{Message}
 use Rattle.zvt_stream.proofs.Beginnings.{nothing_in}
 use Rattle.zvt_stream.specs.Apdus.{IsRefusedIn, UnfinishedIn}
-use Rattle.zvt_stream.specs.StreamState.{StreamState, HasRefused, Holds, Keeps}
+use Rattle.zvt_stream.specs.StreamState.{StreamState, HasRefused, Holds, Keeps, opening_of}
 use Rattle.zvt_stream.specs.Head.{head_of}
 use Rattle.zvt_stream.specs.declared.head.Head.{Head}
 use Rattle.zvt_trace.specs.Listening.{BytesBegin, EmitsEnd, EmitsRest, Fails, FailsIn, Hears, HearsAll, HearsBytes, HearsEnd, StaysSilent, counted_in}
@@ -19,7 +19,7 @@ use Rattle.zvt_trace.specs.TraceEvent as trace_event
 use Rattle.zvt_trace.specs.Emitting.{PartEmits, PrefixOf, SideEnds}
 use Rattle.zvt_trace.specs.Resuming.{IsWithin, announced, refused_size, resuming_events, side_refused, side_skipping, skipping_events}
 use Rattle.zvt_trace.specs.Trace.{Side, begun, refused, running, skipping, stopped}
-use Rattle.zvt_trace.specs.Written.{Follows, IsOpening, Skips, SkipsTo, StreamFollows, is_everything, skipped_by}
+use Rattle.zvt_trace.specs.Written.{Follows, Skips, SkipsTo, StreamFollows, is_everything, skipped_by}
 use Rattle.zvt_trace.specs.declared.direction.Direction.{Direction}
 use Rattle.zvt_trace.specs.declared.listener.ListenerError.{ListenerError}
 use Rattle.zvt_trace.specs.declared.listener.Scope.{Scope}
@@ -46,17 +46,17 @@ message_emits {r = r} scope line from before part reader m follows spells = reco
 }
 
 pub hears_message : {S : Type 0} {r : Reading} (hears : Hears S) (scope : Scope) (line : ℕ) (from : Direction) (part : List ℕ) (reader next : SideReader) (m : Message) (now new : S) → 0 < length part → reader.stream.stopped ≡ false → Spells r m (reader.stream.held ++ part)
-    → Holds [] next.stream → IsOpening next.opening [] → next.skipped ≡ reader.skipped → hears now (on line (message from m)) new → (side : Side) → Follows r reader side → HearsBytes r hears scope line from side part next true now new
+    → Holds [] next.stream → next.skipped ≡ reader.skipped → hears now (on line (message from m)) new → (side : Side) → Follows r reader side → HearsBytes r hears scope line from side part next true now new
 unfolding message_emits
-hears_message hears scope line from part reader next m now new long going spells is_next opens same heard stopped follows = absurd (false≢true (sym going ∙ (follows.0).1))
-hears_message hears scope line from part reader next m now new long going spells is_next opens same heard (skipping size left) follows = absurd (false≢true (sym going ∙ (follows.0).1))
-hears_message {r = r} hears scope line from part reader next m now new long going spells is_next opens same heard (running before) follows =
+hears_message hears scope line from part reader next m now new long going spells is_next same heard stopped follows = absurd (false≢true (sym going ∙ (follows.0).1))
+hears_message hears scope line from part reader next m now new long going spells is_next same heard (skipping size left) follows = absurd (false≢true (sym going ∙ (follows.0).1))
+hears_message {r = r} hears scope line from part reader next m now new long going spells is_next same heard (running before) follows =
     let emits = message_emits scope line from before part reader m follows spells in record {
       events = on line (message from m) ∷ [];
       after = running (before ++ part);
       passes = one_part r scope line from (running before) (running (before ++ part)) part (on line (message from m) ∷ []) emits;
       heard = hears_one hears (on line (message from m)) now new heard;
-      follows = (goes_on_with before part [] next.stream (m ∷ []) begun emits.arrives is_next, (same ∙ (follows.1).0, opens ∙ ap (λ (held : List ℕ). take 5 held) (sym is_next.0)));
+      follows = (goes_on_with before part [] next.stream (m ∷ []) begun emits.arrives is_next, same ∙ follows.1);
       few = long;
       some = refl;
     }
@@ -72,11 +72,11 @@ fails_message {r = r} hears fails why scope line from part reader m now new goin
 -- ---- the beginning of a message
 
 pub hears_more : {S : Type 0} {r : Reading} (hears : Hears S) (scope : Scope) (line : ℕ) (from : Direction) (part : List ℕ) (reader next : SideReader) (now : S) → reader.stream.stopped ≡ false → UnfinishedIn r (reader.stream.held ++ part)
-    → Holds (reader.stream.held ++ part) next.stream → ((held : List ℕ) → IsOpening reader.opening held → IsOpening next.opening (held ++ part)) → next.skipped ≡ reader.skipped
+    → Holds (reader.stream.held ++ part) next.stream → next.skipped ≡ reader.skipped
     → (side : Side) → Follows r reader side → HearsBytes r hears scope line from side part next false now now
-hears_more hears scope line from part reader next now going unfinished is_next opens same stopped follows = absurd (false≢true (sym going ∙ (follows.0).1))
-hears_more hears scope line from part reader next now going unfinished is_next opens same (skipping size left) follows = absurd (false≢true (sym going ∙ (follows.0).1))
-hears_more {r = r} hears scope line from part reader next now going unfinished is_next opens same (running before) follows =
+hears_more hears scope line from part reader next now going unfinished is_next same stopped follows = absurd (false≢true (sym going ∙ (follows.0).1))
+hears_more hears scope line from part reader next now going unfinished is_next same (skipping size left) follows = absurd (false≢true (sym going ∙ (follows.0).1))
+hears_more {r = r} hears scope line from part reader next now going unfinished is_next same (running before) follows =
     let arrives = arrived before part (reader.stream.held ++ part) reader.stream [] begun follows.0 refl unfinished.none_whole unfinished.alive in
     let emits : PartEmits r scope line from (running before) part [] (running (before ++ part)) = record { messages = []; rest = reader.stream.held ++ part; ending = begun; arrives = arrives; within = tt; is_all = refl; is_after = refl } in record {
       events = [];
@@ -85,7 +85,7 @@ hears_more {r = r} hears scope line from part reader next now going unfinished i
       heard = refl;
       follows = (
         goes_on_with before part (reader.stream.held ++ part) next.stream [] begun arrives is_next,
-        (same ∙ (follows.1).0, opens reader.stream.held (follows.1).1 ∙ ap (λ (held : List ℕ). take 5 held) (sym is_next.0)),
+        same ∙ follows.1,
       );
       few = omega arith;
       some = refl;
@@ -125,23 +125,23 @@ ends_refusal {S = S} r hears fails line from None come reader next now new answe
 ends_refusal r hears fails line from (Some size) come reader next now new (Ok any) gone is rest all = let ended = rest size (size - come) (gone, is) in (ended.0, ended.1)
 ends_refusal r hears fails line from (Some size) come reader next now new (Err why) gone is rest all = rest size (size - come) (gone, is)
 
-pub hears_refused : {S : Type 0} {r : Reading} (hears : Hears S) (fails : Fails S) (scope : Scope) (line : ℕ) (from : Direction) (part : List ℕ) (reader next : SideReader) (place : ℕ) (why : Why) (now middle new : S) (any : Bool) → 0 < length part → reader.stream.stopped ≡ false
-    → IsRefusedIn r (reader.stream.held ++ part) place why → suc place ≡ length (reader.stream.held ++ part) → ((held : List ℕ) → IsOpening reader.opening held → suc place ≡ length (held ++ part) → hears now (refusal_event line from (held ++ part) place why) middle)
-    → (((held : List ℕ) → IsOpening reader.opening held → suc place ≡ length (held ++ part) → EndsRefusal r hears fails line from (refused_size scope (held ++ part) place) (length (held ++ part)) next middle new (Ok any)))
+pub hears_refused : {S : Type 0} {r : Reading} (hears : Hears S) (fails : Fails S) (scope : Scope) (line : ℕ) (from : Direction) (part : List ℕ) (reader next : SideReader) (opening : List ℕ) (place : ℕ) (why : Why) (now middle new : S) (any : Bool) → 0 < length part → reader.stream.stopped ≡ false
+    → IsRefusedIn r (reader.stream.held ++ part) place why → suc place ≡ length (reader.stream.held ++ part) → opening ≡ opening_of (reader.stream.held ++ part) → ((held : List ℕ) → opening ≡ opening_of (held ++ part) → suc place ≡ length (held ++ part) → hears now (refusal_event line from (held ++ part) place why) middle)
+    → (((held : List ℕ) → opening ≡ opening_of (held ++ part) → suc place ≡ length (held ++ part) → EndsRefusal r hears fails line from (refused_size scope (held ++ part) place) (length (held ++ part)) next middle new (Ok any)))
     → (side : Side) → Follows r reader side → HearsBytes r hears scope line from side part next true now new
-hears_refused hears fails scope line from part reader next place why now middle new any long going fatal all heard ended stopped follows = absurd (false≢true (sym going ∙ (follows.0).1))
-hears_refused hears fails scope line from part reader next place why now middle new any long going fatal all heard ended (skipping size left) follows = absurd (false≢true (sym going ∙ (follows.0).1))
-hears_refused {r = r} hears fails scope line from part reader next place why now middle new any long going fatal all heard ended (running before) follows =
+hears_refused hears fails scope line from part reader next opening place why now middle new any long going fatal all opens heard ended stopped follows = absurd (false≢true (sym going ∙ (follows.0).1))
+hears_refused hears fails scope line from part reader next opening place why now middle new any long going fatal all opens heard ended (skipping size left) follows = absurd (false≢true (sym going ∙ (follows.0).1))
+hears_refused {r = r} hears fails scope line from part reader next opening place why now middle new any long going fatal all opens heard ended (running before) follows =
     let whole = reader.stream.held ++ part in
     let size = refused_size scope whole place in
     let first = refusal_event line from whole place why in
     let later = resuming_events line from size (length whole) in
     let after = side_refused size (length whole) in
-    let over = ended reader.stream.held (follows.1).1 all in record {
+    let over = ended reader.stream.held opens all in record {
       events = first ∷ later;
       after = after;
       passes = one_part r scope line from (running before) after part (first ∷ later) (refusal_emits scope line from before part reader place why follows fatal all);
-      heard = (middle, heard reader.stream.held (follows.1).1 all, over.0);
+      heard = (middle, heard reader.stream.held opens all, over.0);
       follows = over.1;
       few = omega (arith, long, no_more size (length whole));
       some = refl;
@@ -155,12 +155,12 @@ hears_refused {r = r} hears fails scope line from part reader next place why now
     no_more None come = refl
     no_more (Some size) come = none_left size (size - come)
 
-pub fails_refused : {S : Type 0} {r : Reading} (hears : Hears S) (fails : Fails S) (failure : ListenerError) (scope : Scope) (line : ℕ) (from : Direction) (part : List ℕ) (reader : SideReader) (place : ℕ) (why : Why) (now new : S) → reader.stream.stopped ≡ false
-    → IsRefusedIn r (reader.stream.held ++ part) place why → suc place ≡ length (reader.stream.held ++ part) → ((held : List ℕ) → IsOpening reader.opening held → suc place ≡ length (held ++ part) → fails now (refusal_event line from (held ++ part) place why) failure new)
+pub fails_refused : {S : Type 0} {r : Reading} (hears : Hears S) (fails : Fails S) (failure : ListenerError) (scope : Scope) (line : ℕ) (from : Direction) (part : List ℕ) (reader : SideReader) (opening : List ℕ) (place : ℕ) (why : Why) (now new : S) → reader.stream.stopped ≡ false
+    → IsRefusedIn r (reader.stream.held ++ part) place why → suc place ≡ length (reader.stream.held ++ part) → opening ≡ opening_of (reader.stream.held ++ part) → ((held : List ℕ) → opening ≡ opening_of (held ++ part) → suc place ≡ length (held ++ part) → fails now (refusal_event line from (held ++ part) place why) failure new)
     → (side : Side) → Follows r reader side → FailsIn hears fails failure (BytesBegin r scope line from side part) now new
-fails_refused hears fails failure scope line from part reader place why now new going fatal all failed stopped follows = absurd (false≢true (sym going ∙ (follows.0).1))
-fails_refused hears fails failure scope line from part reader place why now new going fatal all failed (skipping size left) follows = absurd (false≢true (sym going ∙ (follows.0).1))
-fails_refused {r = r} hears fails failure scope line from part reader place why now new going fatal all failed (running before) follows =
+fails_refused hears fails failure scope line from part reader opening place why now new going fatal all opens failed stopped follows = absurd (false≢true (sym going ∙ (follows.0).1))
+fails_refused hears fails failure scope line from part reader opening place why now new going fatal all opens failed (skipping size left) follows = absurd (false≢true (sym going ∙ (follows.0).1))
+fails_refused {r = r} hears fails failure scope line from part reader opening place why now new going fatal all opens failed (running before) follows =
     let whole = reader.stream.held ++ part in
     let size = refused_size scope whole place in
     let first = refusal_event line from whole place why in
@@ -168,21 +168,21 @@ fails_refused {r = r} hears fails failure scope line from part reader place why 
     let after = side_refused size (length whole) in
     let passes = one_part r scope line from (running before) after part (first ∷ later) (refusal_emits scope line from before part reader place why follows fatal all) in
     fails_next hears fails failure [] first now now new refl
-    (record { first = part; more = []; after = after; cut = sym (append-nil part); emits = record { all = first ∷ later; later = later; emit = passes; is_prefix = refl } }) (failed reader.stream.held (follows.1).1 all)
+    (record { first = part; more = []; after = after; cut = sym (append-nil part); emits = record { all = first ∷ later; later = later; emit = passes; is_prefix = refl } }) (failed reader.stream.held opens all)
 
-pub fails_resumed : {S : Type 0} {r : Reading} (hears : Hears S) (fails : Fails S) (failure : ListenerError) (scope : Scope) (line : ℕ) (from : Direction) (part : List ℕ) (reader next : SideReader) (place : ℕ) (why : Why) (now middle new : S) → reader.stream.stopped ≡ false
-    → IsRefusedIn r (reader.stream.held ++ part) place why → suc place ≡ length (reader.stream.held ++ part) → ((held : List ℕ) → IsOpening reader.opening held → suc place ≡ length (held ++ part) → hears now (refusal_event line from (held ++ part) place why) middle)
-    → (((held : List ℕ) → IsOpening reader.opening held → suc place ≡ length (held ++ part) → EndsRefusal r hears fails line from (refused_size scope (held ++ part) place) (length (held ++ part)) next middle new (Err failure)))
+pub fails_resumed : {S : Type 0} {r : Reading} (hears : Hears S) (fails : Fails S) (failure : ListenerError) (scope : Scope) (line : ℕ) (from : Direction) (part : List ℕ) (reader next : SideReader) (opening : List ℕ) (place : ℕ) (why : Why) (now middle new : S) → reader.stream.stopped ≡ false
+    → IsRefusedIn r (reader.stream.held ++ part) place why → suc place ≡ length (reader.stream.held ++ part) → opening ≡ opening_of (reader.stream.held ++ part) → ((held : List ℕ) → opening ≡ opening_of (held ++ part) → suc place ≡ length (held ++ part) → hears now (refusal_event line from (held ++ part) place why) middle)
+    → (((held : List ℕ) → opening ≡ opening_of (held ++ part) → suc place ≡ length (held ++ part) → EndsRefusal r hears fails line from (refused_size scope (held ++ part) place) (length (held ++ part)) next middle new (Err failure)))
     → (side : Side) → Follows r reader side → FailsIn hears fails failure (BytesBegin r scope line from side part) now new
-fails_resumed hears fails failure scope line from part reader next place why now middle new going fatal all heard ended stopped follows = absurd (false≢true (sym going ∙ (follows.0).1))
-fails_resumed hears fails failure scope line from part reader next place why now middle new going fatal all heard ended (skipping size left) follows = absurd (false≢true (sym going ∙ (follows.0).1))
-fails_resumed {r = r} hears fails failure scope line from part reader next place why now middle new going fatal all heard ended (running before) follows =
+fails_resumed hears fails failure scope line from part reader next opening place why now middle new going fatal all opens heard ended stopped follows = absurd (false≢true (sym going ∙ (follows.0).1))
+fails_resumed hears fails failure scope line from part reader next opening place why now middle new going fatal all opens heard ended (skipping size left) follows = absurd (false≢true (sym going ∙ (follows.0).1))
+fails_resumed {r = r} hears fails failure scope line from part reader next opening place why now middle new going fatal all opens heard ended (running before) follows =
     let whole = reader.stream.held ++ part in
     let size = refused_size scope whole place in
     let first = refusal_event line from whole place why in
     let after = side_refused size (length whole) in
     let emits = refusal_emits scope line from before part reader place why follows fatal all in
-    fails_after hears fails failure (first ∷ []) now middle new (hears_one hears first now middle (heard reader.stream.held (follows.1).1 all)) (ended reader.stream.held (follows.1).1 all) (λ events so. record {
+    fails_after hears fails failure (first ∷ []) now middle new (hears_one hears first now middle (heard reader.stream.held opens all)) (ended reader.stream.held opens all) (λ events so. record {
       first = part;
       more = [];
       after = after;

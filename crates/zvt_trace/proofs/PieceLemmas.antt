@@ -105,11 +105,11 @@ fatal_part held bytes place count past is =
 
 -- the part that ends with the fatal byte
 pub fatal_cut : (r : Reading) (held bytes part : List ℕ) (place count : ℕ) (why : Why) → IsRefusedIn r (held ++ bytes) place why → length held ≤ place → count ≡ place - length held + 1 → part ≡ take count bytes
-    → IsRefusedIn r (held ++ part) place why × (suc place ≡ length (held ++ part))
+    → IsRefusedIn r (held ++ part) place why × (suc place ≡ length (held ++ part)) × (take (suc place) (held ++ bytes) ≡ held ++ part)
 fatal_cut r held bytes part place count why fatal past is cut =
     let same : take (suc place) (held ++ bytes) ≡ held ++ part = fatal_part held bytes place count past is ∙ ap (λ (b : List ℕ). held ++ b) (sym cut) in
     let size : length (take (suc place) (held ++ bytes)) ≡ suc place = length-take-le (suc place) (held ++ bytes) (omega (arith, (fatal.1).present)) in
-    (subst (λ (b : List ℕ). IsRefusedIn r b place why) same (refused_soon r (held ++ bytes) place why fatal), sym size ∙ ap (λ (b : List ℕ). length b) same)
+    (subst (λ (b : List ℕ). IsRefusedIn r b place why) same (refused_soon r (held ++ bytes) place why fatal), sym size ∙ ap (λ (b : List ℕ). length b) same, same)
 
 -- ---- what is borrowed
 

@@ -17,7 +17,7 @@ use Rattle.zvt_trace.proofs.EventLemmas.{fails_as, fails_next, hears_one, prefix
 
 -- nothing more is read, or some of what comes is
 pub ends_with : (reader : SideReader) (side : Side) → Knows reader side → is_everything reader.skipped ≡ is_stopped side
-ends_with reader (running bytes) knows = ap is_everything knows.0
+ends_with reader (running bytes) knows = ap is_everything knows
 ends_with reader (skipping size left) knows = ap is_everything knows.0
 ends_with reader stopped knows = ap is_everything knows
 
@@ -100,7 +100,7 @@ unread_emits {r = r} hears scope line from side bytes start reader any old now f
     silent = is_empty heard.events (sym heard.some ∙ quiet.1)
 
     told_none : (side : Side) → is_nothing start.skipped ≡ false → Knows start side → told line from side [] ≡ on line (unread from) ∷ []
-    told_none (running before) e knows = absurd (true≢false (sym (ap is_nothing knows.0) ∙ e))
+    told_none (running before) e knows = absurd (true≢false (sym (ap is_nothing knows) ∙ e))
     told_none (skipping size left) e knows = refl
     told_none stopped e knows = refl
 

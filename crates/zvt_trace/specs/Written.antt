@@ -9,7 +9,6 @@ use Rattle.zvt_apdu.specs.Grammar.{Spells}
 use Rattle.zvt_apdu.specs.Message.{Message}
 use Rattle.zvt_stream.specs.StreamState.{StreamState, HasRefused}
 use Rattle.zvt_trace.specs.Trace.{Side, running, skipping, stopped}
-use Rattle.zvt_trace.specs.declared.side.Opening.{Opening}
 use Rattle.zvt_trace.specs.declared.side.SideReader.{SideReader}
 use Rattle.zvt_trace.specs.declared.side.Skipped.{Skipped}
 use Rattle.zvt_trace.specs.declared.side.Skipped.TheVariants.{Everything, Nothing, Rest}
@@ -24,12 +23,8 @@ StreamFollows r state (running bytes) = (state.stopped ≡ false) × (messages :
 StreamFollows r state (skipping size left) = HasRefused state
 StreamFollows r state stopped = HasRefused state
 
--- these are the first bytes of what is held
-abbrev pub IsOpening : Opening → List ℕ → Type 0
-IsOpening opening held = opening.first.items ≡ take 5 held
-
 abbrev pub Knows : SideReader → Side → Type 0
-Knows reader (running bytes) = (reader.skipped ≡ Nothing) × IsOpening reader.opening reader.stream.held
+Knows reader (running bytes) = reader.skipped ≡ Nothing
 Knows reader (skipping size left) = (reader.skipped ≡ Rest size left) × (0 < left)
 Knows reader stopped = reader.skipped ≡ Everything
 

@@ -5,12 +5,13 @@ ghost use Rattle.zvt_grammar.specs.Reading.{Reading};
 ghost use Rattle.zvt_grammar.specs.Lengths.{reading_of};
 ghost use Rattle.zvt_apdu.specs.Message.{Message};
 ghost use Rattle.zvt_stream.specs.Head.{head_of};
+ghost use Rattle.zvt_stream.specs.StreamState.{opening_of};
 ghost use Rattle.zvt_trace.specs.TraceEvent.{on};
 ghost use Rattle.zvt_trace.specs.TraceEvent as trace_event;
 ghost use Rattle.zvt_trace.specs.Trace.{Side};
 ghost use Rattle.zvt_trace.specs.Emitting.{SideEnds};
 ghost use Rattle.zvt_trace.specs.Listening.{EmitsEnd, EmitsRest, StaysSilent};
-ghost use Rattle.zvt_trace.specs.Written.{IsOpening, ReadsBy, SkipsTo, StreamFollows, is_everything};
+ghost use Rattle.zvt_trace.specs.Written.{ReadsBy, SkipsTo, StreamFollows, is_everything};
 
 use crate::direction::Direction;
 use crate::event::{Refusal, TraceEvent};
@@ -19,7 +20,7 @@ use crate::side::{SideReader, Skipped};
 use std::alloc::Global;
 use zvt_apdu::view;
 use zvt_grammar::{Lengths, Why};
-use zvt_stream::{Stream, Truncated};
+use zvt_stream::{Head, Stream, Truncated};
 
 /// The options of a walk: its allocator, what a refusal leaves unread, and the accepted forms of length.
 #[derive(Clone, Copy)]
@@ -64,20 +65,21 @@ pub(crate) fn emit_refusal<L: Listener>(
     listener: &mut L,
     line: u64,
     from: Direction,
-    reader: &SideReader,
+    stream: &Stream,
     bytes: &[u8],
     place: usize,
     why: Why,
 ) -> Result<(), ListenerError>
     requires some { 0 < length bytes.now }
-    ensures { (held : List ℕ) → IsOpening reader.now.opening held → suc place ≡ length (held ++ bytes.now)
+    ensures { (held : List ℕ) → stream.now.opening ≡ opening_of (held ++ bytes.now)
+        → suc place ≡ length (held ++ bytes.now)
         → MatchResult result
         (λ _. L.hears listener.old (on line (trace_event.refused from (head_of (held ++ bytes.now))
         (slice_index (held ++ bytes.now) place) place why)) listener.new)
         (λ failure. L.fails listener.old (on line (trace_event.refused from (head_of (held ++ bytes.now))
         (slice_index (held ++ bytes.now) place) place why)) failure listener.new) }
 {
-    let head = reader.opening.head().before(bytes);
+    let head = Head::Empty.before(stream.opening());
     let refusal = Refusal {
         head,
         byte: bytes[bytes.len() - 1],

@@ -10,7 +10,7 @@ use crate::direction::Direction;
 use crate::emit::{WalkOptions, emit_message, emit_refusal, emit_resumed, emit_unread};
 use crate::line::CHUNK;
 use crate::listener::{Listener, ListenerError};
-use crate::side::{Opening, SideReader};
+use crate::side::SideReader;
 use crate::spelled;
 use zvt_stream::{FedView, FeedError};
 
@@ -49,22 +49,18 @@ fn feed_next<'b, L: Listener>(
     let held = reader.stream.held();
     match reader.stream.feed_view(bytes) {
         Ok(FedView::Message { taken }) => {
-            reader.opening = Opening::nothing();
             emit_message(listener, options, line, from, &reader.stream)?;
             let rest = bytes.split_at(taken).1;
             Ok(Next { any: true, rest })
         }
-        Ok(FedView::More) => {
-            reader.opening.add(bytes);
-            Ok(Next {
-                any: false,
-                rest: &[],
-            })
-        }
+        Ok(FedView::More) => Ok(Next {
+            any: false,
+            rest: &[],
+        }),
         Ok(FedView::Refused { place, why }) => {
             let (refused, rest) = bytes.split_at(place - held + 1);
-            emit_refusal(listener, line, from, reader, refused, place, why)?;
-            reader.refuse(options.scope, refused, place);
+            emit_refusal(listener, line, from, &reader.stream, refused, place, why)?;
+            reader.refuse(options.scope, place);
             emit_resumed(listener, options, line, from, reader)?;
             Ok(Next { any: true, rest })
         }

@@ -1,67 +1,25 @@
 //! Reads one side of a line.
 ghost use Rattle.std.specs.Prelude.{◌≡◌, ◌++◌, [], ℕ, List, length, suc};
 ghost use Rattle.zvt_grammar.specs.Lengths.{reading_of};
-ghost use Rattle.zvt_stream.specs.Head.{head_of};
+ghost use Rattle.zvt_stream.specs.StreamState.{opening_of};
 ghost use Rattle.zvt_trace.specs.Resuming.{announced, refused_size, size_by};
 ghost use Rattle.zvt_trace.specs.Trace.{running};
-ghost use Rattle.zvt_trace.specs.Written.{Follows, IsOpening, ReadsBy, Skips, is_everything, is_nothing, skipped_by};
+ghost use Rattle.zvt_trace.specs.Written.{Follows, ReadsBy, Skips, is_everything, is_nothing, skipped_by};
 
 use crate::listener::Scope;
-use arrayvec::ArrayVec;
 use std::alloc::Global;
 use zvt_grammar::Lengths;
-use zvt_stream::{Head, Stream};
+use zvt_stream::Stream;
 
-/// The first bytes of a message, at most five: they announce its size.
-#[derive(Drop)]
-pub(crate) struct Opening {
-    first: ArrayVec<u8, 5>,
-}
-
-impl Opening {
-    /// Creates the opening of a message that has not begun.
-    #[inline(always)]
-    pub(crate) fn nothing() -> Opening
-        ensures { IsOpening result [] }
-    {
-        Opening {
-            first: ArrayVec::new(),
-        }
-    }
-
-    /// Adds the next bytes of the message.
-    #[inline(always)]
-    pub(crate) fn add(&mut self, bytes: &[u8])
-        ensures { (held : List ℕ) → IsOpening self.old held → IsOpening self.new (held ++ bytes.now) }
-    {
-        // A side that sends byte by byte costs no call for each.
-        if let [byte] = bytes {
-            let _ = self.first.try_push(*byte);
-            return;
-        }
-        let room = self.first.remaining_capacity();
-        let count = bytes.len().min(room);
-        let _ = self.first.try_extend_from_slice(&bytes[..count]);
-    }
-
-    /// Returns the control bytes of the message, as far as they have arrived.
-    pub(crate) fn head(&self) -> Head
-        ensures { (held : List ℕ) → IsOpening self.now held → result ≡ head_of held }
-    {
-        let head = Head::Empty.before(self.first.as_slice());
-        head
-    }
-
-    /// Returns the size of the whole message, once enough of it has arrived.
-    fn announced(&self) -> Option<usize>
-        ensures { (held : List ℕ) → IsOpening self.now held → result ≡ announced held }
-    {
-        match self.first.as_slice() {
-            [_, _, 0xFF, low, high] => Some(5 + *low as usize + 256 * *high as usize),
-            [_, _, 0xFF, ..] => None,
-            [_, _, size, ..] => Some(3 + *size as usize),
-            _ => None,
-        }
+/// Returns the size of the whole message, if its first bytes announce it.
+fn announced(opening: &[u8]) -> Option<usize>
+    ensures { (whole : List ℕ) → opening.now ≡ opening_of whole → result ≡ announced whole }
+{
+    match opening {
+        [_, _, 0xFF, low, high] => Some(5 + *low as usize + 256 * *high as usize),
+        [_, _, 0xFF, ..] => None,
+        [_, _, size, ..] => Some(3 + *size as usize),
+        _ => None,
     }
 }
 
@@ -94,11 +52,10 @@ impl Skipped {
     }
 }
 
-/// The reader of one side of the line: its stream, the first bytes of the unfinished message, and what to skip.
+/// The reader of one side of the line: its stream, and what to skip.
 #[derive(Drop)]
 pub(crate) struct SideReader {
     pub(crate) stream: Stream,
-    pub(crate) opening: Opening,
     pub(crate) skipped: Skipped,
 }
 
@@ -110,7 +67,6 @@ impl SideReader {
     {
         SideReader {
             stream: Stream::of(alloc, lengths),
-            opening: Opening::nothing(),
             skipped: Skipped::Nothing,
         }
     }
@@ -131,18 +87,16 @@ impl SideReader {
         self.skipped == Skipped::Everything
     }
 
-    /// Starts skipping as the scope demands, after a refusal at byte `place` of the message. `bytes` is the part of the
-    /// message that arrived last.
+    /// Starts skipping as the scope demands, after a refusal at byte `place` of the message.
     #[cold]
     #[inline(never)]
-    pub(crate) fn refuse(&mut self, scope: Scope, bytes: &[u8], place: usize)
-        ensures skipped { (held : List ℕ) → IsOpening self.old.opening held → suc place ≡ length (held ++ bytes.now)
-            → self.new.skipped ≡ skipped_by (refused_size scope (held ++ bytes.now) place)
-            (length (held ++ bytes.now)) }
+    pub(crate) fn refuse(&mut self, scope: Scope, place: usize)
+        ensures skipped { (whole : List ℕ) → self.old.stream.opening ≡ opening_of whole → suc place ≡ length whole
+            → self.new.skipped ≡ skipped_by (refused_size scope whole place) (length whole) }
         ensures stream { self.new.stream ≡ self.old.stream }
     {
-        self.opening.add(bytes);
-        self.skipped = Skipped::after(scope, self.opening.announced(), place);
+        let size = announced(self.stream.opening());
+        self.skipped = Skipped::after(scope, size, place);
     }
 
     /// Skips bytes, as far as they are to be skipped, and returns the rest.

@@ -3,7 +3,7 @@ use Rattle.std.proofs.lemmas.List.{length-take-le, take-append-drop}
 use Rattle.std.proofs.lemmas.Result.{err_from_is_err_and}
 use Rattle.zvt_trace.proofs.EmitLemmas.{ends_refusal, fails_message, fails_refused, fails_resumed, fails_skipped, hears_message, hears_more, hears_refused, hears_skipped, skipped_part, skips_part}
 use Rattle.zvt_trace.proofs.FeedLemmas.{split_is}
-use Rattle.zvt_stream.specs.StreamState.{HasRefused, Keeps}
+use Rattle.zvt_stream.specs.StreamState.{HasRefused, Keeps, opening_of}
 use Rattle.zvt_grammar.specs.Lengths.{reading_of}
 use Rattle.zvt_trace.proofs.PassLemmas.{fails_part, stops_here}
 use Rattle.zvt_trace.proofs.PieceLemmas.{fatal_cut, fed_as, going, refused_by, spells_by, unfinished_by}
@@ -33,7 +33,7 @@ returns-in_ok-emit_message-in-Ok-Message-clause-emits g c = λ side follows.
       first = take taken bytes;
       cut = sym (take-append-drop taken bytes) ∙ ap (λ b. take taken bytes ++ b) (sym c.split_at.ensures.back);
       heard = hears_message g.L.Listener.hears _ _ _ (take taken bytes) c.args.reader.now _ found.0 _ _ (omega (arith, feeds.0, length-take-le taken bytes feeds.1)) (going _ _ _ c.in-Ok-Message.is c.feed_view.ensures.stopped) (spells_by _ _ found.0 _ c.requires.reading.0 feeds.2)
-          feeds.3 c.nothing-reader.ensures refl (c.in_ok-emit_message-in-Ok-Message.ensures found.0 found.2) side follows;
+          feeds.3 refl (c.in_ok-emit_message-in-Ok-Message.ensures found.0 found.2) side follows;
     })
 
 pub returns-in-Ok-More-clause-emits : goal.returns-in-Ok-More-clause-emits
@@ -44,7 +44,7 @@ returns-in-Ok-More-clause-emits g c = λ side follows.
     (record {
       first = bytes;
       cut = sym (append-nil bytes);
-      heard = hears_more g.L.Listener.hears _ _ _ bytes c.args.reader.now _ _ (going _ _ _ c.in-Ok-More.is c.feed_view.ensures.stopped) (unfinished_by _ _ _ c.requires.reading.0 feeds.0) feeds.1 c.add.ensures refl side follows;
+      heard = hears_more g.L.Listener.hears _ _ _ bytes c.args.reader.now _ _ (going _ _ _ c.in-Ok-More.is c.feed_view.ensures.stopped) (unfinished_by _ _ _ c.requires.reading.0 feeds.0) feeds.1 refl side follows;
     })
 
 pub returns-in-Err-Memory-clause-emits : goal.returns-in-Err-Memory-clause-emits
@@ -62,7 +62,7 @@ returns-in_err-emit_refusal-in-Ok-Refused-clause-emits g c = λ side follows.
     let feeds = found.0 in
     let fatal = fatal_cut _ held bytes part c.in-Ok-Refused.place (c.in-Ok-Refused.place - length held + 1) c.in-Ok-Refused.why (refused_by _ _ _ _ _ c.requires.reading.0 feeds.0) feeds.1 refl (c.split_at-in-Ok-Refused.ensures.front ∙ ap (λ n. take (c.in-Ok-Refused.place - n + 1) bytes) c.held-held.ensures.count) in
     rw (p.1, p.2) (fails_part g.L.Listener.hears g.L.Listener.fails _ _ _ _ side bytes part rest _ _ (split_is _ bytes part rest c.split_at-in-Ok-Refused.ensures.front c.split_at-in-Ok-Refused.ensures.back)
-    (fails_refused g.L.Listener.hears g.L.Listener.fails _ _ _ _ part c.args.reader.now c.in-Ok-Refused.place c.in-Ok-Refused.why _ _ (going _ _ _ c.in-Ok-Refused.is c.feed_view.ensures.stopped) fatal.0 fatal.1
+    (fails_refused g.L.Listener.hears g.L.Listener.fails _ _ _ _ part c.args.reader.now c.feed_view.new.self.opening c.in-Ok-Refused.place c.in-Ok-Refused.why _ _ (going _ _ _ c.in-Ok-Refused.is c.feed_view.ensures.stopped) fatal.0 fatal.1 (feeds.4 ∙ ap opening_of fatal.2)
     c.in_err-emit_refusal-in-Ok-Refused.ensures side follows))
 
 pub returns-in_err-emit_resumed-in-Ok-Refused-clause-emits :
@@ -77,9 +77,9 @@ returns-in_err-emit_resumed-in-Ok-Refused-clause-emits g c = λ side follows.
     let feeds = found.0 in
     let fatal = fatal_cut _ held bytes part c.in-Ok-Refused.place (c.in-Ok-Refused.place - length held + 1) c.in-Ok-Refused.why (refused_by _ _ _ _ _ c.requires.reading.0 feeds.0) feeds.1 refl (c.split_at-in-Ok-Refused.ensures.front ∙ ap (λ n. take (c.in-Ok-Refused.place - n + 1) bytes) c.held-held.ensures.count) in
     rw (p.1, p.2) (fails_part g.L.Listener.hears g.L.Listener.fails _ _ _ _ side bytes part rest _ _ (split_is _ bytes part rest c.split_at-in-Ok-Refused.ensures.front c.split_at-in-Ok-Refused.ensures.back)
-    (fails_resumed g.L.Listener.hears g.L.Listener.fails _ _ _ _ part c.args.reader.now c.emit_resumed.new.reader c.in-Ok-Refused.place c.in-Ok-Refused.why _ _ _ (going _ _ _ c.in-Ok-Refused.is c.feed_view.ensures.stopped) fatal.0 fatal.1
+    (fails_resumed g.L.Listener.hears g.L.Listener.fails _ _ _ _ part c.args.reader.now c.emit_resumed.new.reader c.feed_view.new.self.opening c.in-Ok-Refused.place c.in-Ok-Refused.why _ _ _ (going _ _ _ c.in-Ok-Refused.is c.feed_view.ensures.stopped) fatal.0 fatal.1 (feeds.4 ∙ ap opening_of fatal.2)
     c.in_ok-emit_refusal-in-Ok-Refused.ensures
-    (λ held opens all. ends_refusal (reading_of c.args.options.now.lengths) g.L.Listener.hears g.L.Listener.fails _ _ _ _ c.refuse.new.self c.emit_resumed.new.reader _ _ _ (subst HasRefused (sym c.refuse.ensures.stream) feeds.2) (c.refuse.ensures.skipped held opens all) c.in_err-emit_resumed-in-Ok-Refused.ensures.rest c.in_err-emit_resumed-in-Ok-Refused.ensures.none) side follows))
+    (λ held opens all. ends_refusal (reading_of c.args.options.now.lengths) g.L.Listener.hears g.L.Listener.fails _ _ _ _ c.refuse.new.self c.emit_resumed.new.reader _ _ _ (subst HasRefused (sym c.refuse.ensures.stream) feeds.2) (c.refuse.ensures.skipped (held ++ part) opens all) c.in_err-emit_resumed-in-Ok-Refused.ensures.rest c.in_err-emit_resumed-in-Ok-Refused.ensures.none) side follows))
 
 pub returns-in_ok-emit_resumed-in-Ok-Refused-clause-emits :
     goal.returns-in_ok-emit_resumed-in-Ok-Refused-clause-emits
@@ -94,9 +94,9 @@ returns-in_ok-emit_resumed-in-Ok-Refused-clause-emits g c = λ side follows.
     (record {
       first = part;
       cut = split_is _ bytes part rest c.split_at-in-Ok-Refused.ensures.front c.split_at-in-Ok-Refused.ensures.back;
-      heard = hears_refused g.L.Listener.hears g.L.Listener.fails _ _ _ part c.args.reader.now c.emit_resumed.new.reader c.in-Ok-Refused.place c.in-Ok-Refused.why _ _ _ c.in_ok-emit_resumed-in-Ok-Refused.field-0 (omega (arith, fatal.1, feeds.1, length-append held part)) (going _ _ _ c.in-Ok-Refused.is c.feed_view.ensures.stopped) fatal.0 fatal.1
+      heard = hears_refused g.L.Listener.hears g.L.Listener.fails _ _ _ part c.args.reader.now c.emit_resumed.new.reader c.feed_view.new.self.opening c.in-Ok-Refused.place c.in-Ok-Refused.why _ _ _ c.in_ok-emit_resumed-in-Ok-Refused.field-0 (omega (arith, fatal.1, feeds.1, length-append held part)) (going _ _ _ c.in-Ok-Refused.is c.feed_view.ensures.stopped) fatal.0 fatal.1 (feeds.4 ∙ ap opening_of fatal.2)
           c.in_ok-emit_refusal-in-Ok-Refused.ensures
-          (λ held opens all. ends_refusal (reading_of c.args.options.now.lengths) g.L.Listener.hears g.L.Listener.fails _ _ _ _ c.refuse.new.self c.emit_resumed.new.reader _ _ _ (subst HasRefused (sym c.refuse.ensures.stream) feeds.2) (c.refuse.ensures.skipped held opens all) c.in_ok-emit_resumed-in-Ok-Refused.ensures.rest c.in_ok-emit_resumed-in-Ok-Refused.ensures.none) side follows;
+          (λ held opens all. ends_refusal (reading_of c.args.options.now.lengths) g.L.Listener.hears g.L.Listener.fails _ _ _ _ c.refuse.new.self c.emit_resumed.new.reader _ _ _ (subst HasRefused (sym c.refuse.ensures.stream) feeds.2) (c.refuse.ensures.skipped (held ++ part) opens all) c.in_ok-emit_resumed-in-Ok-Refused.ensures.rest c.in_ok-emit_resumed-in-Ok-Refused.ensures.none) side follows;
     })
 
 pub returns-in_err-any-in-Err-Stopped-clause-emits : goal.returns-in_err-any-in-Err-Stopped-clause-emits
