@@ -5,7 +5,7 @@ use Rattle.zvt_grammar.specs.declared.answer.Scan.TheVariants.{Whole}
 use Rattle.zvt_apdu.specs.Message.{Message}
 use Rattle.zvt_apdu.specs.Judging as apdu
 use Rattle.zvt_text.specs.MessageTexts.{said}
-use Rattle.zvt_text.specs.declared.privacy.Privacy.TheVariants.{Plain}
+use Rattle.zvt_text.specs.TextOptions.{plain_text}
 use Rattle.zvt_c.specs.declared.answer.ZvtAnswer.{ZvtAnswer}
 use Rattle.zvt_c.specs.Answers.{answer_of, Says}
 use Rattle.zvt_c.specs.Statuses as statuses
@@ -17,5 +17,5 @@ Writes text before after = MatchBool (nat_le (length text) (length before)) (aft
 -- The text of a complete message and its size; or no text, for the reason in the answer.
 pub data Texts (bytes buffer_before buffer_after : List ℕ) (answer : ZvtAnswer) (size : ℕ) : Type 0 where
   told : (message : Message) (taken : ℕ) → apdu.Answers shortest bytes (Whole (message, taken)) → answer ≡ answer_of (Whole (message, taken))
-      → size ≡ length (said Plain message) → Writes (said Plain message) buffer_before buffer_after → Texts bytes buffer_before buffer_after answer size
+      → size ≡ length (said plain_text message) → Writes (said plain_text message) buffer_before buffer_after → Texts bytes buffer_before buffer_after answer size
   untold : Says bytes answer → (answer.status ≡ statuses.ok → ⊥) → size ≡ 0 → buffer_after ≡ buffer_before → Texts bytes buffer_before buffer_after answer size

@@ -1,7 +1,7 @@
 //! Reads messages, and writes them as text.
 ghost use Rattle.std.specs.Prelude.{◌≡◌, IfSome, IfNone, length};
 ghost use Rattle.zvt_text.specs.MessageTexts.{said};
-ghost use Rattle.zvt_text.specs.declared.privacy.Privacy.TheVariants.{Plain};
+ghost use Rattle.zvt_text.specs.TextOptions.{plain_text};
 ghost use Rattle.zvt_c.specs.Answers.{Says};
 ghost use Rattle.zvt_c.specs.Texts.{Texts, Writes};
 
@@ -10,7 +10,7 @@ use crate::statuses;
 use std::alloc::Global;
 use zvt_apdu::{ApduView, view};
 use zvt_grammar::Scan;
-use zvt_text::{Privacy, Text};
+use zvt_text::{Text, TextOptions};
 
 /// Reads the first message: it is complete and has a size, or it is unfinished, or the bytes are refused. Ignores the
 /// bytes after a complete message.
@@ -75,12 +75,12 @@ pub extern "C" fn zvt_text(
 
 /// Writes the text of a message if it fits, and returns its size, or `None` if an allocation failed.
 fn report(alloc: Global, apdu: &ApduView<'_>, buffer: &mut [u8]) -> Option<usize>
-    ensures some { IfSome result (λ size. (size ≡ length (said Plain apdu.now))
-        × Writes (said Plain apdu.now) buffer.old buffer.new) }
+    ensures some { IfSome result (λ size. (size ≡ length (said plain_text apdu.now))
+        × Writes (said plain_text apdu.now) buffer.old buffer.new) }
     ensures none { IfNone result (buffer.new ≡ buffer.old) }
 {
     let mut text = Text::new(alloc);
-    if zvt_text::message(&mut text, Privacy::Plain, b"", apdu).is_err() {
+    if zvt_text::message(&mut text, TextOptions::plain(), b"", apdu).is_err() {
         return None;
     }
     let size = text.size();

@@ -5,7 +5,7 @@ use Rattle.zvt_grammar.specs.declared.why.Why.{Why}
 use Rattle.zvt_apdu.specs.Grammar as grammar
 use Rattle.zvt_apdu.specs.Message.{Message}
 use Rattle.zvt_text.specs.MessageTexts.{said}
-use Rattle.zvt_text.specs.declared.privacy.Privacy.TheVariants.{Safe}
+use Rattle.zvt_text.specs.TextOptions.{safe_text}
 use Rattle.zvt_stream.specs.Apdus.{IsRefusedIn, UnfinishedIn}
 use Rattle.zvt_stream.specs.Feeds.{Lends}
 use Rattle.zvt_stream.specs.StreamState.{StreamState, start_in}
@@ -34,7 +34,7 @@ five t t1 t2 t3 t4 t5 a b c d e first second third fourth fifth = three t t3 t4 
 
 -- ---- what is wanted
 
-first_said : (r : Reading) (wanted : List ℕ) (message : Message) (count : ℕ) → 0 < length wanted → grammar.Spells r message (take count wanted) → SaysWanted r wanted (said Safe message)
+first_said : (r : Reading) (wanted : List ℕ) (message : Message) (count : ℕ) → 0 < length wanted → grammar.Spells r message (take count wanted) → SaysWanted r wanted (said safe_text message)
 first_said r [] message count some spells = absurd (omega (arith, some))
 first_said r (byte ∷ bytes) message count some spells = inl (message, count, spells, refl)
 
@@ -42,14 +42,14 @@ begun_said : (r : Reading) (wanted : List ℕ) → 0 < length wanted → Unfinis
 begun_said r [] some begins = absurd (omega (arith, some))
 begun_said r (byte ∷ bytes) some begins = inr (begins, refl)
 
-pub lent_said : (r : Reading) (old new : StreamState) (wanted : List ℕ) (fed : FedView) (message : Message) → old ≡ start_in r → 0 < length wanted → Lends old wanted fed new → new.lent ≡ Some message → SaysWanted r wanted (said Safe message)
+pub lent_said : (r : Reading) (old new : StreamState) (wanted : List ℕ) (fed : FedView) (message : Message) → old ≡ start_in r → 0 < length wanted → Lends old wanted fed new → new.lent ≡ Some message → SaysWanted r wanted (said safe_text message)
 lent_said r old new wanted (view.Message taken) message is some lends lent =
     let spelled : grammar.Spells r lends.0 (take taken wanted) = subst (λ (s : StreamState). grammar.Spells s.reading lends.0 (s.held ++ take taken wanted)) is lends.1.2 in
     let same : Some lends.0 ≡ Some message = sym lends.2 ∙ lent in
     by lends.0 same spelled
   where
-    by : (found : Message) → Some found ≡ Some message → grammar.Spells r found (take taken wanted) → SaysWanted r wanted (said Safe message)
-    by found same spelled = let e : found ≡ message = cc in subst (λ (m : Message). SaysWanted r wanted (said Safe m)) e (first_said r wanted found taken some spelled)
+    by : (found : Message) → Some found ≡ Some message → grammar.Spells r found (take taken wanted) → SaysWanted r wanted (said safe_text message)
+    by found same spelled = let e : found ≡ message = cc in subst (λ (m : Message). SaysWanted r wanted (said safe_text m)) e (first_said r wanted found taken some spelled)
 lent_said r old new wanted view.More message is some lends lent = let never : None ≡ Some message = sym lends.1 ∙ lent in cc
 lent_said r old new wanted (view.Refused place why) message is some lends lent = let never : None ≡ Some message = sym lends.1 ∙ lent in cc
 

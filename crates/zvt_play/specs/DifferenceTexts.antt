@@ -8,7 +8,7 @@ use Rattle.zvt_grammar.specs.Reading.{Reading}
 use Rattle.zvt_grammar.specs.declared.why.Why.{Why}
 use Rattle.zvt_apdu.specs.Message.{Message}
 use Rattle.zvt_text.specs.MessageTexts.{said}
-use Rattle.zvt_text.specs.declared.privacy.Privacy.TheVariants.{Safe}
+use Rattle.zvt_text.specs.TextOptions.{safe_text}
 use Rattle.zvt_trace.specs.Emitting.{other}
 use Rattle.zvt_trace.specs.Lines.{direction_text}
 use Rattle.zvt_trace.specs.declared.direction.Direction.{Direction}
@@ -37,7 +37,7 @@ surplus step count = place_text step ++ codes ": " ++ decimal count ++ codes " b
 
 -- the wanted bytes begin with a message, and the text is its safe text
 abbrev pub SaysFirst : Reading → (wanted text : List ℕ) → Type 0
-SaysFirst r wanted text = (message : Message) × (count : ℕ) × Spells r message (take count wanted) × (text ≡ said Safe message)
+SaysFirst r wanted text = (message : Message) × (count : ℕ) × Spells r message (take count wanted) × (text ≡ said safe_text message)
 
 -- the first two of the bytes, and their number
 abbrev pub beginning_text : List ℕ → List ℕ
@@ -99,7 +99,7 @@ SaysAwaited r (Some step) names why text = SaysAction r step.now.action names wh
 
 abbrev pub came_text : Direction → Option (Bor Message) → List ℕ
 came_text from None = []
-came_text from (Some message) = direction_text from ++ codes " " ++ said Safe message.now
+came_text from (Some message) = direction_text from ++ codes " " ++ said safe_text message.now
 
 -- what arrived instead, or the reason why nothing did
 abbrev pub cause_text : Direction → Difference → Option (Bor Message) → List ℕ

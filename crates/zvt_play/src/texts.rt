@@ -14,7 +14,7 @@ use std::alloc::{AllocError, Global};
 use zvt_apdu::ApduView;
 use zvt_grammar::Lengths;
 use zvt_stream::Stream;
-use zvt_text::{Privacy, Text, hexadecimal, message};
+use zvt_text::{Text, TextOptions, hexadecimal, message};
 use zvt_trace::Direction;
 
 /// Describes a difference: the safe texts of the expected message and of the one that arrived, if any. An expected name
@@ -204,7 +204,7 @@ fn add_wanted(
         return Err(AllocError);
     };
     match stream.lent() {
-        Some(apdu) => message(text, Privacy::Safe, b"", &apdu),
+        Some(apdu) => message(text, TextOptions::safe(), b"", &apdu),
         None => add_beginning(text, wanted),
     }
 }
@@ -261,7 +261,7 @@ fn add_came(text: &mut Text, from: Direction, came: Option<&ApduView<'_>>) -> Re
         None => Ok(()),
         Some(apdu) => {
             add_sign(text, from)?;
-            message(text, Privacy::Safe, b"", apdu)
+            message(text, TextOptions::safe(), b"", apdu)
         }
     }
 }

@@ -10,7 +10,7 @@ use Rattle.zvt_show.specs.declared.render.Style.TheVariants.{Join, Json, JsonRec
 
 -- what comes before a line that is no part of a trace, where such lines are written at all
 abbrev pub mark_of : Style → Option (List ℕ)
-mark_of (Show privacy) = Some []
+mark_of (Show options) = Some []
 mark_of Join = Some (codes "# ")
 mark_of (Receipts options) = None
 mark_of Json = None
@@ -36,7 +36,7 @@ abbrev pub truncated_text : Style → Direction → ℕ → List ℕ
 truncated_text style from have = marked (mark_of style) (direction_text from ++ codes " truncated after " ++ decimal have)
 
 abbrev pub lost_text : Style → List ℕ
-lost_text (Show privacy) = codes "! line lost" ++ 10 ∷ []
+lost_text (Show options) = codes "! line lost" ++ 10 ∷ []
 lost_text Join = codes "!" ++ 10 ∷ []
 lost_text (Receipts options) = []
 lost_text Json = []

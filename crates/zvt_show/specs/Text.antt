@@ -9,7 +9,7 @@ use Rattle.zvt_field.specs.Grammar.{Field}
 use Rattle.zvt_text.specs.MessageTexts.{said}
 use Rattle.zvt_text.specs.Receipts.{block_text, receipt_line}
 use Rattle.zvt_text.specs.TextBlocks.{block_lines, block_type}
-use Rattle.zvt_text.specs.declared.privacy.Privacy.{Privacy}
+use Rattle.zvt_text.specs.declared.text_options.TextOptions.{TextOptions}
 use Rattle.zvt_trace.specs.Lines.{direction_text}
 use Rattle.zvt_trace.specs.TraceEvent.{At, TraceEvent}
 use Rattle.zvt_trace.specs.TraceEvent as trace_event
@@ -25,8 +25,8 @@ use Rattle.zvt_show.specs.declared.render.Style.TheVariants.{Join, Json, JsonRec
 -- ---- one message
 
 -- a message is shown; or its bytes are in one line of a trace; or it is a line of a receipt
-abbrev pub shown : Privacy → Direction → Message → List ℕ
-shown privacy from message = direction_text from ++ 32 ∷ said privacy message
+abbrev pub shown : TextOptions → Direction → Message → List ℕ
+shown options from message = direction_text from ++ 32 ∷ said options message
 
 abbrev pub joined : Direction → List ℕ → List ℕ
 joined from bytes = direction_text from ++ 32 ∷ encode_upper bytes ++ 10 ∷ []
@@ -63,7 +63,7 @@ receipt options FromTerminal message = printed options message
 
 -- in the styles that write JSON a message has no text but that
 abbrev pub MessageText : Style → Direction → Message → List ℕ → Type 0
-MessageText (Show privacy) from message text = text ≡ shown privacy from message
+MessageText (Show options) from message text = text ≡ shown options from message
 MessageText Join from message text =
     (bytes : List ℕ) × Spells shortest message bytes × (text ≡ joined from bytes)
 MessageText (Receipts options) from message text = text ≡ receipt options from message
@@ -112,7 +112,7 @@ PrintedLine text_blocks None event text = text ≡ block_json text_blocks event.
 PrintedLine text_blocks (Some line) event text = EventLine event text
 
 abbrev pub EventText : Style → At → List ℕ → Type 0
-EventText (Show privacy) event text = PlainText (Show privacy) event.trace_event text
+EventText (Show options) event text = PlainText (Show options) event.trace_event text
 EventText Join event text = PlainText Join event.trace_event text
 EventText (Receipts options) event text = PlainText (Receipts options) event.trace_event text
 EventText Json event text = EventLine event text

@@ -15,14 +15,14 @@ use crate::receipts::{ReceiptOptions, json_receipt, receipt};
 use std::alloc::{AllocError, Global};
 use zvt_apdu::{ApduView, encode, owned};
 use zvt_grammar::{Lengths, Why};
-use zvt_text::{Privacy, Text};
+use zvt_text::{Text, TextOptions};
 use zvt_trace::{Direction, Refusal, TraceEvent};
 
 /// The styles in which the events of a trace are written.
 #[derive(Clone, Copy, Debug, PartialEq, Eq)]
 pub enum Style {
     /// Each message with its fields, and each event of a side or of the line.
-    Show(Privacy),
+    Show(TextOptions),
     /// Each message as a line of a trace, and each event of a side as a comment.
     Join,
     /// The lines of the terminal's receipts, and nothing else.
@@ -108,7 +108,7 @@ fn plain(
             bytes,
             lengths,
         } => match style {
-            Style::Show(privacy) => show(text, privacy, *from, apdu),
+            Style::Show(options) => show(text, options, *from, apdu),
             Style::Join => join(text, alloc, *from, apdu, bytes, *lengths),
             Style::Receipts(options) => receipt(text, alloc, options, *from, apdu),
             Style::Json | Style::JsonReceipts { .. } => Ok(()),
@@ -128,13 +128,13 @@ fn plain(
 #[inline(always)]
 fn show(
     text: &mut Text,
-    privacy: Privacy,
+    options: TextOptions,
     from: Direction,
     apdu: &ApduView<'_>,
 ) -> Result<(), AllocError>
-    ensures { Adds result text.old text.new (shown privacy from apdu.now) }
+    ensures { Adds result text.old text.new (shown options from apdu.now) }
 {
-    zvt_text::message(text, privacy, prefix(from), apdu)
+    zvt_text::message(text, options, prefix(from), apdu)
 }
 
 /// The direction of a line, and a space.

@@ -7,7 +7,7 @@ use Rattle.zvt_audit.specs.declared.line.LineBooks.{LineBooks}
 use Rattle.zvt_show.specs.Beside.{Tells, Watching, showing_of}
 use Rattle.zvt_show.specs.Shown.{HasShown, Shows}
 use Rattle.zvt_show.specs.declared.render.Style.TheVariants.{Show}
-use Rattle.zvt_text.specs.declared.privacy.Privacy.TheVariants.{Safe}
+use Rattle.zvt_text.specs.TextOptions.{safe_text}
 use Rattle.zvt_trace.specs.Lines.{piece_text}
 use Rattle.zvt_trace.specs.Observing.{Misses, Observes}
 use Rattle.zvt_trace.specs.declared.direction.Direction.{Direction}
@@ -104,7 +104,7 @@ module _ {T O : Type 0} (written : T → Option (List ℕ)) (failures : T → �
       let before = all_logged r reads_on [] first held chunks old middle all has in
       finds (trace_text chunks) (record {
         traced = subst (λ (t : List ℕ). HasTraced new.recorder.failed t first (traced_by written new.recorder.trace)) (append-nil (trace_text chunks)) (missed.0.traced (trace_text chunks) first before.traced);
-        shows = subst (λ (w : Watching O LineAudit). HasShown output r (line_scope reads_on) (Show Safe) (trace_text chunks) held (showing_of w)) (sym missed.1) before.shows;
+        shows = subst (λ (w : Watching O LineAudit). HasShown output r (line_scope reads_on) (Show safe_text) (trace_text chunks) held (showing_of w)) (sym missed.1) before.shows;
         hears = subst (λ (w : Watching O LineAudit). HasHeard r reads_on (trace_text chunks) w) (sym missed.1) before.hears;
       })
   found_stopped r reads_on first held Found failed old new finds fails has Write chunks last (middle, all, missed) =

@@ -13,7 +13,7 @@ use zvt_audit::{LineAudit, LineBooks, line_scope};
 use zvt_grammar::Lengths;
 use zvt_io::Sink;
 use zvt_show::{Shown, ShownToEnd, Style};
-use zvt_text::Privacy;
+use zvt_text::TextOptions;
 use zvt_trace::{Tally, TraceFault};
 
 /// The log of a line: a trace, and on an output the text that `show --safe` prints for the trace, followed by its
@@ -51,7 +51,7 @@ pub fn new_log<T: Sink + Drop, O: Sink + Drop>(
         recorder: tracing,
         watcher: Shown::new(
             alloc,
-            Style::Show(Privacy::Safe),
+            Style::Show(TextOptions::safe()),
             scope,
             lengths,
             output,

@@ -14,7 +14,7 @@ use Rattle.zvt_field.specs.Views.{FieldBytes, tree_of}
 use Rattle.zvt_field.specs.declared.views.FieldView.{FieldView}
 use Rattle.zvt_field.proofs.ViewLemmas.{name_is, plain_of}
 use Rattle.zvt_text.specs.Lines.{field_line, named_text, noted_value, object_lines}
-use Rattle.zvt_text.specs.declared.privacy.Privacy.{Privacy}
+use Rattle.zvt_text.specs.declared.text_options.TextOptions.{TextOptions}
 use Rattle.zvt_text.proofs.RoomLemmas.{prefix_full}
 
 named_plain : (f : Field) (bmp : ℕ) (content : List ℕ) → name_of f ≡ bmp → bytes_of f ≡ Some content → f ≡ plain bmp content
@@ -40,16 +40,16 @@ pub objects_shallow : (v : FieldView) (objects : Objects) → Some objects ≡ t
 objects_shallow v objects e = inside_shallow v.bmp v.content.now v.field objects e
 
 -- a field's line begins with its name
-named_first : (privacy : Privacy) (f : Field) (bmp : ℕ) → name_of f ≡ bmp → (rest : List ℕ) × (named_text bmp ++ rest ≡ field_line privacy f)
-named_first privacy (plain n content) bmp name =
+named_first : (options : TextOptions) (f : Field) (bmp : ℕ) → name_of f ≡ bmp → (rest : List ℕ) × (named_text bmp ++ rest ≡ field_line options f)
+named_first options (plain n content) bmp name =
     let same : bmp ≡ n = sym name in (
-      32 ∷ noted_value privacy n content ++ 10 ∷ [],
-      sym (append_assoc (named_text bmp) (32 ∷ noted_value privacy n content) (10 ∷ [])) ∙ ap (λ (b : ℕ). named_text b ++ 32 ∷ noted_value privacy n content ++ 10 ∷ []) same,
+      32 ∷ noted_value options n content ++ 10 ∷ [],
+      sym (append_assoc (named_text bmp) (32 ∷ noted_value options n content) (10 ∷ [])) ∙ ap (λ (b : ℕ). named_text b ++ 32 ∷ noted_value options n content ++ 10 ∷ []) same,
     )
-named_first privacy (tree n objects) bmp name = let same : bmp ≡ n = sym name in (10 ∷ object_lines privacy 1 objects, ap (λ (b : ℕ). named_text b ++ 10 ∷ object_lines privacy 1 objects) same)
+named_first options (tree n objects) bmp name = let same : bmp ≡ n = sym name in (10 ∷ object_lines options 1 objects, ap (λ (b : ℕ). named_text b ++ 10 ∷ object_lines options 1 objects) same)
 
 -- where a buffer is full at the name, it has no capacity for the line
-pub name_full : (privacy : Privacy) (v : FieldView) (buffer : ℕ) (before : List ℕ) → buffer < length (before ++ named_text v.bmp) → buffer < length (before ++ field_line privacy (shown v))
-name_full privacy v buffer before full =
-    let first = named_first privacy (shown v) v.bmp (name_is v.bmp v.content.now v.field) in
-    prefix_full buffer (before ++ named_text v.bmp) first.0 (before ++ field_line privacy (shown v)) (append_assoc before (named_text v.bmp) first.0 ∙ ap (λ (line : List ℕ). before ++ line) first.1) full
+pub name_full : (options : TextOptions) (v : FieldView) (buffer : ℕ) (before : List ℕ) → buffer < length (before ++ named_text v.bmp) → buffer < length (before ++ field_line options (shown v))
+name_full options v buffer before full =
+    let first = named_first options (shown v) v.bmp (name_is v.bmp v.content.now v.field) in
+    prefix_full buffer (before ++ named_text v.bmp) first.0 (before ++ field_line options (shown v)) (append_assoc before (named_text v.bmp) first.0 ∙ ap (λ (line : List ℕ). before ++ line) first.1) full

@@ -7,29 +7,29 @@ use Rattle.zvt_tlv.specs.Grammar.{Objects, none, primitive, constructed, is_cons
 use Rattle.zvt_tlv.specs.Lent.{GivesObject, IsChildren}
 use Rattle.zvt_tlv.specs.declared.views.TlvView.{TlvView}
 use Rattle.zvt_text.specs.Lines.{constructed_text, object_head, object_lines, object_text}
-use Rattle.zvt_text.specs.declared.privacy.Privacy.{Privacy}
+use Rattle.zvt_text.specs.declared.text_options.TextOptions.{TextOptions}
 
-pub primitive_lines : (privacy : Privacy) (depth : ℕ) (f left : Objects) (v : TlvView) → GivesObject f (Some v) left → IsChildren v None →
-    object_lines privacy depth f ≡ object_head depth v.tag.now ++ object_text privacy v.tag.now v.content.now ++ 10 ∷ object_lines privacy depth left
-primitive_lines privacy depth none left v e k = absurd e
-primitive_lines privacy depth (primitive tag content rest) left v e k =
-    ap (λ (t : List ℕ). object_head depth t ++ object_text privacy t content ++ 10 ∷ object_lines privacy depth rest) (sym e.0)
-    ∙ ap (λ (c : List ℕ). object_head depth v.tag.now ++ object_text privacy v.tag.now c ++ 10 ∷ object_lines privacy depth rest) (sym e.2)
-    ∙ ap (λ (r : Objects). object_head depth v.tag.now ++ object_text privacy v.tag.now v.content.now ++ 10 ∷ object_lines privacy depth r) (sym e.3)
-primitive_lines privacy depth (constructed tag inner rest) left v e k = absurd (cc (k, e.1.0))
+pub primitive_lines : (options : TextOptions) (depth : ℕ) (f left : Objects) (v : TlvView) → GivesObject f (Some v) left → IsChildren v None →
+    object_lines options depth f ≡ object_head depth v.tag.now ++ object_text options v.tag.now v.content.now ++ 10 ∷ object_lines options depth left
+primitive_lines options depth none left v e k = absurd e
+primitive_lines options depth (primitive tag content rest) left v e k =
+    ap (λ (t : List ℕ). object_head depth t ++ object_text options t content ++ 10 ∷ object_lines options depth rest) (sym e.0)
+    ∙ ap (λ (c : List ℕ). object_head depth v.tag.now ++ object_text options v.tag.now c ++ 10 ∷ object_lines options depth rest) (sym e.2)
+    ∙ ap (λ (r : Objects). object_head depth v.tag.now ++ object_text options v.tag.now v.content.now ++ 10 ∷ object_lines options depth r) (sym e.3)
+primitive_lines options depth (constructed tag inner rest) left v e k = absurd (cc (k, e.1.0))
 
 -- the children are the objects inside
 pub children : (v : TlvView) (inner other : Objects) → (k : is_constructed v.tag.now ≡ true) × ((v.inside k).0 ≡ inner) → IsChildren v (Some other) → inner ≡ other
 children v inner other a b = sym a.1 ∙ ap (λ (k : is_constructed v.tag.now ≡ true). (v.inside k).0) (Bool-set _ _ a.0 b.0) ∙ b.1
 
-pub constructed_lines : (privacy : Privacy) (depth : ℕ) (f left other : Objects) (v : TlvView) → GivesObject f (Some v) left → IsChildren v (Some other) →
-    object_lines privacy depth f ≡ object_head depth v.tag.now ++ constructed_text privacy v.tag.now ++ 10 ∷ object_lines privacy (depth + 1) other ++ object_lines privacy depth left
-constructed_lines privacy depth none left other v e k = absurd e
-constructed_lines privacy depth (primitive tag content rest) left other v e k = absurd (cc (k.0, e.1))
-constructed_lines privacy depth (constructed tag inner rest) left other v e k =
-    ap (λ (t : List ℕ). object_head depth t ++ constructed_text privacy t ++ 10 ∷ object_lines privacy (depth + 1) inner ++ object_lines privacy depth rest) (sym e.0)
-    ∙ ap (λ (i : Objects). object_head depth v.tag.now ++ constructed_text privacy v.tag.now ++ 10 ∷ object_lines privacy (depth + 1) i ++ object_lines privacy depth rest) (children v inner other e.1 k)
-    ∙ ap (λ (r : Objects). object_head depth v.tag.now ++ constructed_text privacy v.tag.now ++ 10 ∷ object_lines privacy (depth + 1) other ++ object_lines privacy depth r) (sym e.2)
+pub constructed_lines : (options : TextOptions) (depth : ℕ) (f left other : Objects) (v : TlvView) → GivesObject f (Some v) left → IsChildren v (Some other) →
+    object_lines options depth f ≡ object_head depth v.tag.now ++ constructed_text options v.tag.now ++ 10 ∷ object_lines options (depth + 1) other ++ object_lines options depth left
+constructed_lines options depth none left other v e k = absurd e
+constructed_lines options depth (primitive tag content rest) left other v e k = absurd (cc (k.0, e.1))
+constructed_lines options depth (constructed tag inner rest) left other v e k =
+    ap (λ (t : List ℕ). object_head depth t ++ constructed_text options t ++ 10 ∷ object_lines options (depth + 1) inner ++ object_lines options depth rest) (sym e.0)
+    ∙ ap (λ (i : Objects). object_head depth v.tag.now ++ constructed_text options v.tag.now ++ 10 ∷ object_lines options (depth + 1) i ++ object_lines options depth rest) (children v inner other e.1 k)
+    ∙ ap (λ (r : Objects). object_head depth v.tag.now ++ constructed_text options v.tag.now ++ 10 ∷ object_lines options (depth + 1) other ++ object_lines options depth r) (sym e.2)
 
 pub children_shallow : (depth : ℕ) (f left other : Objects) (v : TlvView) → GivesObject f (Some v) left → IsChildren v (Some other) → is_shallow depth f ≡ true → (depth < 6) × (is_shallow (depth + 1) other ≡ true)
 children_shallow depth none left other v e k s = absurd e

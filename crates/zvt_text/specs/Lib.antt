@@ -3,6 +3,7 @@ pub mod Numbers
 pub mod Words
 pub mod Meanings
 pub mod Results
+pub mod TextOptions
 pub mod Secrets
 pub mod Notes
 pub mod Lines

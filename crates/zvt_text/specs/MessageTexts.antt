@@ -9,9 +9,9 @@ use Rattle.zvt_apdu.specs.Message.{Message, ack, nack, registration, authorisati
 use Rattle.zvt_text.specs.Bytes.{hex_of, quoted}
 use Rattle.zvt_text.specs.Results.{result_words}
 use Rattle.zvt_text.specs.Lines.{field_lines}
-use Rattle.zvt_text.specs.Secrets.{hidden_text, hides}
+use Rattle.zvt_text.specs.Secrets.{hidden_text}
 use Rattle.zvt_text.specs.Notes.{head_note, note}
-use Rattle.zvt_text.specs.declared.privacy.Privacy.{Privacy}
+use Rattle.zvt_text.specs.declared.text_options.TextOptions.{TextOptions}
 
 -- the payload of a message, if there is any
 abbrev pub data_text : List ℕ → List ℕ
@@ -24,8 +24,8 @@ hidden_data [] = []
 hidden_data (byte ∷ bytes) = codes " data " ++ hidden_text (byte ∷ bytes)
 
 -- the payload of a message outside the profile: a safe text has its size alone
-abbrev pub unknown_text : Privacy → List ℕ → List ℕ
-unknown_text privacy payload = if hides privacy then hidden_data payload else data_text payload
+abbrev pub unknown_text : TextOptions → List ℕ → List ℕ
+unknown_text options payload = if options.safe then hidden_data payload else data_text payload
 
 -- four decimal digits
 abbrev pub four_digits : ℕ → List ℕ
@@ -76,27 +76,27 @@ abbrev pub kind_text : Message → List ℕ
 kind_text message = kind_name (kind_of message)
 
 -- what a head says after the name; a password is never written
-abbrev pub detail_text : Privacy → Message → List ℕ
-detail_text privacy (ack payload) = data_text payload
-detail_text privacy (nack code payload) = hex_part code ++ data_text payload
-detail_text privacy (registration password config rest) = config_text config ++ currency_text rest
-detail_text privacy (authorisation fields) = []
-detail_text privacy (reversal password fields) = []
-detail_text privacy (end_of_day password fields) = []
-detail_text privacy (abort_order fields) = []
-detail_text privacy (status fields) = []
-detail_text privacy (intermediate step payload) = hex_part step ++ data_text payload
-detail_text privacy (print_line attribute text) = hex_part attribute ++ quoted_part text
-detail_text privacy (text_block fields) = []
-detail_text privacy (completion fields) = []
-detail_text privacy (abort code payload) = words_part code ++ data_text payload
-detail_text privacy (other high low payload) = 32 ∷ encode_upper (high ∷ low ∷ []) ++ unknown_text privacy payload
+abbrev pub detail_text : TextOptions → Message → List ℕ
+detail_text options (ack payload) = data_text payload
+detail_text options (nack code payload) = hex_part code ++ data_text payload
+detail_text options (registration password config rest) = config_text config ++ currency_text rest
+detail_text options (authorisation fields) = []
+detail_text options (reversal password fields) = []
+detail_text options (end_of_day password fields) = []
+detail_text options (abort_order fields) = []
+detail_text options (status fields) = []
+detail_text options (intermediate step payload) = hex_part step ++ data_text payload
+detail_text options (print_line attribute text) = hex_part attribute ++ quoted_part text
+detail_text options (text_block fields) = []
+detail_text options (completion fields) = []
+detail_text options (abort code payload) = words_part code ++ data_text payload
+detail_text options (other high low payload) = 32 ∷ encode_upper (high ∷ low ∷ []) ++ unknown_text options payload
 
-abbrev pub title_text : Privacy → Message → List ℕ
-title_text privacy message = kind_text message ++ detail_text privacy message
+abbrev pub title_text : TextOptions → Message → List ℕ
+title_text options message = kind_text message ++ detail_text options message
 
-abbrev pub head_text : Privacy → Message → List ℕ
-head_text privacy message = title_text privacy message ++ note privacy (head_note message)
+abbrev pub head_text : TextOptions → Message → List ℕ
+head_text options message = title_text options message ++ note options (head_note message)
 
 abbrev pub registered_fields : Option (ℕ × List Field) → List Field
 registered_fields None = []
@@ -120,5 +120,5 @@ fields_of (abort code payload) = []
 fields_of (other high low payload) = []
 
 -- the head, the end of its line, and the lines of the fields
-abbrev pub said : Privacy → Message → List ℕ
-said privacy message = head_text privacy message ++ 10 ∷ field_lines privacy (fields_of message)
+abbrev pub said : TextOptions → Message → List ℕ
+said options message = head_text options message ++ 10 ∷ field_lines options (fields_of message)

@@ -5,22 +5,15 @@ use Rattle.zvt_field.specs.declared.shapes.Format.{Format}
 use Rattle.zvt_field.specs.declared.shapes.Format.TheVariants.{Amount, Bytes, Hidden, Result, Text}
 use Rattle.zvt_apdu.specs.Message.{Message, ack, nack, registration, authorisation, reversal, end_of_day, abort_order, status, intermediate, print_line, text_block, completion, abort, other}
 use Rattle.zvt_text.specs.Meanings.{card_type_name, command_name, status_words, unprinted_of}
-use Rattle.zvt_text.specs.declared.privacy.Privacy.{Privacy}
-use Rattle.zvt_text.specs.declared.privacy.Privacy.TheVariants.{Explained, Plain, Safe, SafeExplained}
-
-abbrev pub explains : Privacy → Bool
-explains Plain = false
-explains Safe = false
-explains Explained = true
-explains SafeExplained = true
+use Rattle.zvt_text.specs.declared.text_options.TextOptions.{TextOptions}
 
 -- words in parentheses, if there are some
 abbrev pub noted : Option (List ℕ) → List ℕ
 noted None = []
 noted (Some words) = codes " (" ++ words ++ codes ")"
 
-abbrev pub note : Privacy → Option (List ℕ) → List ℕ
-note privacy words = cond (explains privacy) (noted words) []
+abbrev pub note : TextOptions → Option (List ℕ) → List ℕ
+note options words = cond options.explained (noted words) []
 
 -- the words of a message's first line; the text of an abort may have the meaning of its code already
 abbrev pub head_note : Message → Option (List ℕ)

@@ -7,23 +7,16 @@ use Rattle.zvt_field.specs.Shapes.{format_of}
 use Rattle.zvt_field.specs.declared.shapes.Format.{Format}
 use Rattle.zvt_field.specs.declared.shapes.Format.TheVariants.{Amount, Bytes, Hidden, Result, Text}
 use Rattle.zvt_apdu.specs.Message.{Message, ack, nack, registration, authorisation, reversal, end_of_day, abort_order, status, intermediate, print_line, text_block, completion, abort, other}
-use Rattle.zvt_text.specs.declared.privacy.Privacy.{Privacy}
-use Rattle.zvt_text.specs.declared.privacy.Privacy.TheVariants.{Explained, Plain, Safe, SafeExplained}
+use Rattle.zvt_text.specs.declared.text_options.TextOptions.{TextOptions}
 
 -- the tags of the objects that have card data: the card's track 2 (57) and its number (5A)
 abbrev pub is_secret_tag : List ℕ → Bool
 is_secret_tag (tag ∷ []) = tag == 0x57 || tag == 0x5A
 is_secret_tag tag = false
 
--- whether a text hides these objects, and the data of messages outside the payment profile
-abbrev pub hides : Privacy → Bool
-hides Plain = false
-hides Safe = true
-hides Explained = false
-hides SafeExplained = true
-
-abbrev pub hides_tag : Privacy → List ℕ → Bool
-hides_tag privacy tag = hides privacy && is_secret_tag tag
+-- whether a text hides the content of objects with the tag
+abbrev pub hides_tag : TextOptions → List ℕ → Bool
+hides_tag options tag = options.safe && is_secret_tag tag
 
 -- of what is hidden the size alone
 abbrev pub hidden_text : List ℕ → List ℕ

@@ -8,7 +8,7 @@ ghost use Rattle.zvt_text.specs.Writing.{Puts};
 
 use crate::bytes::{hidden, quote};
 use crate::cursor::{Full, byte, fixed, four_digits, hexadecimal, push};
-use crate::privacy::{Privacy, hides};
+use crate::text_options::TextOptions;
 use crate::write::put_result;
 use zvt_bcd::Currency;
 
@@ -39,16 +39,16 @@ fn payload_data(buffer: &mut [u8], at: usize, payload: &[u8]) -> Result<usize, F
 pub(crate) fn unknown(
     buffer: &mut [u8],
     at: usize,
-    privacy: Privacy,
+    options: TextOptions,
     payload: Option<&[u8]>,
 ) -> Result<usize, Full>
     requires { at ≤ length buffer.old }
-    ensures { Puts result at buffer.old buffer.new (part_text (unknown_text privacy) (option_copied payload.entry)) }
+    ensures { Puts result at buffer.old buffer.new (part_text (unknown_text options) (option_copied payload.entry)) }
 {
     let Some(payload) = payload else {
         return Ok(at);
     };
-    if hides(privacy) {
+    if options.safe {
         payload_size(buffer, at, payload)
     } else {
         payload_data(buffer, at, payload)

@@ -7,21 +7,21 @@ ghost use Rattle.zvt_text.specs.Writing.{Puts};
 use crate::cursor::{Full, fixed, word};
 use crate::details::{byte_part, config, control, currency, data, outcome, printed, unknown};
 use crate::notes::{head_note, noted};
-use crate::privacy::{Privacy, explains};
+use crate::text_options::TextOptions;
 use zvt_apdu::{ApduView, Kind};
 
 /// Writes the first line of a message, without its end.
 pub(crate) fn head(
     buffer: &mut [u8],
     at: usize,
-    privacy: Privacy,
+    options: TextOptions,
     message: &ApduView<'_>,
 ) -> Result<usize, Full>
     requires { at ≤ length buffer.old }
-    ensures { Puts result at buffer.old buffer.new (head_text privacy message.now) }
+    ensures { Puts result at buffer.old buffer.new (head_text options message.now) }
 {
-    let at = title(buffer, at, privacy, message)?;
-    if explains(privacy) {
+    let at = title(buffer, at, options, message)?;
+    if options.explained {
         noted(buffer, at, head_note(message))
     } else {
         Ok(at)
@@ -32,11 +32,11 @@ pub(crate) fn head(
 fn title(
     buffer: &mut [u8],
     at: usize,
-    privacy: Privacy,
+    options: TextOptions,
     message: &ApduView<'_>,
 ) -> Result<usize, Full>
     requires { at ≤ length buffer.old }
-    ensures { Puts result at buffer.old buffer.new (title_text privacy message.now) }
+    ensures { Puts result at buffer.old buffer.new (title_text options message.now) }
 {
     match message.kind() {
         Kind::Ack => {
@@ -56,7 +56,7 @@ fn title(
         Kind::Completion => fixed(buffer, at, *b"Completion"),
         kind => {
             let at = word(buffer, at, kind_name(kind).as_bytes())?;
-            detail(buffer, at, privacy, message)
+            detail(buffer, at, options, message)
         }
     }
 }
@@ -87,13 +87,13 @@ pub fn kind_name(kind: Kind) -> &'static str
 fn detail(
     buffer: &mut [u8],
     at: usize,
-    privacy: Privacy,
+    options: TextOptions,
     message: &ApduView<'_>,
 ) -> Result<usize, Full>
     requires inside { at ≤ length buffer.old }
     requires no_ack { kind_of message.now ≢ Kind.Ack }
     requires no_line { kind_of message.now ≢ Kind.PrintLine }
-    ensures { Puts result at buffer.old buffer.new (detail_text privacy message.now) }
+    ensures { Puts result at buffer.old buffer.new (detail_text options message.now) }
 {
     match message.kind() {
         Kind::Nack => {
@@ -114,7 +114,7 @@ fn detail(
         }
         Kind::Other => {
             let at = control(buffer, at, message.control())?;
-            unknown(buffer, at, privacy, message.payload())
+            unknown(buffer, at, options, message.payload())
         }
         _ => Ok(at),
     }

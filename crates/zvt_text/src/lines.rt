@@ -7,7 +7,7 @@ ghost use Rattle.zvt_text.specs.Writing.{Puts};
 
 use crate::cursor::{Full, byte, fixed, push, word};
 use crate::objects::object_lines;
-use crate::privacy::Privacy;
+use crate::text_options::TextOptions;
 use crate::values::noted_value;
 use zvt_field::{FieldView, FieldsView, name};
 
@@ -15,15 +15,15 @@ use zvt_field::{FieldView, FieldsView, name};
 pub(crate) fn field_lines(
     buffer: &mut [u8],
     at: usize,
-    privacy: Privacy,
+    options: TextOptions,
     fields: FieldsView<'_>,
 ) -> Result<usize, Full>
     requires { at ≤ length buffer.old }
-    ensures { Puts result at buffer.old buffer.new (field_lines privacy fields.entry) }
+    ensures { Puts result at buffer.old buffer.new (field_lines options fields.entry) }
 {
     let mut end = at;
     for field in fields {
-        end = field_line(buffer, end, privacy, &field)?;
+        end = field_line(buffer, end, options, &field)?;
     }
     Ok(end)
 }
@@ -32,22 +32,22 @@ pub(crate) fn field_lines(
 fn field_line(
     buffer: &mut [u8],
     at: usize,
-    privacy: Privacy,
+    options: TextOptions,
     field: &FieldView<'_>,
 ) -> Result<usize, Full>
     requires { at ≤ length buffer.old }
-    ensures { Puts result at buffer.old buffer.new (field_line privacy (shown field.now)) }
+    ensures { Puts result at buffer.old buffer.new (field_line options (shown field.now)) }
 {
     let at = named(buffer, at, field.bmp)?;
     match field.tree() {
         None => {
             let at = push(buffer, at, b' ')?;
-            let at = noted_value(buffer, at, privacy, field.bmp, field.content)?;
+            let at = noted_value(buffer, at, options, field.bmp, field.content)?;
             push(buffer, at, b'\n')
         }
         Some(objects) => {
             let at = push(buffer, at, b'\n')?;
-            object_lines(buffer, at, privacy, objects, 1)
+            object_lines(buffer, at, options, objects, 1)
         }
     }
 }

@@ -8,7 +8,7 @@ ghost use Rattle.zvt_text.specs.Writing.{Puts};
 use crate::bytes::{bytes_or_dash, hidden, quote};
 use crate::cursor::{Full, decimal};
 use crate::notes::{noted, value_note};
-use crate::privacy::{Privacy, explains};
+use crate::text_options::TextOptions;
 use crate::write::put_result;
 use zvt_bcd::number;
 use zvt_field::{Format, format};
@@ -18,16 +18,16 @@ use zvt_field::{Format, format};
 pub(crate) fn noted_value(
     buffer: &mut [u8],
     at: usize,
-    privacy: Privacy,
+    options: TextOptions,
     bmp: u8,
     content: &[u8],
 ) -> Result<usize, Full>
     requires plain { PlainBytes bmp content.now }
     requires inside { at ≤ length buffer.old }
-    ensures { Puts result at buffer.old buffer.new (noted_value privacy bmp content.now) }
+    ensures { Puts result at buffer.old buffer.new (noted_value options bmp content.now) }
 {
     let at = value(buffer, at, bmp, content)?;
-    if explains(privacy) {
+    if options.explained {
         noted(buffer, at, value_note(bmp, content))
     } else {
         Ok(at)

@@ -12,8 +12,8 @@ use crate::cursor::{self, Full, byte, fixed, push, repeat, word};
 use crate::heads::head;
 use crate::lines::field_lines;
 use crate::meanings::printed_meaning;
-use crate::privacy::Privacy;
 use crate::text::{Says, Text};
+use crate::text_options::TextOptions;
 use itoa::Buffer;
 use std::alloc::AllocError;
 use zvt_apdu::ApduView;
@@ -23,18 +23,18 @@ use zvt_bcd::{Currency, Trace};
 
 /// Writes a prefix and a message: a line with the name of its kind and its values, then a line for each field. Every
 /// line ends in a line feed. Never writes the password of a message, and writes only the size of the fields 22, 23,
-/// 24, 2D, 3A and 3D (card number, tracks, verification value, password). A safe text hides more: [`Privacy`].
+/// 24, 2D, 3A and 3D (card number, tracks, verification value, password). A safe text hides more: [`TextOptions`].
 #[inline(always)]
 pub fn message(
     text: &mut Text,
-    privacy: Privacy,
+    options: TextOptions,
     prefix: &[u8],
     message: &ApduView<'_>,
 ) -> Result<(), AllocError>
-    ensures { Adds result text.old text.new (prefix.now ++ said privacy message.now) }
+    ensures { Adds result text.old text.new (prefix.now ++ said options message.now) }
 {
     text.add(&MessageText {
-        privacy,
+        options,
         prefix,
         message,
     })
@@ -81,18 +81,18 @@ pub fn line(text: &mut Text, prefix: &[u8], bytes: &[u8]) -> Result<(), AllocErr
 /// A message after a prefix.
 #[derive(Drop)]
 struct MessageText<'a> {
-    privacy: Privacy,
+    options: TextOptions,
     prefix: &'a [u8],
     message: &'a ApduView<'a>,
 }
 
 impl Says for MessageText<'_> {
-    ghost said = { λ m. m.prefix.now ++ said m.privacy m.message.now };
+    ghost said = { λ m. m.prefix.now ++ said m.options m.message.now };
 
     #[inline(always)]
     fn put(&self, buffer: &mut [u8]) -> Result<usize, Full> {
         let at = word(buffer, 0, self.prefix)?;
-        put_message(buffer, at, self.privacy, self.message)
+        put_message(buffer, at, self.options, self.message)
     }
 }
 
@@ -100,16 +100,16 @@ impl Says for MessageText<'_> {
 fn put_message(
     buffer: &mut [u8],
     at: usize,
-    privacy: Privacy,
+    options: TextOptions,
     message: &ApduView<'_>,
 ) -> Result<usize, Full>
     requires { at ≤ length buffer.old }
-    ensures { Puts result at buffer.old buffer.new (said privacy message.now) }
+    ensures { Puts result at buffer.old buffer.new (said options message.now) }
 {
-    let at = head(buffer, at, privacy, message)?;
+    let at = head(buffer, at, options, message)?;
     let at = push(buffer, at, b'\n')?;
     match message.fields() {
-        Some(fields) => field_lines(buffer, at, privacy, fields),
+        Some(fields) => field_lines(buffer, at, options, fields),
         None => Ok(at),
     }
 }

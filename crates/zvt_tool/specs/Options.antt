@@ -8,8 +8,6 @@ use Rattle.zvt_grammar.specs.declared.lengths.Lengths.{Lengths}
 use Rattle.zvt_grammar.specs.declared.lengths.Lengths.TheVariants.{Shortest, Padded}
 use Rattle.zvt_text.specs.declared.form.Form.{Form}
 use Rattle.zvt_text.specs.declared.form.Form.TheVariants as form
-use Rattle.zvt_text.specs.declared.privacy.Privacy.{Privacy}
-use Rattle.zvt_text.specs.declared.privacy.Privacy.TheVariants.{Explained, Plain, Safe, SafeExplained}
 use Rattle.zvt_tool.specs.declared.options.CommandOption.{CommandOption}
 use Rattle.zvt_tool.specs.declared.options.CommandOption.TheVariants as option
 use Rattle.zvt_tool.specs.declared.options.CommandRow.{CommandRow}
@@ -98,12 +96,6 @@ lengths_by true = Padded
 abbrev pub form_by : (is_json : Bool) → Form
 form_by false = form.Text
 form_by true = form.Json
-
-abbrev pub privacy_by : (safe explain : Bool) → Privacy
-privacy_by false false = Plain
-privacy_by true false = Safe
-privacy_by false true = Explained
-privacy_by true true = SafeExplained
 
 -- the number of connections to accept; 0 means any number
 abbrev pub connections_by : ℕ → ℕ

@@ -14,7 +14,7 @@ use Rattle.zvt_text.specs.declared.form.Form.TheVariants as form
 use Rattle.zvt_trace.specs.declared.listener.Scope.{Scope}
 use Rattle.zvt_audit.specs.Line.{books_scope, line_scope}
 use Rattle.zvt_tool.specs.Given.{IsByFlag, IsFlagOf, IsTextOf, words_of}
-use Rattle.zvt_tool.specs.Options.{command_app, flag_rule, form_by, lengths_by, option_rule, privacy_by, several_rule}
+use Rattle.zvt_tool.specs.Options.{command_app, flag_rule, form_by, lengths_by, option_rule, several_rule}
 use Rattle.zvt_tool.specs.declared.trace_command.TraceCommand.{TraceCommand}
 use Rattle.zvt_tool.specs.declared.trace_command.TraceWork.{TraceWork}
 use Rattle.zvt_tool.specs.declared.trace_command.TraceWork.TheVariants.{Render, Audit, Vectors}
@@ -25,7 +25,7 @@ style_by plain objects true = objects
 
 -- each line of the output is a JSON object
 abbrev pub is_json : TraceWork → Bool
-is_json (Render (Show privacy)) = false
+is_json (Render (Show options)) = false
 is_json (Render Join) = false
 is_json (Render (Receipts options)) = false
 is_json (Render Json) = true
@@ -111,7 +111,7 @@ IsRendering rows plain objects = IsByForm rows (λ json. Render (style_by plain 
 
 -- the text, its safe form or either with the words of codes, or the JSON objects
 abbrev pub IsShow : List Row → TraceCommand → Type 0
-IsShow rows command = IsByFlag (codes "safe") rows (λ safe. IsByFlag (codes "explain") rows (λ explain. IsRendering rows (Show (privacy_by safe explain)) Json command))
+IsShow rows command = IsByFlag (codes "safe") rows (λ safe. IsByFlag (codes "explain") rows (λ explain. IsRendering rows (Show (record { safe = safe; explained = explain })) Json command))
 
 abbrev pub codepage_named : Text → Option Codepage
 codepage_named name =

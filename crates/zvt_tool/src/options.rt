@@ -3,12 +3,12 @@ ghost use Rattle.std.specs.Prelude.{◌≡◌, false};
 ghost use Rattle.clap.specs.Words.{rule_of};
 ghost use Rattle.zvt_tool.specs.Options.{book_files_rule, connections_by, flag_rule, form_by, host_rule, lengths_by};
 ghost use Rattle.zvt_tool.specs.Options.{needed_port_rule, needed_rule, number_rule, option_rule, port_option_rule};
-ghost use Rattle.zvt_tool.specs.Options.{privacy_by, rule_for, several_rule, tid_rule};
+ghost use Rattle.zvt_tool.specs.Options.{rule_for, several_rule, tid_rule};
 
 use clap::{Arg, ArgAction, value_parser};
 use std::alloc::Global;
 use zvt_grammar::Lengths;
-use zvt_text::{Form, Privacy};
+use zvt_text::{Form, TextOptions};
 
 /// A command: its name, the texts before and after its usage, and its options.
 #[derive(Clone, Copy)]
@@ -203,18 +203,6 @@ pub fn form_by(json: bool) -> Form
     ensures { result ≡ form_by json }
 {
     if json { Form::Json } else { Form::Text }
-}
-
-/// Returns how much a text shows: less if it is safe, and the words of codes if it explains them.
-pub fn privacy_by(safe: bool, explain: bool) -> Privacy
-    ensures { result ≡ privacy_by safe explain }
-{
-    match (safe, explain) {
-        (false, false) => Privacy::Plain,
-        (true, false) => Privacy::Safe,
-        (false, true) => Privacy::Explained,
-        (true, true) => Privacy::SafeExplained,
-    }
 }
 
 /// Returns the number of connections to accept. 0 means any number, and becomes the largest `u64`.

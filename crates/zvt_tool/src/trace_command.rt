@@ -8,17 +8,17 @@ ghost use Rattle.zvt_tool.specs.TraceCommands.{is_json, join_app, normalise_app,
 ghost use Rattle.zvt_tool.specs.TraceCommands.{vectors_app, work_scope};
 ghost use Rattle.zvt_tool.specs.declared.trace_command.TraceWork.TheVariants.{Render};
 ghost use Rattle.zvt_show.specs.declared.render.Style.TheVariants.{Show};
-ghost use Rattle.zvt_text.specs.declared.privacy.Privacy.TheVariants.{Plain};
+ghost use Rattle.zvt_text.specs.TextOptions.{plain_text};
 ghost use Rattle.zvt_grammar.specs.declared.lengths.Lengths.TheVariants.{Shortest};
 
 use crate::given::{flag, text, words};
 use crate::help;
-use crate::options::{CommandOption, CommandRow, form_by, lengths_by, privacy_by};
+use crate::options::{CommandOption, CommandRow, form_by, lengths_by};
 use clap::ArgMatches;
 use std::alloc::{AllocError, Global};
 use zvt_grammar::Lengths;
 use zvt_show::{ReceiptOptions, Style};
-use zvt_text::{Codepage, Form, Privacy};
+use zvt_text::{Codepage, Form, TextOptions};
 use zvt_trace::Scope;
 
 /// The output of a command on traces or on vectors.
@@ -53,11 +53,11 @@ pub struct TraceCommand<'a> {
 impl<'a> TraceCommand<'a> {
     /// Returns the command `show` without files or options, which runs if no command is given.
     pub fn show(alloc: Global) -> TraceCommand<'a>
-        ensures { IsTraceCommandOf [] (Render (Show Plain)) Shortest result }
+        ensures { IsTraceCommandOf [] (Render (Show plain_text)) Shortest result }
     {
         TraceCommand {
             files: Vec::new(alloc),
-            work: TraceWork::Render(Style::Show(Privacy::Plain)),
+            work: TraceWork::Render(Style::Show(TextOptions::plain())),
             lengths: Lengths::Shortest,
             check: false,
             follow: false,
@@ -220,7 +220,10 @@ Example:
 pub fn read_show<'a>(alloc: Global, inner: &ArgMatches<'a>) -> Result<TraceCommand<'a>, AllocError>
     ensures { IfOk result (IsShow (rows_of (found_of inner.now))) }
 {
-    let text = Style::Show(privacy_by(flag(inner, "safe"), flag(inner, "explain")));
+    let text = Style::Show(TextOptions {
+        safe: flag(inner, "safe"),
+        explained: flag(inner, "explain"),
+    });
     rendering(alloc, inner, text, Style::Json)
 }
 

@@ -9,7 +9,7 @@ ghost use Rattle.zvt_show.specs.Written.{AnswersTraceBy};
 ghost use Rattle.zvt_tool.specs.Faults.{Audits, Checks, Renders};
 ghost use Rattle.zvt_trace.specs.Written.{limit};
 ghost use Rattle.zvt_show.specs.declared.render.Style.TheVariants.{Join, Receipts, Show};
-ghost use Rattle.zvt_text.specs.declared.privacy.Privacy.TheVariants.{Plain};
+ghost use Rattle.zvt_text.specs.TextOptions.{plain_text};
 
 use crate::fault::{ToolFault, in_trace};
 use std::alloc::Global;
@@ -17,7 +17,7 @@ use zvt_audit::audit_trace;
 use zvt_grammar::Lengths;
 use zvt_io::{Sink, Source};
 use zvt_show::{ReceiptOptions, Style, render_trace};
-use zvt_text::{Form, Privacy};
+use zvt_text::{Form, TextOptions};
 use zvt_trace::{Scope, Tally, TraceFault, read_trace};
 
 /// Writes each complete message of the trace as text: its direction and name, and a line for each field. A stream that
@@ -30,13 +30,13 @@ pub fn show<R: Source, W: Sink>(
     ensures taken { (taken : List ℕ) × (length taken ≤ limit + 1) × Consumes (R.remaining reader.old)
         (R.remaining reader.new) taken }
     ensures writes { IfSome (R.remaining reader.old)
-        (λ trace. Renders shortest (Show Plain) trace (W.written writer.old) (W.written writer.new) result) }
+        (λ trace. Renders shortest (Show plain_text) trace (W.written writer.old) (W.written writer.new) result) }
     ensures read { result ≡ Err ToolFault.Read → R.failures reader.old < R.failures reader.new }
     ensures write { result ≡ Err ToolFault.Write → W.failures writer.old < W.failures writer.new }
 {
     read_and_render(
         alloc,
-        Style::Show(Privacy::Plain),
+        Style::Show(TextOptions::plain()),
         Lengths::Shortest,
         reader,
         writer,
@@ -86,13 +86,13 @@ pub fn show_loose<R: Source, W: Sink>(
     ensures taken { (taken : List ℕ) × (length taken ≤ limit + 1) × Consumes (R.remaining reader.old)
         (R.remaining reader.new) taken }
     ensures writes { IfSome (R.remaining reader.old)
-        (λ trace. Renders padded (Show Plain) trace (W.written writer.old) (W.written writer.new) result) }
+        (λ trace. Renders padded (Show plain_text) trace (W.written writer.old) (W.written writer.new) result) }
     ensures read { result ≡ Err ToolFault.Read → R.failures reader.old < R.failures reader.new }
     ensures write { result ≡ Err ToolFault.Write → W.failures writer.old < W.failures writer.new }
 {
     read_and_render(
         alloc,
-        Style::Show(Privacy::Plain),
+        Style::Show(TextOptions::plain()),
         Lengths::Padded,
         reader,
         writer,

@@ -11,7 +11,7 @@ use std::io::Stderr;
 use zvt_grammar::Lengths;
 use zvt_io::{Over, Sink};
 use zvt_show::{Shown, Style};
-use zvt_text::{Form, Privacy};
+use zvt_text::{Form, TextOptions};
 use zvt_trace::{Scope, Tally};
 
 /// Returns a listener that shows a line on this output in this form, if an output is given. `lengths` says how the
@@ -60,7 +60,7 @@ fn style_of(form: Form) -> Style
     ensures { result ≡ style_of form }
 {
     match form {
-        Form::Text => Style::Show(Privacy::Safe),
+        Form::Text => Style::Show(TextOptions::safe()),
         Form::Json => Style::Json,
     }
 }

@@ -9,7 +9,7 @@ use Rattle.zvt_c.specs.declared.answer.ZvtAnswer.{ZvtAnswer}
 use Rattle.zvt_c.specs.Answers.{scanned}
 use Rattle.zvt_c.specs.Texts.{told, untold, Writes}
 use Rattle.zvt_text.specs.MessageTexts.{said}
-use Rattle.zvt_text.specs.declared.privacy.Privacy.TheVariants.{Plain}
+use Rattle.zvt_text.specs.TextOptions.{plain_text}
 use Rattle.zvt_c.proofs.codec.zvt_text.Goals as goal
 
 one_none : ◌≡◌ {A = ℕ} 1 0 → ⊥
@@ -28,8 +28,8 @@ returns-in-Some c =
     let found = subst (λ (s : Scan (Message × ℕ)). apdu.Answers shortest c.args.bytes.now s) c.in-Ok-Whole.field-0-is c.in-Ok-Whole.ensures in
     let shown : c.view.result ≡ m = c.view.ensures m (message_loosened m _ found.spelled) in
     told m c.in-Ok-Whole.size found c.found.ensures
-    (c.in-Some.ensures.some.0 ∙ ap (λ (v : Message). length (said Plain v)) shown)
-    (subst (λ (v : Message). Writes (said Plain v) c.args.buffer.now c.report.new.buffer) shown c.in-Some.ensures.some.1)
+    (c.in-Some.ensures.some.0 ∙ ap (λ (v : Message). length (said plain_text v)) shown)
+    (subst (λ (v : Message). Writes (said plain_text v) c.args.buffer.now c.report.new.buffer) shown c.in-Some.ensures.some.1)
 
 pub returns-in-Ok-More : goal.returns-in-Ok-More
 returns-in-Ok-More c =

@@ -2,7 +2,7 @@ use Rattle.std.proofs.Common.{◌<◌, length, arith, rules}
 use Rattle.std.proofs.lemmas.Grind.{common_steps}
 use Rattle.zvt_grammar.specs.Lengths.{reading_of}
 use Rattle.zvt_text.specs.MessageTexts.{said}
-use Rattle.zvt_text.specs.declared.privacy.Privacy.TheVariants.{Safe}
+use Rattle.zvt_text.specs.TextOptions.{safe_text}
 use Rattle.zvt_play.specs.DifferenceTexts.{beginning_text}
 use Rattle.zvt_play.proofs.TextLemmas.{added, lent_said, none_said, on_ok}
 use Rattle.zvt_play.proofs.texts.add_wanted.Goals as goal
@@ -10,7 +10,7 @@ use Rattle.zvt_play.proofs.texts.add_wanted.Goals as goal
 pub returns-in-Some : goal.returns-in-Some
 returns-in-Some c =
     let some : 0 < length c.args.wanted.now = grind (arith, common_steps) in
-    added c.message.result _ _ _ c.message.ensures (λ end. (said Safe c.in-Some.apdu, lent_said (reading_of c.args.lengths) _ _ _ _ _ c.of-stream.ensures some c.in-Ok.ensures.fed (search rules), end))
+    added c.message.result _ _ _ c.message.ensures (λ end. (said safe_text c.in-Some.apdu, lent_said (reading_of c.args.lengths) _ _ _ _ _ c.of-stream.ensures some c.in-Ok.ensures.fed (search rules), end))
 
 pub returns : goal.returns
 returns c =

@@ -12,19 +12,19 @@ pub object_lines-requires-clause-shallow : goal.object_lines-requires-clause-sha
 object_lines-requires-clause-shallow c = objects_shallow c.args.field.now c.in-Some.objects c.in-Some.ensures
 
 pub returns-in_err-at : goal.returns-in_err-at
-returns-in_err-at c = let full = name_full c.args.privacy c.args.field.now _ _ c.in_err-at.ensures in search (rules, full)
+returns-in_err-at c = let full = name_full c.args.options c.args.field.now _ _ c.in_err-at.ensures in search (rules, full)
 
 pub returns-in_err-at-in-None : goal.returns-in_err-at-in-None
-returns-in_err-at-in-None c = let e = ap (field_line c.args.privacy) (plain_shown c.args.field.now c.in-None.ensures) in rw e (grind (arith, common_steps))
+returns-in_err-at-in-None c = let e = ap (field_line c.args.options) (plain_shown c.args.field.now c.in-None.ensures) in rw e (grind (arith, common_steps))
 
 pub returns-in_err-at-in-None-2 : goal.returns-in_err-at-in-None-2
-returns-in_err-at-in-None-2 c = let e = ap (field_line c.args.privacy) (plain_shown c.args.field.now c.in-None.ensures) in rw e (grind (arith, common_steps))
+returns-in_err-at-in-None-2 c = let e = ap (field_line c.args.options) (plain_shown c.args.field.now c.in-None.ensures) in rw e (grind (arith, common_steps))
 
 pub returns-in_err-at-in-Some : goal.returns-in_err-at-in-Some
-returns-in_err-at-in-Some c = let e = ap (field_line c.args.privacy) (tree_shown c.args.field.now c.in-Some.objects c.in-Some.ensures) in rw e (grind (arith, common_steps))
+returns-in_err-at-in-Some c = let e = ap (field_line c.args.options) (tree_shown c.args.field.now c.in-Some.objects c.in-Some.ensures) in rw e (grind (arith, common_steps))
 
 pub returns-in_ok-at-in-None-2 : goal.returns-in_ok-at-in-None-2
-returns-in_ok-at-in-None-2 c = let e = ap (field_line c.args.privacy) (plain_shown c.args.field.now c.in-None.ensures) in rw e (grind (arith, common_steps))
+returns-in_ok-at-in-None-2 c = let e = ap (field_line c.args.options) (plain_shown c.args.field.now c.in-None.ensures) in rw e (grind (arith, common_steps))
 
 pub returns-in_ok-at-in-Some : goal.returns-in_ok-at-in-Some
-returns-in_ok-at-in-Some c = let e = ap (field_line c.args.privacy) (tree_shown c.args.field.now c.in-Some.objects c.in-Some.ensures) in rw e (grind (arith, common_steps))
+returns-in_ok-at-in-Some c = let e = ap (field_line c.args.options) (tree_shown c.args.field.now c.in-Some.objects c.in-Some.ensures) in rw e (grind (arith, common_steps))

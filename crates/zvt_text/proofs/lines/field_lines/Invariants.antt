@@ -5,5 +5,5 @@ use Rattle.zvt_text.proofs.lines.field_lines.Given as goal
 abbrev pub invariant-loop-field : goal.invariant-loop-field
 invariant-loop-field l = record {
   inside : l.end ≤ length l.buffer;
-  written : take l.end l.buffer ++ field_lines l.privacy l.field-iterator ≡ take l.at l.initial.buffer ++ field_lines l.privacy l.initial.field-iterator;
+  written : take l.end l.buffer ++ field_lines l.options l.field-iterator ≡ take l.at l.initial.buffer ++ field_lines l.options l.initial.field-iterator;
 }

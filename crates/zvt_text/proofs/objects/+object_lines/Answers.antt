@@ -12,7 +12,7 @@ pub returns-in_err-end-in-Some-children : goal.returns-in_err-end-in-Some-childr
 returns-in_err-end-in-Some-children t c =
     let full = prefix_full _ _ _ _ (constructed_written _ _ _ _ _ _ _ _ _ _
     c.loop-object.invariant.lines c.in_ok-at.ensures.1 c.in_ok-at-in-Some-children.ensures.1 refl
-    (constructed_lines c.args.privacy c.args.depth c.loop-object.object-iterator c.next.new.self c.in-Some-children.inner c.in-Some.object c.in-Some.ensures.steps c.in-Some-children.ensures)) c.in_err-end-in-Some-children.ensures in
+    (constructed_lines c.args.options c.args.depth c.loop-object.object-iterator c.next.new.self c.in-Some-children.inner c.in-Some.object c.in-Some.ensures.steps c.in-Some-children.ensures)) c.in_err-end-in-Some-children.ensures in
     search (rules, full)
 
 pub loop-object-preserved : goal.loop-object-preserved
@@ -22,5 +22,5 @@ loop-object-preserved t c = record {
   lines =
       constructed_written _ _ _ _ _ _ _ _ _ _
       c.loop-object.invariant.lines c.in_ok-at.ensures.1 c.in_ok-at-in-Some-children.ensures.1 c.in_ok-end-in-Some-children.ensures.1
-      (constructed_lines c.args.privacy c.args.depth c.loop-object.object-iterator c.next.new.self c.in-Some-children.inner c.in-Some.object c.in-Some.ensures.steps c.in-Some-children.ensures);
+      (constructed_lines c.args.options c.args.depth c.loop-object.object-iterator c.next.new.self c.in-Some-children.inner c.in-Some.object c.in-Some.ensures.steps c.in-Some-children.ensures);
 }

@@ -10,5 +10,5 @@ abbrev pub invariant-loop-object : goal.invariant-loop-object
 invariant-loop-object l = record {
   inside : l.end ≤ length l.buffer;
   shallow : is_shallow l.depth l.object-iterator ≡ true;
-  lines : take l.end l.buffer ++ object_lines l.privacy l.depth l.object-iterator ≡ take l.at l.initial.buffer ++ object_lines l.privacy l.depth l.initial.object-iterator;
+  lines : take l.end l.buffer ++ object_lines l.options l.depth l.object-iterator ≡ take l.at l.initial.buffer ++ object_lines l.options l.depth l.initial.object-iterator;
 }
