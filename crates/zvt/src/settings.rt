@@ -33,6 +33,22 @@ pub fn settings(rt: &HostRuntime, options: &TillOptions<'_>) -> io::Result<Optio
     }))
 }
 
+/// Returns what was read from a word, and reports the word if it could not be read.
+fn reported<T: Copy>(
+    rt: &HostRuntime,
+    read: Option<T>,
+    what: &str,
+    word: &str,
+    expected: &str,
+) -> io::Result<Option<T>>
+    ensures { IfOk result (λ same. same ≡ read) }
+{
+    if read.is_none() {
+        report_invalid(rt, what, word, expected)?;
+    }
+    Ok(read)
+}
+
 /// Returns the password that the word names, or the default one. Reports a wrong word.
 fn password(rt: &HostRuntime, default: [u8; 3], word: Option<&str>) -> io::Result<Option<[u8; 3]>>
     ensures { IfOk result (λ password. password ≡ named default password_of word.entry) }
@@ -40,16 +56,8 @@ fn password(rt: &HostRuntime, default: [u8; 3], word: Option<&str>) -> io::Resul
     let Some(word) = word else {
         return Ok(Some(default));
     };
-    let password = password_of(word);
-    if password.is_none() {
-        report_invalid(
-            rt,
-            "password",
-            word,
-            "expected six decimal digits, e.g. 000000",
-        )?;
-    }
-    Ok(password)
+    let expected = "expected six decimal digits, e.g. 000000";
+    reported(rt, password_of(word), "password", word, expected)
 }
 
 /// Returns the configuration byte that the word names, or the default one. Reports a wrong word.
@@ -59,16 +67,8 @@ fn config(rt: &HostRuntime, default: u8, word: Option<&str>) -> io::Result<Optio
     let Some(word) = word else {
         return Ok(Some(default));
     };
-    let config = config_of(word);
-    if config.is_none() {
-        report_invalid(
-            rt,
-            "configuration byte",
-            word,
-            "expected two hexadecimal digits, e.g. BE",
-        )?;
-    }
-    Ok(config)
+    let expected = "expected two hexadecimal digits, e.g. BE";
+    reported(rt, config_of(word), "configuration byte", word, expected)
 }
 
 /// Returns the currency that the word names, or the default one. Reports a wrong word.
@@ -78,16 +78,8 @@ fn currency(rt: &HostRuntime, default: Currency, word: Option<&str>) -> io::Resu
     let Some(word) = word else {
         return Ok(Some(default));
     };
-    let currency = currency_of(word);
-    if currency.is_none() {
-        report_invalid(
-            rt,
-            "currency",
-            word,
-            "expected four decimal digits, e.g. 0978",
-        )?;
-    }
-    Ok(currency)
+    let expected = "expected four decimal digits, e.g. 0978";
+    reported(rt, currency_of(word), "currency", word, expected)
 }
 
 /// Returns the terminal's decision on payments: it declines them with the code that the word names, or approves them if
@@ -98,12 +90,9 @@ pub fn verdict(rt: &HostRuntime, decline: Option<&str>) -> io::Result<Option<Ver
     let Some(word) = decline else {
         return Ok(Some(Verdict::Approve));
     };
-    let Some(code) = result_code(word) else {
-        let expected = "expected two hexadecimal digits other than 00, e.g. 6C";
-        report_invalid(rt, "result code", word, expected)?;
-        return Ok(None);
-    };
-    Ok(Some(Verdict::Decline(code)))
+    let expected = "expected two hexadecimal digits other than 00, e.g. 6C";
+    let code = reported(rt, result_code(word), "result code", word, expected)?;
+    Ok(code.map(Verdict::Decline))
 }
 
 /// Returns what the terminal does beyond the profile. Reports the first wrong word, and returns `None` then.
@@ -142,11 +131,9 @@ fn card(rt: &HostRuntime, word: Option<&str>) -> io::Result<Option<Option<Card>>
     let Some(word) = word else {
         return Ok(Some(None));
     };
-    let Some(card) = card_of(word) else {
-        report_invalid(rt, "card", word, "expected girocard or visa")?;
-        return Ok(None);
-    };
-    Ok(Some(Some(card)))
+    let expected = "expected girocard or visa";
+    let card = reported(rt, card_of(word), "card", word, expected)?;
+    Ok(card.map(Some))
 }
 
 /// Returns the form of receipts that the word names.
@@ -168,14 +155,6 @@ fn receipts(rt: &HostRuntime, word: Option<&str>) -> io::Result<Option<Receipts>
     let Some(word) = word else {
         return Ok(Some(Receipts::Lines));
     };
-    let receipts = receipts_of(word);
-    if receipts.is_none() {
-        report_invalid(
-            rt,
-            "form of receipts",
-            word,
-            "expected lines, blocks or none",
-        )?;
-    }
-    Ok(receipts)
+    let expected = "expected lines, blocks or none";
+    reported(rt, receipts_of(word), "form of receipts", word, expected)
 }
