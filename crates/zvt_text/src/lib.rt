@@ -27,7 +27,7 @@ pub use form::Form;
 pub use heads::kind_name;
 pub use meanings::{card_type_name, command_name, meaning, status_words, tag_name};
 pub use privacy::{Privacy, is_secret_tag};
-pub use receipts::{put_receipt_type, receipt_block, receipt_line};
+pub use receipts::{printed_line, put_receipt_type, receipt_block, receipt_line};
 pub use text::{Says, Text};
 pub use text_blocks::{ReceiptType, TextBlock, block_line, block_type, text_block};
 pub use write::{currency_digits, hexadecimal, line, message, numbers, result_words};
