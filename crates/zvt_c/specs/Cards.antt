@@ -1,6 +1,7 @@
 -- The card of the last order: its name, and its number with all digits hidden but the first six and the last four
 -- (PA00P015, list of bitmaps: 22 card number, 8B card name).
-use Rattle.std.specs.Prelude.{◌≡◌, ℕ, ◌+◌, ◌-◌, ◌/◌, ◌%◌, ◌==◌, nat_lt, nat_le, Bool, true, false, cond, if◌then◌else◌, List, [], ◌∷◌, ◌++◌, map, take, drop, replicate, length, Option, Some, None, codes}
+use Rattle.std.specs.Prelude.{◌≡◌, ◌≤◌, ℕ, count_by, ◌+◌, ◌-◌, ◌/◌, ◌%◌, ◌==◌, nat_lt, nat_le, Bool, true, false, cond, if◌then◌else◌, List, [], ◌∷◌, ◌++◌, map, take, drop, replicate, length, Option, Some, None, codes}
+use Rattle.std.specs.Char.{is_ascii_digit}
 use Rattle.zvt_field.specs.Grammar.{Field, plain}
 use Rattle.zvt_field.specs.Named.{content_of}
 use Rattle.zvt_apdu.specs.Message.{Message, status, completion}
@@ -25,6 +26,10 @@ between digits = length digits - 10
 
 abbrev pub masked : List ℕ → List ℕ
 masked digits = map symbol (take 6 digits) ++ replicate (between digits) 42 ++ map symbol (drop (6 + between digits) digits)
+
+-- however many digits the terminal sends
+abbrev pub FewDigitsShow : Type 0
+FewDigitsShow = (digits : List ℕ) → count_by is_ascii_digit (masked digits) ≤ 10
 
 -- ---- the name
 

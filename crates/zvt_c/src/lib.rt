@@ -5,6 +5,7 @@ mod answer;
 mod card;
 mod codec;
 mod handle;
+pub mod laws;
 mod lines;
 mod names;
 mod notes;
