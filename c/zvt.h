@@ -176,9 +176,10 @@ uint32_t zvt_till_line(zvt_till *till, size_t place, uint32_t codepage, uint8_t 
 /* Size of a buffer that holds either text of a card. */
 #define ZVT_CARD_ROOM 198
 /* Write the name (8B) and the number (22) of the card that the terminal named in its last status information about the last
- * order, for your own receipt. Of the number, all but the first six and the last four digits are asterisks, whatever the
- * terminal sent. Each call returns the size of the text; if the room is too small, nothing is written. 0: the terminal named
- * none. An order other than ZVT_CANCEL forgets the card, and so do zvt_till_load and zvt_till_recover. */
+ * order, for your own receipt. The name is as it was sent, up to its first zero byte. Of the number, all but the first six and
+ * the last four digits are asterisks, whatever the terminal sent. Each call returns the size of the text; if the room is too
+ * small, nothing is written. 0: the terminal named none. An order other than ZVT_CANCEL forgets the card, and so do
+ * zvt_till_load and zvt_till_recover. */
 size_t zvt_till_card_name(zvt_till *till, uint8_t *room, size_t room_length);
 size_t zvt_till_card_number(zvt_till *till, uint8_t *room, size_t room_length);
 
