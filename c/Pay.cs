@@ -6,7 +6,7 @@ static class Pay {
     static void Main(string[] words) {
         var settings = new Settings {
             Book = words[2],
-            PrintLine = line => Console.WriteLine("  | " + Till.TextOfLine(line)),
+            PrintText = (line, copy) => Console.WriteLine("  | " + line),
         };
         using (var till = new Till(settings)) {
             till.Connect(words[0], int.Parse(words[1]), TimeSpan.FromSeconds(60));

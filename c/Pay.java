@@ -1,5 +1,4 @@
 import java.io.IOException;
-import java.nio.charset.Charset;
 import java.nio.file.Paths;
 import java.time.Duration;
 
@@ -7,7 +6,7 @@ import java.time.Duration;
 public final class Pay {
     public static void main(String[] words) throws IOException {
         Zvt.Settings settings = new Zvt.Settings().book(Paths.get(words[2]))
-            .printLine(line -> System.out.println("  | " + new String(line, Charset.forName("IBM437"))));
+            .printText((line, copy) -> System.out.println("  | " + line));
         if (System.getenv("ZVT_LIBRARY") != null) {
             settings.library(System.getenv("ZVT_LIBRARY"));
         }

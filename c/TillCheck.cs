@@ -31,6 +31,7 @@ static class TillCheck {
         Layout(typeof(Native.Answer));
         Layout(typeof(Native.Outcome));
         Layout(typeof(Native.Step));
+        Layout(typeof(Native.Line));
         Layout(typeof(Native.State));
         Layout(typeof(Native.Entry));
     }
@@ -137,6 +138,12 @@ static class TillCheck {
     const string Ack = "800000", Done = "060F00", Line = "06D1070054" + "68616E6B73";
     const string Approved = "040F1027000400000000" + "12340B00001787" + "0005";
 
+    // A receipt of two lines for the customer, the second in code page 437; and a status with the card's name and its number.
+    const string Block = "06D316" + "0614" + "1F070102" + "250E" + "070544616E6B65" + "0705477281E165";
+    const string WithCard = "040F27" + "27000400000000" + "12340B00001787" + "0005" + "22F0F86726123456781234" + "8BF0F9" + "6769726F6361726400";
+
+    static string Digits(byte[] bytes) { return BitConverter.ToString(bytes).Replace("-", ""); }
+
     static Till Registered(Settings settings, Memory line) {
         var till = new Till(settings);
         till.Connect(line.Says(Ack + Done), Second);
@@ -161,6 +168,7 @@ static class TillCheck {
         Tells("closed total", () => closed.Total);
         Tells("closed registered", () => closed.IsRegistered);
         Tells("closed last", () => closed.Last);
+        Tells("closed card", () => closed.CardName);
         Tells("closed save", () => closed.Save());
         Tells("closed load", () => { closed.Load(new byte[8]); return null; });
         Tells("closed connect", () => { closed.Connect(new Memory(), Second); return null; });
@@ -174,6 +182,15 @@ static class TillCheck {
         Console.WriteLine($"after: {till.Last}, lines {lines}, sent {End(first.Sent, 24)}");
         first.Says(Ack + Done);
         Tells("goes on", () => till.CloseDay());
+        till.Dispose();
+
+        var printer = new Memory();
+        var rows = new List<string>();
+        till = Registered(new Settings { PrintText = (text, copy) => rows.Add($"{Digits(Encoding.UTF8.GetBytes(text))} {(int)copy}") }, printer);
+        printer.Says(Ack + Line + Block + WithCard + Done);
+        Tells("prints", () => till.Pay(1234));
+        rows.ForEach(Console.WriteLine);
+        Console.WriteLine($"card {till.CardName} {till.CardNumber}");
         till.Dispose();
 
         var second = new Memory();
@@ -253,7 +270,7 @@ static class TillCheck {
         if (till == null) return;
         foreach (var entry in till.Book) Console.WriteLine("booked " + entry);
         foreach (var entry in till.Unclear) Console.WriteLine("unclear " + entry);
-        Console.WriteLine($"total {till.Total}, saved {BitConverter.ToString(till.Save()).Replace("-", "")}");
+        Console.WriteLine($"total {till.Total}, saved {Digits(till.Save())}");
         till.Dispose();
     }
 

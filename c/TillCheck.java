@@ -1,11 +1,13 @@
 import java.io.EOFException;
 import java.io.IOException;
 import java.lang.reflect.Method;
+import java.nio.charset.StandardCharsets;
 import java.nio.file.Files;
 import java.nio.file.Path;
 import java.nio.file.Paths;
 import java.time.Duration;
 import java.util.ArrayDeque;
+import java.util.ArrayList;
 import java.util.Arrays;
 import java.util.Deque;
 import java.util.List;
@@ -34,8 +36,8 @@ public final class TillCheck {
     private static void layouts() throws Exception {
         Method offset = Structure.class.getDeclaredMethod("fieldOffset", String.class);
         offset.setAccessible(true);
-        Structure[] structs = {new Zvt.Answer(), new Zvt.OutcomeNumbers(), new Zvt.Step(), new Zvt.State(), new Zvt.EntryNumbers()};
-        String[] names = {"_Answer", "_Outcome", "_Step", "_State", "_Entry"};
+        Structure[] structs = {new Zvt.Answer(), new Zvt.OutcomeNumbers(), new Zvt.Step(), new Zvt.LineNumbers(), new Zvt.State(), new Zvt.EntryNumbers()};
+        String[] names = {"_Answer", "_Outcome", "_Step", "_Line", "_State", "_Entry"};
         System.out.println("version " + Zvt.version(LIBRARY));
         for (int at = 0; at < structs.length; at++) {
             StringBuilder line = new StringBuilder(names[at] + " " + structs[at].size());
@@ -127,6 +129,9 @@ public final class TillCheck {
 
     private static final String ACK = "800000", DONE = "060F00", LINE = "06D1070054" + "68616E6B73";
     private static final String APPROVED = "040F1027000400000000" + "12340B00001787" + "0005";
+    // A receipt of two lines for the customer, the second in code page 437; and a status with the card's name and its number.
+    private static final String BLOCK = "06D316" + "0614" + "1F070102" + "250E" + "070544616E6B65" + "0705477281E165";
+    private static final String WITH_CARD = "040F27" + "27000400000000" + "12340B00001787" + "0005" + "22F0F86726123456781234" + "8BF0F9" + "6769726F6361726400";
 
     private static Zvt.Till registered(Zvt.Settings settings, Memory line) throws IOException {
         Zvt.Till till = new Zvt.Till(settings);
@@ -150,6 +155,7 @@ public final class TillCheck {
         tells("closed total", closed::total);
         tells("closed registered", closed::isRegistered);
         tells("closed last", closed::last);
+        tells("closed card", closed::cardName);
         tells("closed save", closed::save);
         tells("closed load", () -> { closed.load(new byte[8]); return null; });
         tells("closed connect", () -> { closed.connect(new Memory(), SECOND); return null; });
@@ -164,6 +170,16 @@ public final class TillCheck {
         System.out.println("after: " + till[0].last() + ", lines " + lines[0] + ", sent " + first.sent.substring(first.sent.length() - 24));
         first.says(ACK + DONE);
         tells("goes on", till[0]::closeDay);
+        till[0].close();
+
+        Memory printer = new Memory();
+        List<String> rows = new ArrayList<>();
+        till[0] = registered(settings().printText((text, copy) ->
+            rows.add(digits(text.getBytes(StandardCharsets.UTF_8)) + " " + copy.ordinal())), printer);
+        printer.says(ACK + LINE + BLOCK + WITH_CARD + DONE);
+        tells("prints", () -> till[0].pay(1234));
+        rows.forEach(System.out::println);
+        System.out.println("card " + till[0].cardName() + " " + till[0].cardNumber());
         till[0].close();
 
         Memory second = new Memory();

@@ -169,6 +169,13 @@ namespace Zvt {
         }
     }
 
+    /// <summary>The code page of the lines to print.</summary>
+    public enum Codepage { Cp437 = 1, Cp850, Iso8859_1, Utf8 }
+
+    /// <summary>The receipt that a line belongs to: None for a print line, and if the terminal named none. Other numbers are as the
+    /// terminal sent them.</summary>
+    public enum Copy { None, Merchant, Customer, Administration }
+
     /// <summary>The settings of a till.</summary>
     public sealed class Settings {
         int password, config = 0xBE, currency = 978;
@@ -179,9 +186,13 @@ namespace Zvt {
         public int Currency { get { return currency; } set { currency = (int)Words.Whole(nameof(Currency), value, 0, 9999); } }
         /// <summary>The file in which the till keeps its book, which survives every end of the process. Null for none.</summary>
         public string Book { get; set; }
-        /// <summary>Receives the bytes of each print line, in the terminal's character set. Its exceptions are postponed until the
-        /// order has ended.</summary>
+        /// <summary>Receives the bytes of each line to print, in a print line or a text block, in the terminal's character set. Its
+        /// exceptions are postponed until the order has ended.</summary>
         public Action<byte[]> PrintLine { get; set; }
+        /// <summary>Receives the text of each line to print, and the receipt that it belongs to. Its exceptions are postponed, too.</summary>
+        public Action<string, Copy> PrintText { get; set; }
+        /// <summary>The code page of these texts.</summary>
+        public Codepage Codepage { get; set; } = Codepage.Cp437;
         /// <summary>Receives the text of each message of the terminal, as the program zvt shows it. Its exceptions are postponed, too.</summary>
         public Action<string> Heard { get; set; }
     }
@@ -191,6 +202,8 @@ namespace Zvt {
         const int Room = 8 * 32, LineRoom = 65534, RecordRoom = 131200;
         readonly Native.TillHandle handle = new Native.TillHandle();
         readonly Action<byte[]> printLine;
+        readonly Action<string, Copy> printText;
+        readonly Codepage codepage;
         readonly Action<string> heard;
         readonly byte[] output = new byte[Room], text = new byte[LineRoom], record;
         readonly Journal journal;
@@ -209,6 +222,8 @@ namespace Zvt {
                 throw new DllNotFoundException($"the calls of {Native.Library} are of number {Native.zvt_abi()}, and Zvt.cs is made for {Native.Abi}");
             }
             printLine = settings.PrintLine;
+            printText = settings.PrintText;
+            codepage = settings.Codepage;
             heard = settings.Heard;
             try {
                 Check(Native.zvt_till_new(handle, (uint)settings.Password, (byte)settings.Config, (ushort)settings.Currency));
@@ -226,23 +241,6 @@ namespace Zvt {
         public static string StatusName(byte status) {
             return Native.Name(Native.zvt_status_name, status);
         }
-
-        /// <summary>Decodes a print line in code page 437, which most terminals use and some systems lack.</summary>
-        public static string TextOfLine(byte[] line) {
-            var text = new StringBuilder();
-            foreach (var it in line) text.Append(it < 128 ? (char)it : CodePage437[it - 128]);
-            return text.ToString();
-        }
-
-        const string CodePage437 =
-            "\u00C7\u00FC\u00E9\u00E2\u00E4\u00E0\u00E5\u00E7\u00EA\u00EB\u00E8\u00EF\u00EE\u00EC\u00C4\u00C5"
-            + "\u00C9\u00E6\u00C6\u00F4\u00F6\u00F2\u00FB\u00F9\u00FF\u00D6\u00DC\u00A2\u00A3\u00A5\u20A7\u0192"
-            + "\u00E1\u00ED\u00F3\u00FA\u00F1\u00D1\u00AA\u00BA\u00BF\u2310\u00AC\u00BD\u00BC\u00A1\u00AB\u00BB"
-            + "\u2591\u2592\u2593\u2502\u2524\u2561\u2562\u2556\u2555\u2563\u2551\u2557\u255D\u255C\u255B\u2510"
-            + "\u2514\u2534\u252C\u251C\u2500\u253C\u255E\u255F\u255A\u2554\u2569\u2566\u2560\u2550\u256C\u2567"
-            + "\u2568\u2564\u2565\u2559\u2558\u2552\u2553\u256B\u256A\u2518\u250C\u2588\u2584\u258C\u2590\u2580"
-            + "\u03B1\u00DF\u0393\u03C0\u03A3\u03C3\u00B5\u03C4\u03A6\u0398\u03A9\u03B4\u221E\u03C6\u03B5\u2229"
-            + "\u2261\u00B1\u2265\u2264\u2320\u2321\u00F7\u2248\u00B0\u2219\u00B7\u221A\u207F\u00B2\u25A0\u00A0";
 
         /// <summary>The version of the library, such as 0.2.0.</summary>
         public static string Version {
@@ -516,15 +514,42 @@ namespace Zvt {
                         broken = new IOException(error.Message, error);
                     }
                 }
-                if (step.printed == 1 && printLine != null) {
-                    var printed = Part(text, 0, (int)step.line);
-                    Tell(() => printLine(printed));
-                }
+                if (step.printed == 1) Tell(PrintLines);
                 if (status == (uint)Status.NoTill) throw new IOException("the terminal sent what is no message");
                 Check(status);
                 piece = Part(piece, (int)step.taken, piece.Length);
             }
         }
+
+        /// <summary>Hands out the lines that the last message has to print.</summary>
+        void PrintLines() {
+            byte[] bytes;
+            for (uint place = 0; (bytes = LineAt(place, 0, out _)) != null; place++) {
+                var sent = bytes;
+                if (printLine != null) Tell(() => printLine(sent));
+                if (printText == null) continue;
+                var shown = Encoding.UTF8.GetString(LineAt(place, (uint)codepage, out var copy));
+                Tell(() => printText(shown, (Copy)copy));
+            }
+        }
+
+        /// <summary>Returns this line of the last message, or null if there is none.</summary>
+        byte[] LineAt(uint place, uint page, out uint copy) {
+            for (var room = text;; ) {
+                var status = Native.zvt_till_line(handle, (UIntPtr)place, page, room, Native.Size(room), out var row);
+                copy = row.copy;
+                if (status == (uint)Status.Argument) return null;
+                Check(status);
+                if (row.size <= (ulong)room.Length) return Part(room, 0, (int)row.size);
+                room = new byte[row.size];
+            }
+        }
+
+        /// <summary>The name of the card of the last order, or null if the terminal named none.</summary>
+        public string CardName { get { return Native.Written((room, length) => Native.zvt_till_card_name(handle, room, length)); } }
+
+        /// <summary>The number of that card, or null. All digits but the first six and the last four are asterisks.</summary>
+        public string CardNumber { get { return Native.Written((room, length) => Native.zvt_till_card_number(handle, room, length)); } }
 
         /// <summary>Postpones the first exception of a callback until everything that the terminal sent is read and answered.</summary>
         void Tell(Action callback) {
@@ -793,7 +818,7 @@ namespace Zvt {
     static class Native {
         public const string Library = "libzvt.so.0";
         /// <summary>The layouts and calls that this file is made for.</summary>
-        public const uint Abi = 2;
+        public const uint Abi = 3;
         public const uint More = 1;
         public const uint Register = 1, Pay = 2, Reverse = 3, CloseDay = 4, Cancel = 5;
 
@@ -801,9 +826,14 @@ namespace Zvt {
 
         /// <summary>The name that a call writes for a number, or null.</summary>
         public static string Name(Func<uint, byte[], UIntPtr, UIntPtr> call, uint number) {
-            var room = new byte[64];
-            var size = (int)call(number, room, Size(room));
-            return size == 0 ? null : Encoding.ASCII.GetString(room, 0, size);
+            return Written((room, length) => call(number, room, length));
+        }
+
+        /// <summary>The text that a call writes, or null.</summary>
+        public static string Written(Func<byte[], UIntPtr, UIntPtr> call) {
+            var room = new byte[198];
+            var size = (int)call(room, Size(room));
+            return size == 0 ? null : Encoding.GetEncoding("iso-8859-1").GetString(room, 0, size);
         }
 
         [StructLayout(LayoutKind.Sequential)]
@@ -814,6 +844,9 @@ namespace Zvt {
 
         [StructLayout(LayoutKind.Sequential)]
         public struct Step { public ulong taken, send, place, line; public uint reason, message, printed; public Outcome outcome; }
+
+        [StructLayout(LayoutKind.Sequential)]
+        public struct Line { public ulong size; public uint copy; }
 
         [StructLayout(LayoutKind.Sequential)]
         public struct State { public ulong total, booked, unclear, unclear_reversals, held; public uint registered, running; public Outcome last; }
@@ -852,6 +885,9 @@ namespace Zvt {
         [DllImport(Library)] public static extern uint zvt_till_order(TillHandle till, uint order, ulong number, [Out] byte[] room, UIntPtr length, out Step step);
         [DllImport(Library)] public static extern uint zvt_till_feed_all(TillHandle till, byte[] piece, UIntPtr length, [Out] byte[] room,
             UIntPtr roomLength, [Out] byte[] line, UIntPtr lineLength, out Step step);
+        [DllImport(Library)] public static extern uint zvt_till_line(TillHandle till, UIntPtr place, uint codepage, [Out] byte[] room, UIntPtr length, out Line line);
+        [DllImport(Library)] public static extern UIntPtr zvt_till_card_name(TillHandle till, [Out] byte[] room, UIntPtr length);
+        [DllImport(Library)] public static extern UIntPtr zvt_till_card_number(TillHandle till, [Out] byte[] room, UIntPtr length);
         [DllImport(Library)] public static extern uint zvt_till_state(TillHandle till, out State state);
         [DllImport(Library)] public static extern uint zvt_till_entry(TillHandle till, UIntPtr place, out Entry entry);
         [DllImport(Library)] public static extern uint zvt_till_unclear(TillHandle till, UIntPtr place, out Entry entry);

@@ -23,6 +23,7 @@ import java.util.HashMap;
 import java.util.List;
 import java.util.Locale;
 import java.util.Map;
+import java.util.function.BiConsumer;
 import java.util.function.BooleanSupplier;
 import java.util.function.Consumer;
 
@@ -44,7 +45,7 @@ public final class Zvt {
     private Zvt() {}
 
     /** Version of the struct layouts and calls that this file expects. */
-    static final int ABI = 2;
+    static final int ABI = 3;
     private static final int ROOM = 8 * 32, LINE_ROOM = 65534, RECORD_ROOM = 131200;
     private static final long MAX_AMOUNT = 999_999_999_999L;
 
@@ -62,7 +63,7 @@ public final class Zvt {
      */
     public enum Doubt { NO, UNCLEAR_REVERSAL, TAKEN_BACK }
 
-    private static final int OK = 0, MORE = 1, REFUSED = 2, CLOSED = 6, NOTHING_TO_CANCEL = 13;
+    private static final int OK = 0, MORE = 1, REFUSED = 2, ARGUMENT = 5, CLOSED = 6, NOTHING_TO_CANCEL = 13;
     private static final int REGISTER = 1, PAY = 2, REVERSE = 3, CLOSE_DAY = 4, CANCEL = 5;
 
     /** The library refused a call. The till has not changed. The status is one of zvt.h. */
@@ -202,12 +203,20 @@ public final class Zvt {
         return reference.getBytes(StandardCharsets.US_ASCII);
     }
 
+    /** The code page of the lines to print. */
+    public enum Codepage { CP437, CP850, ISO_8859_1, UTF_8 }
+
+    /** The receipt that a line belongs to: NONE for a print line, and if the terminal named none. */
+    public enum Copy { NONE, MERCHANT, CUSTOMER, ADMINISTRATION, OTHER }
+
     /** The settings of a till. */
     public static final class Settings {
         private String library = "libzvt.so.0";
         private int password = 0, config = 0xBE, currency = 978;
         private Path book;
         private Consumer<byte[]> printLine;
+        private BiConsumer<String, Copy> printText;
+        private Codepage codepage = Codepage.CP437;
         private Consumer<String> heard;
 
         /** The library's name or path. */
@@ -219,8 +228,13 @@ public final class Zvt {
         public Settings currency(int number) { currency = (int) whole("currency", number, 0, 9999); return this; }
         /** The file in which the till keeps its book, which survives every end of the process. */
         public Settings book(Path file) { book = file; return this; }
-        /** Receives the bytes of each print line, in the terminal's character set. Its exceptions wait for the order's outcome. */
+        /** Receives the bytes of each line to print, in a print line or a text block, in the terminal's character set. Its exceptions
+         * wait for the order's outcome. */
         public Settings printLine(Consumer<byte[]> taker) { printLine = taker; return this; }
+        /** Receives the text of each line to print, and the receipt that it belongs to. Its exceptions wait, too. */
+        public Settings printText(BiConsumer<String, Copy> taker) { printText = taker; return this; }
+        /** The code page of these texts. */
+        public Settings codepage(Codepage page) { codepage = page; return this; }
         /** Receives the text of each message of the terminal, as the program zvt shows it. Its exceptions wait, too. */
         public Settings heard(Consumer<String> taker) { heard = taker; return this; }
     }
@@ -288,6 +302,8 @@ public final class Zvt {
     public static final class Till implements AutoCloseable {
         private final Calls calls;
         private final Consumer<byte[]> printLine;
+        private final BiConsumer<String, Copy> printText;
+        private final Codepage codepage;
         private final Consumer<String> heard;
         private final Memory handle = new Memory(16);
         private final byte[] out = new byte[ROOM], text = new byte[LINE_ROOM], record;
@@ -303,6 +319,8 @@ public final class Zvt {
         public Till(Settings settings) throws BookException {
             calls = open(settings.library);
             printLine = settings.printLine;
+            printText = settings.printText;
+            codepage = settings.codepage;
             heard = settings.heard;
             handle.clear();
             check(calls.zvt_till_new(handle, settings.password, (byte) settings.config, (short) settings.currency));
@@ -654,9 +672,8 @@ public final class Zvt {
                         broken = error;
                     }
                 }
-                if (step.printed == 1 && printLine != null) {
-                    byte[] printed = Arrays.copyOf(text, (int) step.line);
-                    tell(() -> printLine.accept(printed));
+                if (step.printed == 1) {
+                    tell(this::printLines);
                 }
                 if (status == REFUSED) {
                     throw new IOException("the terminal sent what is no message");
@@ -665,6 +682,53 @@ public final class Zvt {
                 piece = Arrays.copyOfRange(piece, (int) step.taken, piece.length);
             }
             return broken;
+        }
+
+        /** Hands out the lines that the last message has to print. */
+        private void printLines() {
+            LineNumbers row = new LineNumbers();
+            for (int place = 0; ; place++) {
+                byte[] bytes = lineAt(place, 0, row);
+                if (bytes == null) {
+                    return;
+                }
+                if (printLine != null) {
+                    tell(() -> printLine.accept(bytes));
+                }
+                if (printText != null) {
+                    String shown = new String(lineAt(place, codepage.ordinal() + 1, row), StandardCharsets.UTF_8);
+                    Copy copy = Copy.values()[row.copy <= Copy.OTHER.ordinal() ? row.copy : Copy.OTHER.ordinal()];
+                    tell(() -> printText.accept(shown, copy));
+                }
+            }
+        }
+
+        /** Returns this line of the last message, or null if there is none. */
+        private byte[] lineAt(int place, int page, LineNumbers row) {
+            byte[] room = text;
+            for (;;) {
+                int status = calls.zvt_till_line(handle, new NativeLong(place), page, room, new NativeLong(room.length), row);
+                if (status == ARGUMENT) {
+                    return null;
+                }
+                check(status);
+                if (row.size <= room.length) {
+                    return Arrays.copyOf(room, (int) row.size);
+                }
+                room = new byte[(int) row.size];
+            }
+        }
+
+        /** The name of the card of the last order, or null if the terminal named none. */
+        public String cardName() {
+            state();
+            return nameOf(0, (number, room, length) -> calls.zvt_till_card_name(handle, room, length));
+        }
+
+        /** The number of that card, or null. All digits but the first six and the last four are asterisks. */
+        public String cardNumber() {
+            state();
+            return nameOf(0, (number, room, length) -> calls.zvt_till_card_number(handle, room, length));
         }
 
         private State state() {
@@ -992,9 +1056,9 @@ public final class Zvt {
     private interface Name { NativeLong write(int number, byte[] room, NativeLong length); }
 
     private static String nameOf(int number, Name name) {
-        byte[] room = new byte[64];
+        byte[] room = new byte[198];
         int size = name.write(number, room, new NativeLong(room.length)).intValue();
-        return size == 0 ? null : new String(room, 0, size, StandardCharsets.US_ASCII);
+        return size == 0 ? null : new String(room, 0, size, StandardCharsets.ISO_8859_1);
     }
 
     /** The functions of zvt.h. */
@@ -1011,6 +1075,9 @@ public final class Zvt {
         int zvt_till_lost(Pointer till, Step step);
         int zvt_till_order(Pointer till, int order, long number, byte[] out, NativeLong length, Step step);
         int zvt_till_feed_all(Pointer till, byte[] piece, NativeLong length, byte[] out, NativeLong outLength, byte[] line, NativeLong lineLength, Step step);
+        int zvt_till_line(Pointer till, NativeLong place, int codepage, byte[] room, NativeLong length, LineNumbers line);
+        NativeLong zvt_till_card_name(Pointer till, byte[] room, NativeLong length);
+        NativeLong zvt_till_card_number(Pointer till, byte[] room, NativeLong length);
         int zvt_till_state(Pointer till, State state);
         int zvt_till_entry(Pointer till, NativeLong place, EntryNumbers entry);
         int zvt_till_unclear(Pointer till, NativeLong place, EntryNumbers entry);
@@ -1043,6 +1110,12 @@ public final class Zvt {
         public long taken, send, place, line;
         public int reason, message, printed;
         public OutcomeNumbers outcome;
+    }
+
+    @Structure.FieldOrder({"size", "copy"})
+    public static class LineNumbers extends Structure {
+        public long size;
+        public int copy;
     }
 
     @Structure.FieldOrder({"total", "booked", "unclear", "unclear_reversals", "held", "registered", "running", "last"})

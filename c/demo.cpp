@@ -7,7 +7,7 @@ static void say(const char *what, const zvt::Reply &reply) {
     std::printf("%s: outcome %u, to send:", what, reply.outcome.kind);
     for (uint8_t byte : reply.send) std::printf(" %02X", byte);
     std::printf("\n");
-    for (const std::string &line : reply.lines) std::printf("  printed: %s\n", line.c_str());
+    for (const zvt::Line &line : reply.lines) std::printf("  printed%s: %s\n", line.copy == ZVT_CUSTOMER ? " for the customer" : "", line.text.c_str());
 }
 
 /* A till's journal, which would be in a file, and the till that is made of it. */
@@ -44,8 +44,11 @@ static void show_journal(const uint8_t *registered, size_t length) {
 
 int main() {
     const uint8_t registered[] = {0x80, 0x00, 0x00, 0x06, 0x0F, 0x00};
-    const uint8_t approved[] = {0x80, 0x00, 0x00, 0x06, 0xD1, 0x07, 0x00, 'T', 'h', 'a', 'n', 'k', 's', 0x04, 0x0F, 0x10, 0x27, 0x00, 0x04, 0x00, 0x00, 0x00, 0x00,
-                                0x12, 0x34, 0x0B, 0x00, 0x00, 0x17, 0x87, 0x00, 0x05, 0x06, 0x0F, 0x00,
+    const uint8_t approved[] = {0x80, 0x00, 0x00, 0x06, 0xD1, 0x07, 0x00, 'T', 'h', 'a', 'n', 'k', 's',
+                                0x06, 0xD3, 0x0F, 0x06, 0x0D, 0x1F, 0x07, 0x01, 0x02, 0x25, 0x07, 0x07, 0x01, '1', 0x07, 0x02, 0x81, '2',
+                                0x04, 0x0F, 0x27, 0x27, 0x00, 0x04, 0x00, 0x00, 0x00, 0x00, 0x12, 0x34, 0x0B, 0x00, 0x00, 0x17, 0x87, 0x00, 0x05,
+                                0x22, 0xF0, 0xF8, 0x67, 0x26, 0x12, 0x34, 0x56, 0x78, 0x12, 0x34, 0x8B, 0xF0, 0xF9, 'g', 'i', 'r', 'o', 'c', 'a', 'r', 'd', 0x00,
+                                0x06, 0x0F, 0x00,
                                 0x06, 0xD1, 0x04, 0x00, 'B', 'y', 'e', 0x06, 0xD1, 0x04, 0x00, 'B', 'y', 'e'};
     const uint8_t reversed_before[] = {0x84, 0xB4, 0x00};
     zvt::Till till;
@@ -53,7 +56,9 @@ int main() {
     till.order(ZVT_REGISTER);
     say("registered", till.feed(registered, sizeof registered));
     till.order(ZVT_PAY, 1234);
+    till.codepage = ZVT_CP437;
     say("paid", till.feed(approved, sizeof approved));
+    std::printf("card: %s %s\n", till.card_name().c_str(), till.card_number().c_str());
     try {
         till.order(ZVT_REVERSE, 7);
     } catch (const zvt::Refused &refused) {

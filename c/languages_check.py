@@ -46,7 +46,7 @@ ARGUMENTS = ["password: argument: {password} is a number from 0 to 999999, and n
              "place: argument: place is a number from 0 to 2147483647, and not -1",
              "offline: refused: the line is down", "status 0A: insert the card"]
 CLOSED = [f"closed {call}: use: the till is closed" for call in (
-    "register", "pay", "reverse", "close day", "book", "unclear", "unclear reversals", "total", "registered", "last", "save", "load", "connect")]
+    "register", "pay", "reverse", "close day", "book", "unclear", "unclear reversals", "total", "registered", "last", "card", "save", "load", "connect")]
 # What a callback is told of a registration and of a payment, whose book is kept; and its reference and the length of its time,
 # which the till and one that goes on from its book give.
 HEARD = """heard: paid, trace 000017, receipt 0005
@@ -62,7 +62,9 @@ Status
 Completion
 noted: A-1009, 20
 noted: A-1009, 20""".splitlines()
-USES = ["raises: {raised}: no paper", "after: paid, trace 000017, receipt 0005, lines 2, sent " + 4 * ACK, "goes on: day closed",
+# The lines of a print line and of a text block for the customer, in UTF-8; and the card of the payment.
+PRINTS = ["prints: paid, trace 000017, receipt 0005", "5468616E6B73 0", "44616E6B65 2", "4772C3BCC39F65 2", "card girocard 672612******1234"]
+USES = ["raises: {raised}: no paper", "after: paid, trace 000017, receipt 0005, lines 2, sent " + 4 * ACK, "goes on: day closed", *PRINTS,
         "within: use: a callback can't give its till an order{within}", "after: paid, trace 000017, receipt 0005, booked 1",
         *HEARD, "cancels: aborted, code 6C (abort by time-out or abort key)", "sent 06B000" + ACK,
         "silent: line: the line is lost: unclear: line{why}", "unclear [1234: line], line closed true"]

@@ -14,6 +14,8 @@ int main(void) {
     printf("\n_Step %zu", sizeof(zvt_step));
     AT(zvt_step, taken); AT(zvt_step, send); AT(zvt_step, place); AT(zvt_step, line); AT(zvt_step, reason);
     AT(zvt_step, message); AT(zvt_step, printed); AT(zvt_step, outcome);
+    printf("\n_Line %zu", sizeof(zvt_line));
+    AT(zvt_line, size); AT(zvt_line, copy);
     printf("\n_State %zu", sizeof(zvt_state));
     AT(zvt_state, total); AT(zvt_state, booked); AT(zvt_state, unclear); AT(zvt_state, unclear_reversals);
     AT(zvt_state, held); AT(zvt_state, registered); AT(zvt_state, running); AT(zvt_state, last);

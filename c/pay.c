@@ -42,14 +42,21 @@ static int sent(int line, const uint8_t *bytes, uint64_t size) {
     return 1;
 }
 
-/* Feeds a piece of what the terminal sent, answers it and prints its print lines. 0 where the line has to be given up. */
-static int heard(zvt_till *till, int line, const uint8_t *piece, size_t size, zvt_outcome *outcome) {
+/* Prints the lines of the last message. They are UTF-8. */
+static void print_lines(zvt_till *till) {
     static uint8_t text[ZVT_LINE_ROOM];
-    uint8_t out[ZVT_ROOM];
+    zvt_line row;
+    for (size_t at = 0; zvt_till_line(till, at, ZVT_CP437, text, sizeof text, &row) == ZVT_OK; at++)
+        if (row.size <= sizeof text) printf("  | %.*s\n", (int)row.size, (const char *)text);
+}
+
+/* Feeds a piece of what the terminal sent, answers it and prints its lines. 0 where the line has to be given up. */
+static int heard(zvt_till *till, int line, const uint8_t *piece, size_t size, zvt_outcome *outcome) {
+    uint8_t out[ZVT_ROOM], text[1];
     zvt_step step;
     for (size_t at = 0; at < size; at += step.taken) {
         uint32_t status = zvt_till_feed_all(till, piece + at, size - at, out, sizeof out, text, sizeof text, &step);
-        if (step.printed) printf("  | %.*s\n", (int)step.line, (const char *)text);
+        if (step.printed) print_lines(till);
         if (step.outcome.kind != ZVT_NONE) *outcome = step.outcome;
         if (!sent(line, out, step.send) || status != ZVT_OK) return 0;
     }

@@ -9,15 +9,12 @@ uses
 type
   TShop = class
     Till: TZvtTill;
-    procedure PrintLine(const Line: TBytes);
+    procedure PrintText(const Text: UTF8String; Copy: TZvtCopy);
     function Run(const Step: string; Number: Int64): string;
   end;
 
-procedure TShop.PrintLine(const Line: TBytes);
-var
-  Text: AnsiString;
+procedure TShop.PrintText(const Text: UTF8String; Copy: TZvtCopy);
 begin
-  SetString(Text, PAnsiChar(Line), Length(Line));
   WriteLn('  | ', Text);
 end;
 
@@ -48,7 +45,7 @@ begin
   Shop := TShop.Create;
   try
     Settings := ZvtSettings(ParamStr(3));
-    Settings.PrintLine := Shop.PrintLine;
+    Settings.PrintText := Shop.PrintText;
     Shop.Till := TZvtTill.Create(Settings);
     Shop.Till.Connect(ParamStr(1), StrToInt(ParamStr(2)), 60000);
     for At := 4 to ParamCount do

@@ -12,7 +12,7 @@ def main():
     if len(sys.argv) > 4:
         return run(sys.argv[4], sys.argv[5:])
     saves = []
-    with zvt.Till(sys.argv[1], keep=saves.append, print_line=show) as till:
+    with zvt.Till(sys.argv[1], keep=saves.append, print_line=show, codepage=zvt.Codepage.CP437) as till:
         till.connect(sys.argv[2], int(sys.argv[3]))
         print(f"register -> {till.register()}")
         print(f"pay:1000 -> {till.pay(1000)}")
@@ -35,7 +35,7 @@ def main():
 
 def run(book, steps):
     """Runs the steps, and writes a line of each."""
-    with zvt.Till(sys.argv[1], print_line=show, book=book) as till:
+    with zvt.Till(sys.argv[1], print_line=show, book=book, codepage=zvt.Codepage.CP437) as till:
         till.connect(sys.argv[2], int(sys.argv[3]))
         for step in steps:
             print(f"{step} -> {outcome(till, *step.split(':'))}")
@@ -54,7 +54,7 @@ def outcome(till, name, number="0"):
 
 
 def show(line):
-    print(f"  | {line.decode('cp437')}")
+    print(f"  | {line}")
 
 
 def report(till):

@@ -13,6 +13,9 @@ import zvt
 ACK, DONE = "800000", "060F00"
 APPROVED = "040F1027000400000000" + "12340B00001787" + "0005"
 LINE = "06D1070054" + "68616E6B73"
+# A receipt of two lines for the customer, the second in code page 437; and a status with the card's name and its number.
+BLOCK = "06D316" + "0614" + "1F070102" + "250E" + "070544616E6B65" + "0705477281E165"
+CARD = "22F0F86726123456781234" + "8BF0F9" + b"girocard\0".hex()
 REGISTERED, PAID = ACK + DONE, ACK + APPROVED + DONE
 REVERSED = "040F112700040000000012340B00001837000017"
 
@@ -136,6 +139,34 @@ def print_lines_behind_the_completion_hide_no_outcome():
     paid = till.pay(1234)
     assert paid == zvt.Outcome(zvt.Ending.PAID, trace=17, receipt=5), paid
     assert lines == [b"Thanks", b"Thanks"] and terminal.was_sent().endswith(4 * ACK)
+
+
+def lines_of_a_text_block_are_printed_with_their_copy():
+    terminal, lines = Terminal(), []
+    till = till_at(terminal, print_line=lines.append)
+    terminal.says(ACK + LINE + BLOCK + DONE)
+    till.close_day()
+    assert [(line, line.copy) for line in lines] == [(b"Thanks", None), (b"Danke", zvt.Copy.CUSTOMER), (b"Gr\x81\xe1e", zvt.Copy.CUSTOMER)], lines
+
+
+def lines_are_decoded_in_their_code_page():
+    terminal, lines = Terminal(), []
+    till = till_at(terminal, print_line=lines.append, codepage=zvt.Codepage.CP437)
+    terminal.says(ACK + LINE + BLOCK + DONE)
+    till.close_day()
+    assert [(line, line.copy) for line in lines] == [("Thanks", None), ("Danke", zvt.Copy.CUSTOMER), ("Grüße", zvt.Copy.CUSTOMER)], lines
+
+
+def a_payment_has_the_name_and_the_masked_number_of_its_card():
+    terminal = Terminal()
+    till = till_at(terminal)
+    assert till.card_name() is None and till.card_number() is None
+    terminal.says(ACK + "040F27" + APPROVED[6:] + CARD + DONE)
+    till.pay(1234)
+    assert (till.card_name(), till.card_number()) == ("girocard", "672612******1234")
+    terminal.says(ACK + DONE)
+    till.close_day()
+    assert till.card_name() is None and till.card_number() is None
 
 
 def a_print_line_that_raises_loses_nothing():
@@ -349,7 +380,7 @@ def structs_are_those_of_the_header():
     with open(sys.argv[2]) as file:
         wanted = {line.split()[0]: [int(word) for word in line.split()[1:]] for line in file}
     found = {}
-    for struct in (zvt._Handle, zvt._Answer, zvt._Outcome, zvt._Step, zvt._State, zvt._Entry):
+    for struct in (zvt._Handle, zvt._Answer, zvt._Outcome, zvt._Step, zvt._Line, zvt._State, zvt._Entry):
         names = [name for name, _ in struct._fields_]
         found[struct.__name__] = [ctypes.sizeof(struct)] + [getattr(struct, name).offset for name in names]
     assert found == wanted, (found, wanted)

@@ -11,6 +11,9 @@ const
   Done = '060F00';
   PrintLine = '06D107005468616E6B73';
   Approved = '040F1027000400000000' + '12340B00001787' + '0005';
+  { A receipt of two lines for the customer, the second in code page 437; and a status with the card's name and its number. }
+  Block = '06D316' + '0614' + '1F070102' + '250E' + '070544616E6B65' + '0705477281E165';
+  WithCard = '040F27' + '27000400000000' + '12340B00001787' + '0005' + '22F0F86726123456781234' + '8BF0F9' + '6769726F6361726400';
 
 type
   ENoPaper = class(Exception);
@@ -38,6 +41,7 @@ type
     Texts: string;
     procedure Registers(PrintLine: TZvtPrintLine; const Book: string = '');
     procedure Hears(const Text: string);
+    procedure Prints(const Text: UTF8String; Copy: TZvtCopy);
     procedure Raises(const Line: TBytes);
     procedure Orders(const Line: TBytes);
     function Cancels: Boolean;
@@ -125,13 +129,23 @@ begin
   Texts := Texts + Text;
 end;
 
+procedure TCheck.Prints(const Text: UTF8String; Copy: TZvtCopy);
+var
+  It: AnsiChar;
+begin
+  for It in Text do Texts := Texts + IntToHex(Ord(It), 2);
+  Texts := Texts + ' ' + IntToStr(Ord(Copy)) + LineEnding;
+end;
+
 procedure TCheck.Registers(PrintLine: TZvtPrintLine; const Book: string);
 var
   Settings: TZvtSettings;
 begin
   Settings := ZvtSettings(Book);
   Settings.PrintLine := PrintLine;
+  Settings.PrintText := Prints;
   if Book <> '' then Settings.Heard := Hears;
+  Texts := '';
   FreeAndNil(Till);
   Till := TZvtTill.Create(Settings);
   Memory := TMemory.Create;
@@ -178,7 +192,7 @@ begin
   else if Name = 'goes on' then Result := Till.CloseDay.ToString
   else if Name = 'heard' then Result := Till.Pay(1234, nil, 'A-1009').ToString
   else if Name = 'cancels' then Result := Till.Pay(1234, Cancels).ToString
-  else if (Name = 'raises') or (Name = 'within') or (Name = 'silent') then Result := Till.Pay(1234).ToString
+  else if (Name = 'prints') or (Name = 'raises') or (Name = 'within') or (Name = 'silent') then Result := Till.Pay(1234).ToString
   else TZvtTill.Create(Settings).Free;
 end;
 
@@ -212,6 +226,7 @@ var
   A: TZvtAnswer;
   O: TZvtOutcomeNumbers;
   S: TZvtStep;
+  L: TZvtLineNumbers;
   T: TZvtState;
   E: TZvtEntryNumbers;
   H: TZvtHandle;
@@ -222,6 +237,7 @@ begin
   Say('_Outcome ' + IntToStr(SizeOf(O)) + Offset(O.Kind, O) + Offset(O.Code, O) + Offset(O.Trace, O) + Offset(O.Receipt, O) + Offset(O.HasReceipt, O));
   Say('_Step ' + IntToStr(SizeOf(S)) + Offset(S.Taken, S) + Offset(S.Send, S) + Offset(S.Place, S) + Offset(S.Line, S) + Offset(S.Reason, S)
     + Offset(S.Message, S) + Offset(S.Printed, S) + Offset(S.Outcome, S));
+  Say('_Line ' + IntToStr(SizeOf(L)) + Offset(L.Size, L) + Offset(L.Copy, L));
   Say('_State ' + IntToStr(SizeOf(T)) + Offset(T.Total, T) + Offset(T.Booked, T) + Offset(T.Unclear, T) + Offset(T.UnclearReversals, T) + Offset(T.Held, T)
     + Offset(T.Registered, T) + Offset(T.Running, T) + Offset(T.Last, T));
   Say('_Entry ' + IntToStr(SizeOf(E)) + Offset(E.Amount, E) + Offset(E.Trace, E) + Offset(E.Receipt, E) + Offset(E.HasReceipt, E) + Offset(E.Reversed, E)
@@ -252,6 +268,12 @@ begin
   Say('after: ' + Till.Last.ToString + ', lines ' + IntToStr(Lines) + ', sent ' + Copy(Memory.Sent, Length(Memory.Sent) - 23, 24));
   Memory.Says(Ack + Done);
   Tells('goes on');
+
+  Registers(nil);
+  Memory.Says(Ack + PrintLine + Block + WithCard + Done);
+  Tells('prints');
+  Write(Texts);
+  Say('card ' + Till.CardName + ' ' + Till.CardNumber);
 
   Registers(Orders);
   Memory.Says(Ack + PrintLine + Approved + Done);

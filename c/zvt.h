@@ -25,7 +25,7 @@ extern "C" {
 
 /* Version of the struct layouts and call arguments below. If zvt_abi() returns a different number, stop: the library does not
  * match this header. */
-#define ZVT_ABI 2
+#define ZVT_ABI 3
 uint32_t zvt_abi(void);
 /* Writes the version of the library, such as 0.2.0 (ASCII, no final zero), and returns its size. If the room is too small,
  * nothing is written. */
@@ -106,10 +106,10 @@ typedef struct zvt_step {
     uint64_t taken;   /* number of bytes consumed from the piece */
     uint64_t send;    /* send the first `send` bytes of `out` to the terminal now */
     uint64_t place;   /* ZVT_REFUSED: index of the refused byte in its message */
-    uint64_t line;    /* size of the print line received; it is in `line`, if it fits there */
+    uint64_t line;    /* size of the first line to print; it is in `line`, if it fits there */
     uint32_t reason;  /* ZVT_REFUSED: ZVT_NOT_SHORTEST .. ZVT_LENGTH_DIGIT */
     uint32_t message; /* 1: a message is complete; feed the rest of the piece */
-    uint32_t printed; /* 1: the last message is a print line; print it now */
+    uint32_t printed; /* 1: the last message has lines to print: print them now (zvt_till_line) */
     zvt_outcome outcome; /* result of the running order, once it has ended */
 } zvt_step;
 
@@ -132,9 +132,21 @@ typedef struct zvt_entry {
     uint32_t doubt;    /* ZVT_NO_DOUBT .. ZVT_TAKEN_BACK; always ZVT_NO_DOUBT for an unclear payment */
 } zvt_entry;
 
+/* The receipt that a text block (06 D3) belongs to. */
+enum { ZVT_NO_COPY = 0, ZVT_MERCHANT = 1, ZVT_CUSTOMER = 2, ZVT_ADMINISTRATION = 3 };
+
+typedef struct zvt_line {
+    uint64_t size; /* size of the line, in bytes */
+    uint32_t copy; /* type of the receipt: ZVT_MERCHANT .. ZVT_ADMINISTRATION, or another byte that the terminal sent;
+                      ZVT_NO_COPY if it named none, and for a print line (06 D1) */
+} zvt_line;
+
+/* How zvt_till_line writes a line: the bytes as they were sent, or UTF-8 from this code page. */
+enum { ZVT_AS_SENT = 0, ZVT_CP437, ZVT_CP850, ZVT_ISO_8859_1, ZVT_UTF_8 };
+
 /* Size of the buffer `out`. */
 #define ZVT_ROOM 32
-/* Size of a buffer that holds any print line, in any character set. */
+/* Size of a buffer that holds any line to print, as it was sent. */
 #define ZVT_LINE_ROOM 65534
 
 /* Opens a till. The password is a number of up to six digits, the currency a code of ISO 4217 (978 is the euro), and 0xBE is a
@@ -147,14 +159,30 @@ uint32_t zvt_till_lost(zvt_till *till, zvt_step *step);
 /* Starts an order. `number` is the amount in cents for ZVT_PAY, and the index of the booked payment, from 0, for ZVT_REVERSE.
  * The call sets `send` in the step and clears its other fields. Unless it returns ZVT_OK, it clears them all. */
 uint32_t zvt_till_order(zvt_till *till, uint32_t order, uint64_t number, uint8_t *out, size_t out_length, zvt_step *step);
-/* Reads up to the end of one message. Does not return the text of a print line: use zvt_till_feed_all for that. On ZVT_NO_ROOM,
- * ZVT_CLOSED, ZVT_STOPPED and ZVT_NO_MEMORY the step is cleared. */
+/* Reads up to the end of one message. On ZVT_NO_ROOM, ZVT_CLOSED, ZVT_STOPPED and ZVT_NO_MEMORY the step is cleared. */
 uint32_t zvt_till_feed(zvt_till *till, const uint8_t *piece, size_t length, uint8_t *out, size_t out_length, zvt_step *step);
-/* Reads all messages of a piece. Stops after a print line, whose text it writes to `line`, and when `out` has room for fewer
- * than ZVT_ROOM further bytes; then feed the rest again. Send `step->send` bytes whatever the status is: on ZVT_REFUSED and
+/* Reads all messages of a piece. Stops after a message with lines to print, the first of which it writes to `line`, and when
+ * `out` has room for fewer than ZVT_ROOM further bytes; then feed the rest again. Send `step->send` bytes whatever the status is: on ZVT_REFUSED and
  * ZVT_NO_MEMORY, they acknowledge the messages before. On ZVT_NO_ROOM and ZVT_CLOSED the step is cleared. */
 uint32_t zvt_till_feed_all(zvt_till *till, const uint8_t *piece, size_t length, uint8_t *out, size_t out_length,
                            uint8_t *line, size_t line_length, zvt_step *step);
+/* Writes the line at this index, from 0, of the message that the last feed ended with: a print line has one, and a text block
+ * those of its receipt. If the room is too small, nothing is written; `line->size` is the size of the line. With a code page
+ * the line is written in UTF-8, in which control characters, and bytes that are no character, are \x and two hexadecimal
+ * digits. The status is ZVT_OK, ZVT_NO_MEMORY, ZVT_CLOSED, or ZVT_ARGUMENT if there is no such line; unless it is ZVT_OK,
+ * `line` is cleared. */
+uint32_t zvt_till_line(zvt_till *till, size_t place, uint32_t codepage, uint8_t *room, size_t room_length, zvt_line *line);
+
+/* Size of a buffer that holds either text of a card. */
+#define ZVT_CARD_ROOM 198
+/* Write the name (8B) and the number (22) of the card that the terminal named in its last status information about the last
+ * order, for your own receipt. The name is as it was sent, up to its first zero byte. Of the number, all but the first six and
+ * the last four digits are asterisks, whatever the terminal sent. Each call returns the size of the text; if the room is too
+ * small, nothing is written. 0: the terminal named none. An order other than ZVT_CANCEL forgets the card, and so do
+ * zvt_till_load and zvt_till_recover. */
+size_t zvt_till_card_name(zvt_till *till, uint8_t *room, size_t room_length);
+size_t zvt_till_card_number(zvt_till *till, uint8_t *room, size_t room_length);
+
 uint32_t zvt_till_state(zvt_till *till, zvt_state *state);
 uint32_t zvt_till_entry(zvt_till *till, size_t place, zvt_entry *entry);
 uint32_t zvt_till_unclear(zvt_till *till, size_t place, zvt_entry *entry);

@@ -12,7 +12,7 @@
 namespace zvt {
 
 /* The struct layouts that the library uses. */
-static_assert(sizeof(void *) != 8 || (sizeof(zvt_till) == 16 && sizeof(zvt_answer) == 24 && sizeof(zvt_step) == 64));
+static_assert(sizeof(void *) != 8 || (sizeof(zvt_till) == 16 && sizeof(zvt_answer) == 24 && sizeof(zvt_step) == 64 && sizeof(zvt_line) == 16));
 static_assert(sizeof(void *) != 8 || (sizeof(zvt_state) == 72 && sizeof(zvt_entry) == 32));
 static_assert(sizeof(void *) != 8 || (offsetof(zvt_step, outcome) == 44 && offsetof(zvt_state, last) == 48 && offsetof(zvt_entry, doubt) == 28));
 
@@ -23,11 +23,17 @@ public:
     const uint32_t status; /* one of zvt.h's */
 };
 
+/* A line to print, in the code page of Till::codepage. */
+struct Line {
+    std::string text;
+    uint32_t copy; /* ZVT_MERCHANT .. ZVT_ADMINISTRATION, another number that the terminal sent, or ZVT_NO_COPY */
+};
+
 /* Result of feeding bytes from the terminal. Send `send` whatever the status is. */
 struct Reply {
     std::vector<uint8_t> send;
-    std::vector<std::string> lines; /* to print, in the terminal's character set */
-    zvt_outcome outcome{};          /* how the running order ended, if it did */
+    std::vector<Line> lines; /* of print lines and text blocks */
+    zvt_outcome outcome{};   /* how the running order ended, if it did */
     uint64_t taken = 0;
     uint32_t status = ZVT_OK; /* ZVT_REFUSED: no message: give the line up, and call lost(). ZVT_NO_MEMORY: feed what was not taken again. */
 };
@@ -152,8 +158,12 @@ public:
         }
         return notes;
     }
-    Till(Till &&other) noexcept : handle(std::exchange(other.handle, zvt_till{})), line(std::move(other.line)) {}
+    /* ZVT_AS_SENT, or the code page of the lines to print, which are then UTF-8. */
+    uint32_t codepage = ZVT_AS_SENT;
+
+    Till(Till &&other) noexcept : codepage(other.codepage), handle(std::exchange(other.handle, zvt_till{})), line(std::move(other.line)) {}
     Till &operator=(Till &&other) noexcept {
+        std::swap(codepage, other.codepage);
         std::swap(handle, other.handle);
         std::swap(line, other.line);
         return *this;
@@ -184,12 +194,15 @@ public:
             reply.status = zvt_till_feed_all(&handle, piece + reply.taken, length - reply.taken, out, sizeof out, line.data(), line.size(), &step);
             if (reply.status != ZVT_REFUSED && reply.status != ZVT_NO_MEMORY) check(reply.status);
             reply.send.insert(reply.send.end(), out, out + step.send);
-            if (step.printed) reply.lines.emplace_back(line.begin(), line.begin() + step.line);
+            if (step.printed) print(reply);
             if (step.outcome.kind != ZVT_NONE) reply.outcome = step.outcome;
             reply.taken += step.taken;
         }
         return reply;
     }
+    /* The name and the masked number of the card of the last order. Empty if the terminal named none. */
+    std::string card_name() { return written(zvt_till_card_name); }
+    std::string card_number() { return written(zvt_till_card_number); }
     zvt_state state() {
         zvt_state state{};
         check(zvt_till_state(&handle, &state));
@@ -210,6 +223,21 @@ public:
     }
 
 private:
+    /* Adds the lines that the last message has to print. */
+    void print(Reply &reply) {
+        zvt_line one{};
+        for (size_t place = 0; reply.status == ZVT_OK;) {
+            const uint32_t status = zvt_till_line(&handle, place, codepage, line.data(), line.size(), &one);
+            if (status == ZVT_ARGUMENT) return;
+            if (status != ZVT_OK) reply.status = status;
+            else if (one.size > line.size()) line.resize(one.size);
+            else reply.lines.push_back({{line.begin(), line.begin() + one.size}, one.copy}), place++;
+        }
+    }
+    std::string written(size_t (*write)(zvt_till *, uint8_t *, size_t)) {
+        uint8_t room[ZVT_CARD_ROOM];
+        return {room, room + write(&handle, room, sizeof room)};
+    }
     std::vector<zvt_entry> entries(uint64_t count, uint32_t (*show)(zvt_till *, size_t, zvt_entry *)) {
         std::vector<zvt_entry> entries(count);
         for (uint64_t place = 0; place < count; place++) check(show(&handle, place, &entries[place]));

@@ -23,7 +23,7 @@ uses
 
 const
   { Version of the struct layouts and calls that this unit expects. }
-  ZvtAbi = 2;
+  ZvtAbi = 3;
   ZvtMaxAmount = 999999999999;
   { Stands for a number that an outcome or an entry does not have. }
   ZvtNone = -1;
@@ -105,7 +105,13 @@ type
     procedure Write(const Bytes: TBytes); virtual; abstract;
   end;
 
+  { The code page of the lines to print. }
+  TZvtCodepage = (cpAsSent, cp437, cp850, cpIso8859_1, cpUtf8);
+  { The receipt that a line belongs to: cyNone for a print line, and if the terminal named none. }
+  TZvtCopy = (cyNone, cyMerchant, cyCustomer, cyAdministration, cyOther);
+
   TZvtPrintLine = procedure(const Line: TBytes) of object;
+  TZvtPrintText = procedure(const Text: UTF8String; Copy: TZvtCopy) of object;
   TZvtHeard = procedure(const Text: string) of object;
   TZvtQuestion = function: Boolean of object;
 
@@ -118,8 +124,13 @@ type
     Currency: Integer;
     { The file in which the till keeps its book, which survives every end of the process. Empty for none. }
     Book: string;
-    { Receives the bytes of each print line, in the terminal's character set. Its exceptions wait for the order's outcome. }
+    { Receives the bytes of each line to print, in a print line or a text block, in the terminal's character set. Its exceptions
+      wait for the order's outcome. }
     PrintLine: TZvtPrintLine;
+    { Receives the text of each line to print, and the receipt that it belongs to. Its exceptions wait, too. }
+    PrintText: TZvtPrintText;
+    { The code page of these texts. }
+    Codepage: TZvtCodepage;
     { Receives the text of each message of the terminal, as the program zvt shows it. Its exceptions wait, too. }
     Heard: TZvtHeard;
   end;
@@ -137,6 +148,11 @@ type
     Taken, Send, Place, Line: UInt64;
     Reason, Message, Printed: Cardinal;
     Outcome: TZvtOutcomeNumbers;
+  end;
+
+  TZvtLineNumbers = record
+    Size: UInt64;
+    Copy: Cardinal;
   end;
 
   TZvtState = record
@@ -195,6 +211,8 @@ type
   private
     FHandle: TZvtHandle;
     FPrintLine: TZvtPrintLine;
+    FPrintText: TZvtPrintText;
+    FCodepage: TZvtCodepage;
     FHeard: TZvtHeard;
     FOut, FText, FRecord, FUnheard: TBytes;
     FJournal: TZvtJournal;
@@ -220,6 +238,11 @@ type
     procedure Feed(Piece: TBytes; var Broken: string);
     function FindFirst(var Answer: TZvtAnswer): Integer;
     procedure Print(const Line: TBytes);
+    procedure PrintAsText(Place: NativeUInt);
+    function LineAt(Place: NativeUInt; Codepage: TZvtCodepage; var Line: TBytes; var Numbers: TZvtLineNumbers): Boolean;
+    procedure PrintLines;
+    function NameOfCard: string;
+    function NumberOfCard: string;
     procedure Tell(const Message: TBytes);
     function State: TZvtState;
     function Entries(Count: UInt64; Booked: Boolean): TZvtEntries;
@@ -263,6 +286,10 @@ type
     property Registered: Boolean read IsRegistered;
     { The last outcome; its ending is zeNone if there is none. }
     property Last: TZvtOutcome read LastOutcome;
+    { The name of the card of the last order, or an empty text if the terminal named none. }
+    property CardName: string read NameOfCard;
+    { The number of that card. All digits but the first six and the last four are asterisks. }
+    property CardNumber: string read NumberOfCard;
   end;
 
 { Settings of a till with this book, empty for none: no password, the usual config byte, and the euro. }
@@ -294,6 +321,7 @@ const
   OrderCancel = 5;
   StatusMore = 1;
   StatusRefused = 2;
+  StatusArgument = 5;
   StatusClosed = 6;
   StatusNothingToCancel = 13;
   { Numbers of Linux. }
@@ -321,6 +349,10 @@ function zvt_till_order(var Till: TZvtHandle; Order: Cardinal; Number: UInt64; R
   cdecl; external Library_;
 function zvt_till_feed_all(var Till: TZvtHandle; Piece: PByte; Length: NativeUInt; Room: PByte; RoomLength: NativeUInt; Line: PByte;
   LineLength: NativeUInt; var Step: TZvtStep): Cardinal; cdecl; external Library_;
+function zvt_till_line(var Till: TZvtHandle; Place: NativeUInt; Codepage: Cardinal; Room: PByte; Length: NativeUInt;
+  var Line: TZvtLineNumbers): Cardinal; cdecl; external Library_;
+function zvt_till_card_name(var Till: TZvtHandle; Room: PByte; Length: NativeUInt): NativeUInt; cdecl; external Library_;
+function zvt_till_card_number(var Till: TZvtHandle; Room: PByte; Length: NativeUInt): NativeUInt; cdecl; external Library_;
 function zvt_till_state(var Till: TZvtHandle; var State: TZvtState): Cardinal; cdecl; external Library_;
 function zvt_till_entry(var Till: TZvtHandle; Place: NativeUInt; var Entry: TZvtEntryNumbers): Cardinal; cdecl; external Library_;
 function zvt_till_unclear(var Till: TZvtHandle; Place: NativeUInt; var Entry: TZvtEntryNumbers): Cardinal; cdecl; external Library_;
@@ -520,6 +552,8 @@ begin
   Result.Currency := 978;
   Result.Book := Book;
   Result.PrintLine := nil;
+  Result.PrintText := nil;
+  Result.Codepage := cp437;
   Result.Heard := nil;
 end;
 
@@ -609,6 +643,8 @@ begin
   if zvt_abi <> ZvtAbi then
     raise EZvtUse.CreateFmt('the calls of libzvt are of number %d, and zvt.pas is made for %d', [zvt_abi, ZvtAbi]);
   FPrintLine := Settings.PrintLine;
+  FPrintText := Settings.PrintText;
+  FCodepage := Settings.Codepage;
   FHeard := Settings.Heard;
   SetLength(FOut, RoomSize);
   SetLength(FText, LineRoom);
@@ -869,6 +905,52 @@ begin
   end;
 end;
 
+procedure TZvtTill.PrintAsText(Place: NativeUInt);
+var
+  Numbers: TZvtLineNumbers;
+  Line: TBytes;
+  Text: UTF8String;
+begin
+  try
+    if not LineAt(Place, FCodepage, Line, Numbers) then Exit;
+    SetString(Text, PAnsiChar(First(Line)), Length(Line));
+    FPrintText(Text, TZvtCopy(Min(Numbers.Copy, Ord(cyOther))));
+  except
+    if FRaised = nil then FRaised := TObject(AcquireExceptionObject);
+  end;
+end;
+
+{ Returns a line of the last message, if there is one. }
+function TZvtTill.LineAt(Place: NativeUInt; Codepage: TZvtCodepage; var Line: TBytes; var Numbers: TZvtLineNumbers): Boolean;
+var
+  Status: Cardinal;
+begin
+  SetLength(Line, 256);
+  repeat
+    Status := zvt_till_line(FHandle, Place, Ord(Codepage), First(Line), Length(Line), Numbers);
+    if Status = StatusArgument then Exit(False);
+    Check(Status);
+    Result := Numbers.Size <= UInt64(Length(Line));
+    SetLength(Line, Numbers.Size);
+  until Result;
+end;
+
+{ Hands out the lines that the last message has to print. }
+procedure TZvtTill.PrintLines;
+var
+  Place: NativeUInt;
+  Numbers: TZvtLineNumbers;
+  Line: TBytes;
+begin
+  Place := 0;
+  while LineAt(Place, cpAsSent, Line, Numbers) do
+  begin
+    if Assigned(FPrintLine) then Print(Line);
+    if Assigned(FPrintText) then PrintAsText(Place);
+    Inc(Place);
+  end;
+end;
+
 procedure TZvtTill.Tell(const Message: TBytes);
 begin
   try
@@ -929,7 +1011,7 @@ begin
       except
         on Error: EZvtBroken do Broken := Error.Message;
       end;
-    if (Step.Printed = 1) and Assigned(FPrintLine) then Print(Copy(FText, 0, Step.Line));
+    if Step.Printed = 1 then PrintLines;
     if Status = StatusRefused then raise EZvtBroken.Create('the terminal sent what is no message');
     Check(Status);
     Piece := Copy(Piece, Step.Taken, Length(Piece));
@@ -939,6 +1021,20 @@ end;
 function TZvtTill.State: TZvtState;
 begin
   Check(zvt_till_state(FHandle, Result));
+end;
+
+function TZvtTill.NameOfCard: string;
+var
+  Room: array[0..197] of AnsiChar;
+begin
+  SetString(Result, PAnsiChar(@Room[0]), zvt_till_card_name(FHandle, PByte(@Room[0]), SizeOf(Room)));
+end;
+
+function TZvtTill.NumberOfCard: string;
+var
+  Room: array[0..197] of AnsiChar;
+begin
+  SetString(Result, PAnsiChar(@Room[0]), zvt_till_card_number(FHandle, PByte(@Room[0]), SizeOf(Room)));
 end;
 
 function TZvtTill.SumOfBook: Int64;

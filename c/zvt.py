@@ -24,9 +24,29 @@ from typing import NamedTuple, Optional
 
 ROOM, LINE_ROOM, RECORD_ROOM = 8 * 32, 65534, 131200
 # The layouts and calls that this module is made for.
-ABI = 2
+ABI = 3
 # The amount that a message can hold at most.
 MAX_AMOUNT = 999_999_999_999
+
+
+class Codepage(enum.IntEnum):
+    """The code page of the lines to print. AS_SENT leaves them as bytes."""
+    AS_SENT, CP437, CP850, ISO_8859_1, UTF_8 = range(5)
+
+
+class Copy(enum.IntEnum):
+    """The receipt that a text block belongs to."""
+    MERCHANT, CUSTOMER, ADMINISTRATION = range(1, 4)
+
+
+class Line(bytes):
+    """A line to print, as the terminal sent it. `copy` is a Copy, another number that the terminal sent, or None."""
+    copy = None
+
+
+class TextLine(str):
+    """A line to print, decoded. `copy` is that of a Line."""
+    copy = None
 
 
 class Order(enum.IntEnum):
@@ -185,6 +205,10 @@ class _Answer(c.Structure):
     _fields_ = [("size", c.c_uint64), ("place", c.c_uint64), ("reason", c.c_uint32), ("status", c.c_uint32)]
 
 
+class _Line(c.Structure):
+    _fields_ = [("size", c.c_uint64), ("copy", c.c_uint32)]
+
+
 class _Handle(c.Structure):
     _fields_ = [("at", c.c_void_p), ("full", c.c_uint32)]
 
@@ -202,6 +226,9 @@ _TYPES = {
     "zvt_till_lost": [c.c_void_p, c.c_void_p],
     "zvt_till_order": [c.c_void_p, c.c_uint32, c.c_uint64, c.c_void_p, c.c_size_t, c.c_void_p],
     "zvt_till_feed_all": [c.c_void_p, c.c_char_p, c.c_size_t, c.c_void_p, c.c_size_t, c.c_void_p, c.c_size_t, c.c_void_p],
+    "zvt_till_line": [c.c_void_p, c.c_size_t, c.c_uint32, c.c_void_p, c.c_size_t, c.c_void_p],
+    "zvt_till_card_name": [c.c_void_p, c.c_void_p, c.c_size_t],
+    "zvt_till_card_number": [c.c_void_p, c.c_void_p, c.c_size_t],
     "zvt_till_state": [c.c_void_p, c.c_void_p],
     "zvt_till_entry": [c.c_void_p, c.c_size_t, c.c_void_p],
     "zvt_till_unclear": [c.c_void_p, c.c_size_t, c.c_void_p],
@@ -218,7 +245,8 @@ _TYPES = {
 # What the calls answer that answer no status.
 _RESULTS = {name: None for name in ("zvt_scan", "zvt_till_free", "zvt_till_save", "zvt_till_recover", "zvt_record_opening",
                                     "zvt_record_order", "zvt_record_lost", "zvt_record_notes")}
-_RESULTS |= {name: c.c_size_t for name in ("zvt_record_heard", "zvt_result_name", "zvt_status_name", "zvt_text", "zvt_version")}
+_RESULTS |= {name: c.c_size_t for name in ("zvt_record_heard", "zvt_result_name", "zvt_status_name", "zvt_text", "zvt_till_card_name",
+                                           "zvt_till_card_number", "zvt_version")}
 
 
 def whole(name, number, least, most):
@@ -267,9 +295,9 @@ def version(library=None):
 
 def written(call, *arguments):
     """Returns the text that a call writes to a buffer, which follows these arguments."""
-    room = c.create_string_buffer(64)
+    room = c.create_string_buffer(198)
     size = call(*arguments, room, len(room))
-    return room.raw[:size].decode("ascii")
+    return room.raw[:size].decode("iso-8859-1")
 
 
 class Till:
@@ -277,7 +305,8 @@ class Till:
 
     `keep`, if given, is called with the bytes of the saved till before each order is sent, and after each outcome. If it
     raises an exception before an order, the order is not sent and the connection is closed. `print_line`, if given, is called
-    with the bytes of each print line of the terminal, in the terminal's character set. `heard`, if given, is called with the
+    with each line that the terminal wants printed, in a print line or a text block: a Line, or a TextLine if `codepage` is not
+    AS_SENT. Its `copy` says whose receipt it belongs to. `heard`, if given, is called with the
     text of each message of the terminal, as the program `zvt` shows it; messages of the kind Intermediate have the state of a
     payment.
 
@@ -294,7 +323,7 @@ class Till:
     If the connection ends an order, a LineError is raised, which has the outcome."""
 
     def __init__(self, library=None, password=0, config=0xBE, currency=978, keep=None, print_line=None, book=None,
-                 heard=None):
+                 heard=None, codepage=Codepage.AS_SENT):
         whole("password", password, 0, 999_999)
         whole("config", config, 0, 0xFF)
         whole("currency", currency, 0, 9999)
@@ -302,6 +331,7 @@ class Till:
         self._handle, self._step = _Handle(), _Step()
         self._out, self._text = c.create_string_buffer(ROOM), c.create_string_buffer(LINE_ROOM)
         self._keep, self._print_line, self._heard, self._line = keep, print_line, heard, None
+        self._codepage = Codepage(codepage)
         self._timeout, self._raised, self._outcome, self._running = None, None, None, False
         self.journal, self._unheard, self._record_room = None, b"", None
         self._call("new", password, config, currency)
@@ -560,7 +590,8 @@ class Till:
                     except _BrokenLine as error:
                         broken = error
                 if self._step.printed and self._print_line is not None:
-                    self._tell(self._print_line, self._text.raw[:self._step.line])
+                    for line in self._tell(lambda: list(self._lines())) or ():
+                        self._tell(self._print_line, line)
                 if status == Status.REFUSED:
                     raise _BrokenLine
                 if status != Status.OK:
@@ -571,6 +602,25 @@ class Till:
                 self._tell(self._heard, self._text_of(message))
         if broken is not None:
             raise broken
+
+    def _lines(self):
+        """Yields the lines that the last message has to print."""
+        place, line = 0, _Line()
+        while True:
+            status = self._library.zvt_till_line(
+                c.byref(self._handle), place, self._codepage, self._text, len(self._text), c.byref(line))
+            if status == Status.ARGUMENT:
+                return
+            if status:
+                raise Refused(status)
+            if line.size > len(self._text):
+                self._text = c.create_string_buffer(line.size)
+                continue
+            text = self._text.raw[:line.size]
+            shown = Line(text) if self._codepage == Codepage.AS_SENT else TextLine(text.decode("utf-8"))
+            shown.copy = (Copy(line.copy) if line.copy in list(Copy) else line.copy) or None
+            yield shown
+            place += 1
 
     def _messages(self, piece):
         """Yields the messages that end in a chunk, each once it is in the book, if the till has one. Invalid bytes come
@@ -617,6 +667,16 @@ class Till:
         self._call("state", c.byref(state))
         return State(state.total, state.booked, state.unclear, state.unclear_reversals, state.held, bool(state.registered),
                      Order(state.running) if state.running else None, state.last.value(self._library))
+
+    def card_name(self):
+        """Returns the name of the card of the last order, or None if the terminal named none."""
+        self.state()
+        return written(self._library.zvt_till_card_name, c.byref(self._handle)) or None
+
+    def card_number(self):
+        """Returns the number of that card, or None. All digits but the first six and the last four are asterisks."""
+        self.state()
+        return written(self._library.zvt_till_card_number, c.byref(self._handle)) or None
 
     def last(self):
         """Returns the last outcome, or None."""

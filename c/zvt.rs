@@ -7,8 +7,10 @@ use std::ptr::null_mut;
 use std::time::{SystemTime, UNIX_EPOCH};
 
 const ROOM: usize = 32;
-/// Size of a buffer that holds any print line.
+/// Size of a buffer that holds any line to print, as it was sent.
 const LINE_ROOM: usize = 65_534;
+/// Size of a buffer that holds either text of a card.
+const CARD_ROOM: usize = 198;
 /// Size of a buffer that holds any record.
 const RECORD_ROOM: usize = 131_200;
 
@@ -39,6 +41,13 @@ struct Step {
     message: u32,
     printed: u32,
     outcome: OutcomeNumbers,
+}
+
+#[repr(C)]
+#[derive(Default)]
+struct LineNumbers {
+    size: u64,
+    copy: u32,
 }
 
 #[repr(C)]
@@ -80,6 +89,7 @@ struct Answer {
 const _: () = assert!(
     size_of::<Handle>() == 16
         && size_of::<Step>() == 64
+        && size_of::<LineNumbers>() == 16
         && size_of::<State>() == 72
         && size_of::<EntryNumbers>() == 32
         && size_of::<Answer>() == 24
@@ -96,7 +106,7 @@ const _: () = assert!(
 );
 
 /// Version of the struct layouts and calls that this file expects.
-const ABI: u32 = 2;
+const ABI: u32 = 3;
 
 unsafe extern "C" {
     fn zvt_abi() -> u32;
@@ -110,6 +120,9 @@ unsafe extern "C" {
     fn zvt_till_feed_all(
         till: *mut Handle, piece: *const u8, length: usize, out: *mut u8, room: usize, line: *mut u8, line_length: usize, step: *mut Step,
     ) -> u32;
+    fn zvt_till_line(till: *mut Handle, place: usize, codepage: u32, room: *mut u8, room_length: usize, line: *mut LineNumbers) -> u32;
+    fn zvt_till_card_name(till: *mut Handle, room: *mut u8, room_length: usize) -> usize;
+    fn zvt_till_card_number(till: *mut Handle, room: *mut u8, room_length: usize) -> usize;
     fn zvt_till_state(till: *mut Handle, state: *mut State) -> u32;
     fn zvt_till_entry(till: *mut Handle, place: usize, entry: *mut EntryNumbers) -> u32;
     fn zvt_till_unclear(till: *mut Handle, place: usize, entry: *mut EntryNumbers) -> u32;
@@ -128,6 +141,7 @@ unsafe extern "C" {
 
 const REFUSED: u32 = 2;
 const NO_MEMORY: u32 = 3;
+const ARGUMENT: u32 = 5;
 
 /// The reason why a call was refused: a status of zvt.h other than 0. The call changed nothing.
 #[derive(Clone, Copy, Debug, PartialEq, Eq)]
@@ -332,12 +346,41 @@ pub struct Unclear {
     pub receipt: Option<u16>,
 }
 
+/// The code page of the lines to print.
+#[derive(Clone, Copy, Debug, Default, PartialEq, Eq)]
+pub enum Codepage {
+    /// The lines stay as they were sent.
+    #[default]
+    AsSent,
+    /// Lines become UTF-8, as with the others.
+    Cp437,
+    Cp850,
+    Iso8859_1,
+    Utf8,
+}
+
+/// The receipt that a text block belongs to.
+#[derive(Clone, Copy, Debug, PartialEq, Eq)]
+pub enum ReceiptType {
+    Merchant,
+    Customer,
+    Administration,
+    Other(u8),
+}
+
+/// A line to print, and the type of its receipt, if the terminal named one.
+#[derive(Clone, Debug, PartialEq, Eq)]
+pub struct Line {
+    pub bytes: Vec<u8>,
+    pub receipt_type: Option<ReceiptType>,
+}
+
 /// Result of feeding bytes from the terminal. Send `send` whatever `stop` is.
 #[derive(Debug, Default, PartialEq, Eq)]
 pub struct Reply {
     pub send: Vec<u8>,
-    /// Print lines, in the terminal's character set.
-    pub lines: Vec<Vec<u8>>,
+    /// The lines to print, of print lines and text blocks, in the code page of [`Till::codepage`].
+    pub lines: Vec<Line>,
     /// The outcome of the running order, once it has ended.
     pub outcome: Option<Outcome>,
     pub taken: usize,
@@ -355,6 +398,8 @@ pub enum Stop {
 
 /// A till. It must stay on the thread that created it.
 pub struct Till {
+    /// The code page of the lines to print.
+    pub codepage: Codepage,
     handle: Handle,
     _stays: PhantomData<*mut ()>,
 }
@@ -373,7 +418,7 @@ impl Till {
         if unsafe { zvt_abi() } != ABI {
             return Err(Refused::Library);
         }
-        Ok(Till { handle: Handle { at: null_mut(), full: 0 }, _stays: PhantomData })
+        Ok(Till { codepage: Codepage::AsSent, handle: Handle { at: null_mut(), full: 0 }, _stays: PhantomData })
     }
 
     /// Creates a till with an empty book. The password is a number of up to six digits, the currency a code of ISO 4217 (978 is
@@ -463,12 +508,56 @@ impl Till {
             }
             reply.send.extend_from_slice(&out[..step.send as usize]);
             if step.printed == 1 {
-                reply.lines.push(line[..step.line as usize].to_vec());
+                self.print(&mut line, &mut reply)?;
             }
             reply.outcome = step.outcome.outcome().or(reply.outcome);
             reply.taken += step.taken as usize;
         }
         Ok(reply)
+    }
+
+    /// Adds the lines that the last message has to print.
+    fn print(&mut self, room: &mut Vec<u8>, reply: &mut Reply) -> Result<(), Refused> {
+        let mut place = 0;
+        loop {
+            let (mut line, codepage) = (LineNumbers::default(), self.codepage as u32);
+            match unsafe { zvt_till_line(&mut self.handle, place, codepage, room.as_mut_ptr(), room.len(), &mut line) } {
+                ARGUMENT => return Ok(()),
+                NO_MEMORY => {
+                    reply.stop = Some(Stop::NoMemory);
+                    return Ok(());
+                }
+                status => checked(status)?,
+            }
+            let size = line.size as usize;
+            if size > room.len() {
+                room.resize(size, 0);
+                continue;
+            }
+            let receipt_type = match line.copy {
+                0 => None,
+                1 => Some(ReceiptType::Merchant),
+                2 => Some(ReceiptType::Customer),
+                3 => Some(ReceiptType::Administration),
+                other => Some(ReceiptType::Other(other as u8)),
+            };
+            reply.lines.push(Line { bytes: room[..size].to_vec(), receipt_type });
+            place += 1;
+        }
+    }
+
+    /// Returns the name of the card of the last order. Empty if the terminal named none.
+    pub fn card_name(&mut self) -> String {
+        let mut room = [0; CARD_ROOM];
+        let size = unsafe { zvt_till_card_name(&mut self.handle, room.as_mut_ptr(), CARD_ROOM) };
+        String::from_utf8_lossy(&room[..size]).into_owned()
+    }
+
+    /// Returns the number of the card of the last order. All digits but the first six and the last four are asterisks.
+    pub fn card_number(&mut self) -> String {
+        let mut room = [0; CARD_ROOM];
+        let size = unsafe { zvt_till_card_number(&mut self.handle, room.as_mut_ptr(), CARD_ROOM) };
+        String::from_utf8_lossy(&room[..size]).into_owned()
     }
 
     fn state(&mut self) -> Result<State, Refused> {

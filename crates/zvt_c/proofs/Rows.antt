@@ -1,7 +1,10 @@
 -- Names and meanings worked by hand.
 use Rattle.std.proofs.Common.{◌≡◌, [], refl, codes}
-use Rattle.zvt_c.specs.Names.{causes, meaning_in, name_in, outcomes, reasons, refusals, status_in}
+use Rattle.std.specs.Char.{encode_utf8}
+use Rattle.zvt_c.specs.Names.{meaning_in, name_in, outcomes, status_in}
 use Rattle.zvt_text.specs.Meanings.{meaning_of, status_words}
+use Rattle.zvt_c.specs.Cards.{CardRows}
+use Rattle.zvt_c.specs.Lines.{LineRows}
 use Rattle.zvt_c.specs.Version.{version}
 
 pub no_error : meaning_in 0 ≡ codes "success"
@@ -48,3 +51,10 @@ unnamed = refl
 
 pub released : version ≡ codes "0.2.0"
 released = refl
+
+pub cards : CardRows
+cards = (refl, refl, refl, refl, refl, refl)
+
+pub lines : LineRows
+unfolding encode_utf8
+lines = (refl, refl, refl, refl, refl, refl, refl, refl)

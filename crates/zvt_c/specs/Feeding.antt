@@ -1,8 +1,7 @@
 -- The effect of a terminal's bytes on a till and its stream.
-use Rattle.std.specs.Prelude.{◌≡◌, ℕ, true, cond, List, [], length, Option, Some, None}
+use Rattle.std.specs.Prelude.{◌≡◌, ℕ, true, cond, List, [], length, Option, Some, None, is_some}
 use Rattle.zvt_apdu.specs.Message.{Message}
 use Rattle.zvt_apdu.specs.Briefs.{message_of_brief, PutsMessage}
-use Rattle.zvt_apdu.specs.Views.{text_in}
 use Rattle.zvt_stream.specs.Feeds.{Feeds}
 use Rattle.zvt_stream.specs.StreamState.{Keeps}
 use Rattle.zvt_stream.specs.declared.stream.FeedError.{FeedError}
@@ -17,6 +16,8 @@ use Rattle.zvt_till.specs.Till.{TillState, step, outcome_at}
 use Rattle.zvt_c.specs.declared.session.Session.{Session}
 use Rattle.zvt_c.specs.declared.numbers.ZvtStep.{ZvtStep}
 use Rattle.zvt_c.specs.Answers.{code_of_why}
+use Rattle.zvt_c.specs.Cards.{heard_card}
+use Rattle.zvt_c.specs.Lines.{line_in}
 use Rattle.zvt_c.specs.Numbers.{nothing, outcome_of, silent}
 use Rattle.zvt_c.specs.Saving.{Written}
 use Rattle.zvt_c.specs.Statuses as statuses
@@ -30,7 +31,7 @@ Sends (Some outgoing) before after send = PutsMessage (message_of_brief outgoing
 abbrev pub replied : TillState → Message → Option Outgoing
 replied state message = cond state.line_up (reply_to (heard_as message)) None
 
--- The text of a print line is at the start of its buffer if it fits, and its size is reported.
+-- The first line to print is at the start of its buffer if it fits, and its size is reported.
 abbrev pub Prints : Option (List ℕ) → (line_before line_after : List ℕ) → (size printed : ℕ) → Type 0
 Prints None before after size printed = (after ≡ before) × (size ≡ 0) × (printed ≡ 0)
 Prints (Some text) before after size printed = Written text size before after × (printed ≡ 1)
@@ -39,7 +40,7 @@ Prints (Some text) before after size printed = Written text size before after ×
 pub record TellsMessage (apdu : Message) (taken : ℕ) (before after : TillState) (buffer_before buffer_after line_before line_after : List ℕ) (answer : ZvtStep) : Type 0 where
   pub state : after ≡ step before (Heard (heard_as apdu))
   pub sends : Sends (replied before apdu) buffer_before buffer_after answer.send
-  pub prints : Prints (text_in apdu) line_before line_after answer.line answer.printed
+  pub prints : Prints (line_in apdu 0) line_before line_after answer.line answer.printed
   pub outcome : answer.outcome ≡ outcome_of (cond before.line_up (outcome_at before (Heard (heard_as apdu))) None)
   pub taken_is : answer.taken ≡ taken
   pub message : answer.message ≡ 1
@@ -56,6 +57,18 @@ Told (Refused place why) piece before after buffer_before buffer_after line_befo
     (after ≡ step before Malformed) × (buffer_after ≡ buffer_before) × (line_after ≡ line_before)
     × (answer ≡ silent 0 place (code_of_why why) (outcome_of (outcome_at before Malformed))) × (status ≡ statuses.refused)
 
+-- The message that a feed ended with, which the stream lends until the next feed.
+abbrev pub ended_with : Fed → Option Message
+ended_with (Whole apdu taken) = Some apdu
+ended_with More = None
+ended_with (Refused place why) = None
+
+-- The card after a feed.
+abbrev pub card_after : TillState → Fed → List ℕ × List ℕ → List ℕ × List ℕ
+card_after state (Whole apdu taken) card = heard_card (is_some state.running) apdu card
+card_after state More card = card
+card_after state (Refused place why) card = card
+
 -- The status of a feed that failed.
 abbrev pub status_of_failure : FeedError → ℕ
 status_of_failure Stopped = statuses.stopped
@@ -69,9 +82,10 @@ IsFailure Memory end = Unit {0}
 -- A feed of an open session feeds the stream and the till; or nothing happens, because bytes were refused before or
 -- memory ran out.
 pub data FeedsEnd (before : Session) (piece : List ℕ) (after : Session) (buffer_before buffer_after line_before line_after : List ℕ) (answer : ZvtStep) (status : ℕ) : Type 0 where
-  fed : (fed : Fed) → Feeds before.stream piece fed after.stream → Told fed piece before.till.state after.till.state buffer_before buffer_after line_before line_after answer status
+  fed : (fed : Fed) → Feeds before.stream piece fed after.stream → after.stream.lent ≡ ended_with fed → after.card ≡ card_after before.till.state fed before.card
+      → Told fed piece before.till.state after.till.state buffer_before buffer_after line_before line_after answer status
       → FeedsEnd before piece after buffer_before buffer_after line_before line_after answer status
-  failed : (why : FeedError) → IsFailure why before → Keeps before.stream after.stream → after.till ≡ before.till → buffer_after ≡ buffer_before → line_after ≡ line_before
+  failed : (why : FeedError) → IsFailure why before → Keeps before.stream after.stream → after.till ≡ before.till → after.card ≡ before.card → buffer_after ≡ buffer_before → line_after ≡ line_before
       → answer ≡ nothing → status ≡ status_of_failure why → FeedsEnd before piece after buffer_before buffer_after line_before line_after answer status
 
 -- A handle is fed, and no print line is handed out.

@@ -21,7 +21,7 @@ added so_far one =
       outcome = cond (so_far.outcome.kind == 0) one.outcome so_far.outcome;
     }
 
--- Bytes of the input are left, there is room for a reply, and no print line waits.
+-- Bytes of the input are left, there is room for a reply, and no line waits to be printed.
 abbrev pub goes_on : (piece buffer : ℕ) → ZvtStep → Bool
 goes_on piece buffer so_far = nat_lt so_far.taken piece && (nat_le 32 (buffer - so_far.send) && (so_far.printed == 0))
 

@@ -12,6 +12,7 @@ use Rattle.zvt_till.specs.Till.{accept, facts_of}
 use Rattle.zvt_till.specs.View.{IsRefusedAs}
 use Rattle.zvt_c.specs.declared.session.Session.{Session}
 use Rattle.zvt_c.specs.declared.numbers.ZvtStep.{ZvtStep}
+use Rattle.zvt_c.specs.Cards.{ordered_card}
 use Rattle.zvt_c.specs.Numbers.{nothing, only_sends}
 use Rattle.zvt_c.specs.Statuses as statuses
 
@@ -40,7 +41,7 @@ status_of Memory = statuses.no_memory
 -- message's size. Or the order is refused: nothing changes, and the answer is empty.
 pub data OrdersEnd (before : Session) (order : Order) (after : Session) (buffer_before buffer_after : List ℕ) (answer : ZvtStep) (status : ℕ) : Type 0 where
   sent : (message : Outgoing) → refusal (facts_of before.till.state) order ≡ None → message_of before.till.state.settings before.till.state.book order ≡ Some message
-      → after.till.state ≡ accept before.till.state order → after.stream ≡ before.stream
+      → after.till.state ≡ accept before.till.state order → after.stream ≡ before.stream → after.card ≡ ordered_card order before.card
       → PutsMessage (message_of_brief message.brief) buffer_before buffer_after answer.send → answer ≡ only_sends answer.send → status ≡ statuses.ok → OrdersEnd before order after buffer_before buffer_after answer status
   refused : (why : OrderRefusal) → IsRefusedAs (facts_of before.till.state) before.till.spare order why → after ≡ before → buffer_after ≡ buffer_before → answer ≡ nothing → status ≡ status_of why
       → OrdersEnd before order after buffer_before buffer_after answer status

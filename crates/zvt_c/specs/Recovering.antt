@@ -6,6 +6,7 @@ use Rattle.zvt_kept.specs.declared.recovery.RecoveryError.{RecoveryError}
 use Rattle.zvt_kept.specs.declared.recovery.RecoveryError.TheVariants.{Opening, Check, Line, Record, Memory}
 use Rattle.zvt_c.specs.declared.answer.ZvtAnswer.{ZvtAnswer}
 use Rattle.zvt_c.specs.declared.session.Session.{Session}
+use Rattle.zvt_c.specs.Cards.{no_card}
 use Rattle.zvt_c.specs.Saving.{bare}
 use Rattle.zvt_c.specs.Statuses as statuses
 
@@ -21,10 +22,10 @@ refused_as (Record number) = wrong_at 3 number
 refused_as (Check number) = wrong_at 4 number
 refused_as Memory = bare statuses.no_memory
 
--- The till is restored from the records, with its former settings, and its stream is at the start of a line. Or nothing
--- changes.
+-- The till is restored from the records, with its former settings. Its stream is at the start of a line, and it has no
+-- card. Or nothing changes.
 pub data RecoversEnd (before : Session) (text : List ℕ) (after : Session) (answer : ZvtAnswer) : Type 0 where
-  recovered : Recovers before.till.state.settings text (Ok after.till) → after.stream ≡ at_start → answer ≡ bare statuses.ok → RecoversEnd before text after answer
+  recovered : Recovers before.till.state.settings text (Ok after.till) → after.stream ≡ at_start → after.card ≡ no_card → answer ≡ bare statuses.ok → RecoversEnd before text after answer
   refused : (why : RecoveryError) → Recovers before.till.state.settings text (Err why) → after ≡ before → answer ≡ refused_as why → RecoversEnd before text after answer
 
 -- The till of a handle is recovered. If the handle is closed, nothing changes.

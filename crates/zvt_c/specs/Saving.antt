@@ -6,6 +6,7 @@ use Rattle.zvt_till.specs.Till.{TillState, step}
 use Rattle.zvt_till.specs.declared.happenings.Happening.TheVariants.{Lost}
 use Rattle.zvt_c.specs.declared.answer.ZvtAnswer.{ZvtAnswer}
 use Rattle.zvt_c.specs.declared.session.Session.{Session}
+use Rattle.zvt_c.specs.Cards.{no_card}
 use Rattle.zvt_c.specs.Texts.{Writes}
 use Rattle.zvt_c.specs.Statuses as statuses
 
@@ -27,10 +28,10 @@ Saves None before after answer = (after ≡ before) × (answer ≡ bare statuses
 Saves (Some end) before after answer =
     ((answer ≡ sized answer.size) × Written (saved (step end.till.state Lost)) answer.size before after × IsKept (step end.till.state Lost)) ⊎ ((after ≡ before) × (answer ≡ bare statuses.no_memory))
 
--- A till that is saved in these bytes, in this layout or in the first, and a stream at the start of its line.
+-- A till that is saved in these bytes, in this layout or in the first, a stream at the start of its line, and no card.
 abbrev pub Loads : List ℕ → Option Session → Type 0
 Loads bytes None = ⊥
-Loads bytes (Some end) = IsSavedAs bytes (step end.till.state Lost) × (end.stream ≡ at_start)
+Loads bytes (Some end) = IsSavedAs bytes (step end.till.state Lost) × (end.stream ≡ at_start) × (end.card ≡ no_card)
 
 -- The handle's till has this state, or memory ran out.
 abbrev pub IsRestored : TillState → (after : Option Session) → (status : ℕ) → Type 0

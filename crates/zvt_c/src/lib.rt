@@ -2,8 +2,11 @@
 #![tactic(auto)]
 
 mod answer;
+mod card;
 mod codec;
 mod handle;
+pub mod laws;
+mod lines;
 mod names;
 mod notes;
 mod numbers;
@@ -20,4 +23,5 @@ mod version;
 
 pub use answer::ZvtAnswer;
 pub use handle::ZvtTill;
+pub use lines::ZvtLine;
 pub use numbers::{ZvtEntry, ZvtOutcome, ZvtState, ZvtStep};

@@ -34,13 +34,13 @@ pub struct ZvtStep {
     pub send: u64,
     /// If the bytes are refused, the index of the first byte after which no message can follow.
     pub place: u64,
-    /// The size of the text of the print line. The text is at the start of `line` if it fits.
+    /// The size of the first line to print. The line is at the start of `line` if it fits.
     pub line: u64,
     /// If the bytes are refused, the reason: 1 to 8.
     pub reason: u32,
     /// 1 if the consumed bytes end a message.
     pub message: u32,
-    /// 1 if the last message was a print line.
+    /// 1 if the last message has lines to print: it is a print line, or a text block with a line.
     pub printed: u32,
     /// How the running order ended, if it did.
     pub outcome: ZvtOutcome,

@@ -120,7 +120,7 @@ pub extern "C" fn zvt_record_lost(alloc: Global, buffer: &mut [u8], answer: &mut
 }
 
 /// Writes bytes if they fit, and returns their number.
-fn put(bytes: &[u8], buffer: &mut [u8]) -> usize
+pub(crate) fn put(bytes: &[u8], buffer: &mut [u8]) -> usize
     ensures { Written bytes.now result buffer.old buffer.new }
 {
     let size = bytes.len();

@@ -4,6 +4,7 @@ ghost use Rattle.zvt_till.specs.Settings.{settings_of};
 ghost use Rattle.zvt_c.specs.Recovering.{RecoversEnd, RecoversHandle, refused_as};
 
 use crate::answer::{ZvtAnswer, bare};
+use crate::card::Card;
 use crate::handle::ZvtTill;
 use crate::session::Session;
 use crate::statuses;
@@ -43,6 +44,7 @@ fn recover_end(alloc: Global, end: &mut Session, text: &[u8]) -> ZvtAnswer
         Ok(recovered) => {
             end.till = recovered.till;
             end.stream = Stream::new(alloc);
+            end.card = Card::none();
             bare(statuses::OK)
         }
         Err(why) => unrecovered(why),

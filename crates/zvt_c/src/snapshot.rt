@@ -6,6 +6,7 @@ ghost use Rattle.zvt_till.specs.SnapshotEncoded.{saved, IsKept};
 ghost use Rattle.zvt_till.specs.Till.{step};
 
 use crate::answer::{ZvtAnswer, bare, found};
+use crate::card::Card;
 use crate::handle::ZvtTill;
 use crate::session::Session;
 use crate::statuses;
@@ -72,6 +73,7 @@ pub extern "C" fn zvt_till_load(alloc: Global, till: &mut ZvtTill, bytes: &[u8])
     let end = Session {
         till: loaded,
         stream: Stream::new(alloc),
+        card: Card::none(),
     };
     match Box::new(alloc, end) {
         Ok(end) => {

@@ -1,16 +1,19 @@
 //! Processes input from the terminal. The statuses are the same as for the other calls on a till.
 ghost use Rattle.std.specs.Prelude.{◌≡◌, ◌≤◌, ◌<◌, ◌+◌, ◌^◌, None, length, MatchBool, cond, nat_lt, []};
-ghost use Rattle.zvt_apdu.specs.Views.{text_in};
 ghost use Rattle.zvt_till.specs.Till.{step, outcome_at};
 ghost use Rattle.zvt_till.specs.Hearing.{heard_as};
 ghost use Rattle.zvt_c.specs.Feeding.{FeedsEnd, FeedsHandle, Prints, Sends, TellsMessage, replied, status_of_failure};
 ghost use Rattle.zvt_c.specs.FeedingAll.{FeedsAll, FeedsAllHandle, added, goes_on};
+ghost use Rattle.zvt_c.specs.Lines.{line_in};
 ghost use Rattle.zvt_c.specs.Numbers.{nothing, outcome_of, silent};
 ghost use Rattle.zvt_c.specs.Statuses as statuses;
 
 use crate::answer::reason_code;
+use crate::card::hear_card;
 use crate::handle::ZvtTill;
+use crate::lines::line_in;
 use crate::numbers::{ZvtStep, no_step, outcome_numbers};
+use crate::records::put;
 use crate::session::Session;
 use crate::statuses;
 use crate::till::{lacks_capacity, write_message};
@@ -20,7 +23,7 @@ use zvt_stream::{FedView, FeedError};
 use zvt_till::{Happening, Outcome, Till, heard_view};
 
 /// Processes bytes from the terminal, up to the end of one message. While `message` is 1, feed the remaining bytes
-/// again. Writes the bytes to send to `out`, which needs room for 32. Does not return the text of a print line.
+/// again. Writes the bytes to send to `out`, which needs room for 32. Does not write the first line to print.
 #[unsafe(no_mangle)]
 pub extern "C" fn zvt_till_feed(
     alloc: Global,
@@ -44,9 +47,9 @@ pub extern "C" fn zvt_till_feed(
     status
 }
 
-/// Processes bytes from the terminal message by message: to their end, to a print line, or until `out` has room for
-/// fewer than 32 further bytes. `out` then contains all replies; send them whatever the status is. The text of the
-/// print line is written to `line` if it fits. Feed the remaining bytes again.
+/// Processes bytes from the terminal message by message: to their end, to a message with lines to print, or until `out`
+/// has room for fewer than 32 further bytes. `out` then contains all replies; send them whatever the status is. The
+/// first line to print is written to `line` if it fits; `zvt_till_line` has them all. Feed the remaining bytes again.
 #[unsafe(no_mangle)]
 pub extern "C" fn zvt_till_feed_all(
     alloc: Global,
@@ -100,7 +103,7 @@ fn feed_all(
     statuses::OK
 }
 
-/// Returns whether to process another message: bytes are left, there is room for a reply, and no print line waits.
+/// Returns whether to process another message: bytes are left, there is room for a reply, and no line waits.
 fn goes_on(piece: usize, buffer: usize, answer: &ZvtStep) -> bool
     requires { answer.now.send ≤ buffer }
     ensures { result ≡ goes_on piece buffer answer.now }
@@ -148,18 +151,14 @@ fn hear(till: &mut Till, apdu: &ApduView<'_>, out: &mut [u8]) -> (usize, Option<
     (size, reply.outcome)
 }
 
-/// Writes the text of a print line if it fits. Returns the size of the text, and 1 if the message is a print line.
+/// Writes the first line that the message has to print, if it fits. Returns its size, and 1 if there is one.
 fn put_line(apdu: &ApduView<'_>, line: &mut [u8]) -> (usize, u32)
-    ensures { Prints (text_in apdu.now) line.old line.new result.0 result.1 }
+    ensures { Prints (line_in apdu.now 0) line.old line.new result.0 result.1 }
 {
-    let Some(text) = apdu.text() else {
+    let Some(text) = line_in(apdu, 0) else {
         return (0, 0);
     };
-    let size = text.len();
-    if size <= line.len() {
-        line[..size].copy_from_slice(text);
-    }
-    (size, 1)
+    (put(text, line), 1)
 }
 
 /// Lets the till process a message that ends after that many bytes of the input, and returns the step.
@@ -220,6 +219,7 @@ fn feed(
             let Some(apdu) = end.stream.lent() else {
                 unreachable!()
             };
+            hear_card(&mut end.card, end.till.running().is_some(), &apdu);
             *answer = report(&mut end.till, &apdu, taken, out, line);
             statuses::OK
         }

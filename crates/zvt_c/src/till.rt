@@ -11,6 +11,7 @@ ghost use Rattle.zvt_c.specs.Numbers.{nothing, numbers_of, outcome_of, row_of, s
 ghost use Rattle.zvt_c.specs.Ordering.{OrdersEnd, OrdersHandle};
 ghost use Rattle.zvt_c.specs.Statuses as statuses;
 
+use crate::card::{Card, order_card};
 use crate::handle::ZvtTill;
 use crate::numbers::{
     ZvtEntry, ZvtState, ZvtStep, entry_numbers, no_step, order_of, outcome_numbers, refusal_status,
@@ -50,6 +51,7 @@ pub extern "C" fn zvt_till_new(
     let end = Session {
         till: Till::new(alloc, digits, config, currency),
         stream: Stream::new(alloc),
+        card: Card::none(),
     };
     match Box::new(alloc, end) {
         Ok(end) => {
@@ -75,6 +77,8 @@ pub extern "C" fn zvt_till_connected(alloc: Global, till: &mut ZvtTill) -> u32
     ensures state { state_of till.new ≡ option_map (λ state. step state Happening.Connected) (state_of till.old) }
     ensures stream { option_map (λ end. end.stream) till.new.raw_handle.held ≡ option_map (λ _. at_start)
         till.old.raw_handle.held }
+    ensures card { option_map (λ end. end.card) till.new.raw_handle.held ≡ option_map (λ end. end.card)
+        till.old.raw_handle.held }
     ensures said { MatchOption till.old.raw_handle.held (result ≡ statuses.closed) (λ _. result ≡ statuses.ok) }
 {
     let Some(mut end) = till.take(alloc) else {
@@ -90,6 +94,8 @@ pub extern "C" fn zvt_till_connected(alloc: Global, till: &mut ZvtTill) -> u32
 #[unsafe(no_mangle)]
 pub extern "C" fn zvt_till_lost(alloc: Global, till: &mut ZvtTill, answer: &mut ZvtStep) -> u32
     ensures state { state_of till.new ≡ option_map (λ state. step state Happening.Lost) (state_of till.old) }
+    ensures card { option_map (λ end. end.card) till.new.raw_handle.held ≡ option_map (λ end. end.card)
+        till.old.raw_handle.held }
     ensures said { MatchOption till.old.raw_handle.held ((result ≡ statuses.closed) × (answer.new ≡ nothing))
         (λ end. (result ≡ statuses.ok)
         × (answer.new ≡ silent 0 0 0 (outcome_of (outcome_at end.till.state Happening.Lost)))) }
@@ -160,6 +166,7 @@ fn give(end: &mut Session, order: Order, out: &mut [u8], answer: &mut ZvtStep) -
 {
     match end.till.order(order) {
         Ok(outgoing) => {
+            order_card(&mut end.card, &order);
             *answer = ZvtStep {
                 send: write_message(&outgoing, out) as u64,
                 ..no_step()

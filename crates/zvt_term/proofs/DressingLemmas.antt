@@ -1,5 +1,5 @@
 -- What is written for a terminal with extras is a spelling of its messages.
-use Rattle.std.proofs.Common.{◌≡◌, ◌∙◌, ◌+◌, ◌-◌, ◌<◌, ◌≤◌, ℕ, Option, Some, List, [], ◌∷◌, ◌++◌, length, drop, take, codes, false, ap, refl, sym, subst, arith, length-append, length-drop, append-nil}
+use Rattle.std.proofs.Common.{◌≡◌, ◌∙◌, ◌+◌, ◌-◌, ◌<◌, ◌≤◌, ℕ, Option, Some, List, [], ◌∷◌, ◌++◌, length, drop, take, codes, false, ap, refl, sym, subst, arith, length-append, length-drop, append_assoc, append-nil}
 use Rattle.std.proofs.Math.Seq.{take-append_seam}
 use Rattle.std.proofs.lemmas.List.{take_all}
 use Rattle.zvt_bcd.specs.LengthDigits.{IsCount}
@@ -52,36 +52,59 @@ container_shape : shape_of 0x06 ≡ Some Tree
 unfolding shape_of
 container_shape = refl
 
--- eight digits, two types and a name
-card_listed : (pan name size : List ℕ) (payment kind : ℕ) → length pan ≡ 8 → AreBytes pan → payment < 256 → kind < 256 → IsCount 2 (length name) size → AreBytes name
-    → FieldList shortest (plain 0x22 pan ∷ plain 0x19 (payment ∷ []) ∷ plain 0x8A (kind ∷ []) ∷ plain 0x8B name ∷ []) (0x22 ∷ 0xF0 ∷ 0xF8 ∷ (pan ++ 0x19 ∷ payment ∷ 0x8A ∷ kind ∷ 0x8B ∷ (size ++ name)))
-card_listed pan name size payment kind eight digits p k count letters =
-    let named : FieldList shortest (plain 0x8B name ∷ []) (0x8B ∷ (size ++ name)) =
-    (0x8B ∷ (size ++ name), [], sym (append-nil (0x8B ∷ (size ++ name))), ll_field 0x8B size name name_shape count letters, refl) in
-    let typed : FieldList shortest (plain 0x8A (kind ∷ []) ∷ plain 0x8B name ∷ []) (0x8A ∷ kind ∷ 0x8B ∷ (size ++ name)) =
-    (0x8A ∷ kind ∷ [], 0x8B ∷ (size ++ name), refl, fixed_field 0x8A 1 (kind ∷ []) type_shape refl (k, tt), named) in
-    let paid : FieldList shortest (plain 0x19 (payment ∷ []) ∷ plain 0x8A (kind ∷ []) ∷ plain 0x8B name ∷ []) (0x19 ∷ payment ∷ 0x8A ∷ kind ∷ 0x8B ∷ (size ++ name)) =
-    (0x19 ∷ payment ∷ [], 0x8A ∷ kind ∷ 0x8B ∷ (size ++ name), refl, fixed_field 0x19 1 (payment ∷ []) payment_shape refl (p, tt), typed) in
+network_shape : shape_of 0x8C ≡ Some (Fixed 1)
+unfolding shape_of
+network_shape = refl
+
+expiry_shape : shape_of 0x0E ≡ Some (Fixed 2)
+unfolding shape_of
+expiry_shape = refl
+
+sequence_shape : shape_of 0x17 ≡ Some (Fixed 2)
+unfolding shape_of
+sequence_shape = refl
+
+-- eight digits, two types and a name, before other fields
+card_listed : (pan name size tail : List ℕ) (more : List Field) (payment kind : ℕ) → length pan ≡ 8 → AreBytes pan → payment < 256 → kind < 256 → IsCount 2 (length name) size → AreBytes name
+    → FieldList shortest more tail
+    → FieldList shortest (plain 0x22 pan ∷ plain 0x19 (payment ∷ []) ∷ plain 0x8A (kind ∷ []) ∷ plain 0x8B name ∷ more) (0x22 ∷ 0xF0 ∷ 0xF8 ∷ (pan ++ 0x19 ∷ payment ∷ 0x8A ∷ kind ∷ 0x8B ∷ (size ++ (name ++ tail))))
+card_listed pan name size tail more payment kind eight digits p k count letters rest =
+    let after = 0x8B ∷ (size ++ (name ++ tail)) in
+    let named : FieldList shortest (plain 0x8B name ∷ more) after =
+    (0x8B ∷ (size ++ name), tail, sym (ap (λ (l : List ℕ). 0x8B ∷ l) (append_assoc size name tail)), ll_field 0x8B size name name_shape count letters, rest) in
+    let typed : FieldList shortest (plain 0x8A (kind ∷ []) ∷ plain 0x8B name ∷ more) (0x8A ∷ kind ∷ after) =
+    (0x8A ∷ kind ∷ [], after, refl, fixed_field 0x8A 1 (kind ∷ []) type_shape refl (k, tt), named) in
+    let paid : FieldList shortest (plain 0x19 (payment ∷ []) ∷ plain 0x8A (kind ∷ []) ∷ plain 0x8B name ∷ more) (0x19 ∷ payment ∷ 0x8A ∷ kind ∷ after) =
+    (0x19 ∷ payment ∷ [], 0x8A ∷ kind ∷ after, refl, fixed_field 0x19 1 (payment ∷ []) payment_shape refl (p, tt), typed) in
     let eights : IsCount 2 (length pan) (0xF0 ∷ 0xF8 ∷ []) = (refl, (omega arith, omega arith, (omega arith, omega arith, tt)), sym eight) in
-    (0x22 ∷ 0xF0 ∷ 0xF8 ∷ pan, 0x19 ∷ payment ∷ 0x8A ∷ kind ∷ 0x8B ∷ (size ++ name), refl, ll_field 0x22 (0xF0 ∷ 0xF8 ∷ []) pan pan_shape eights digits, paid)
+    (0x22 ∷ 0xF0 ∷ 0xF8 ∷ pan, 0x19 ∷ payment ∷ 0x8A ∷ kind ∷ after, refl, ll_field 0x22 (0xF0 ∷ 0xF8 ∷ []) pan pan_shape eights digits, paid)
+
+network_listed : FieldList shortest (plain 0x8C (0x01 ∷ []) ∷ []) (0x8C ∷ 0x01 ∷ [])
+network_listed = (0x8C ∷ 0x01 ∷ [], [], refl, fixed_field 0x8C 1 (0x01 ∷ []) network_shape refl (omega arith, tt), refl)
+
+dated_listed : FieldList shortest (plain 0x0E (0x28 ∷ 0x12 ∷ []) ∷ plain 0x17 (0x00 ∷ 0x01 ∷ []) ∷ []) (0x0E ∷ 0x28 ∷ 0x12 ∷ 0x17 ∷ 0x00 ∷ 0x01 ∷ [])
+dated_listed =
+    let counted : FieldList shortest (plain 0x17 (0x00 ∷ 0x01 ∷ []) ∷ []) (0x17 ∷ 0x00 ∷ 0x01 ∷ []) =
+    (0x17 ∷ 0x00 ∷ 0x01 ∷ [], [], refl, fixed_field 0x17 2 (0x00 ∷ 0x01 ∷ []) sequence_shape refl (omega arith, (omega arith, tt)), refl) in
+    (0x0E ∷ 0x28 ∷ 0x12 ∷ [], 0x17 ∷ 0x00 ∷ 0x01 ∷ [], refl, fixed_field 0x0E 2 (0x28 ∷ 0x12 ∷ []) expiry_shape refl (omega arith, (omega arith, tt)), counted)
 
 pub girocard_listed : FieldList shortest (card_fields Girocard)
-    (0x22 ∷ 0xF0 ∷ 0xF8 ∷ 0x67 ∷ 0x26 ∷ 0xEE ∷ 0xEE ∷ 0xEE ∷ 0xEE ∷ 0x12 ∷ 0x34 ∷ 0x19 ∷ 0x70 ∷ 0x8A ∷ 0x05 ∷ 0x8B ∷ 0xF0 ∷ 0xF9 ∷ 103 ∷ 105 ∷ 114 ∷ 111 ∷ 99 ∷ 97 ∷ 114 ∷ 100 ∷ 0 ∷ [])
+    (0x22 ∷ 0xF0 ∷ 0xF8 ∷ 0x67 ∷ 0x26 ∷ 0xEE ∷ 0xEE ∷ 0xEE ∷ 0xEE ∷ 0x12 ∷ 0x34 ∷ 0x19 ∷ 0x70 ∷ 0x8A ∷ 0x05 ∷ 0x8B ∷ 0xF0 ∷ 0xF9 ∷ 103 ∷ 105 ∷ 114 ∷ 111 ∷ 99 ∷ 97 ∷ 114 ∷ 100 ∷ 0 ∷ 0x8C ∷ 0x01 ∷ [])
 girocard_listed =
-    card_listed (0x67 ∷ 0x26 ∷ 0xEE ∷ 0xEE ∷ 0xEE ∷ 0xEE ∷ 0x12 ∷ 0x34 ∷ []) (codes "girocard" ++ 0 ∷ []) (0xF0 ∷ 0xF9 ∷ []) 0x70 0x05 refl
+    card_listed (0x67 ∷ 0x26 ∷ 0xEE ∷ 0xEE ∷ 0xEE ∷ 0xEE ∷ 0x12 ∷ 0x34 ∷ []) (codes "girocard" ++ 0 ∷ []) (0xF0 ∷ 0xF9 ∷ []) (0x8C ∷ 0x01 ∷ []) (plain 0x8C (0x01 ∷ []) ∷ []) 0x70 0x05 refl
     (omega arith, (omega arith, (omega arith, (omega arith, (omega arith, (omega arith, (omega arith, (omega arith, tt))))))))
     (omega arith) (omega arith)
     (refl, (omega arith, omega arith, (omega arith, omega arith, tt)), refl)
-    (omega arith, (omega arith, (omega arith, (omega arith, (omega arith, (omega arith, (omega arith, (omega arith, (omega arith, tt)))))))))
+    (omega arith, (omega arith, (omega arith, (omega arith, (omega arith, (omega arith, (omega arith, (omega arith, (omega arith, tt))))))))) network_listed
 
 pub visa_listed : FieldList shortest (card_fields Visa)
-    (0x22 ∷ 0xF0 ∷ 0xF8 ∷ 0x40 ∷ 0x00 ∷ 0xEE ∷ 0xEE ∷ 0xEE ∷ 0xEE ∷ 0x00 ∷ 0x02 ∷ 0x19 ∷ 0x60 ∷ 0x8A ∷ 0x0A ∷ 0x8B ∷ 0xF0 ∷ 0xF5 ∷ 86 ∷ 105 ∷ 115 ∷ 97 ∷ 0 ∷ [])
+    (0x22 ∷ 0xF0 ∷ 0xF8 ∷ 0x40 ∷ 0x00 ∷ 0xEE ∷ 0xEE ∷ 0xEE ∷ 0xEE ∷ 0x00 ∷ 0x02 ∷ 0x19 ∷ 0x60 ∷ 0x8A ∷ 0x0A ∷ 0x8B ∷ 0xF0 ∷ 0xF5 ∷ 86 ∷ 105 ∷ 115 ∷ 97 ∷ 0 ∷ 0x0E ∷ 0x28 ∷ 0x12 ∷ 0x17 ∷ 0x00 ∷ 0x01 ∷ [])
 visa_listed =
-    card_listed (0x40 ∷ 0x00 ∷ 0xEE ∷ 0xEE ∷ 0xEE ∷ 0xEE ∷ 0x00 ∷ 0x02 ∷ []) (codes "Visa" ++ 0 ∷ []) (0xF0 ∷ 0xF5 ∷ []) 0x60 0x0A refl
+    card_listed (0x40 ∷ 0x00 ∷ 0xEE ∷ 0xEE ∷ 0xEE ∷ 0xEE ∷ 0x00 ∷ 0x02 ∷ []) (codes "Visa" ++ 0 ∷ []) (0xF0 ∷ 0xF5 ∷ []) (0x0E ∷ 0x28 ∷ 0x12 ∷ 0x17 ∷ 0x00 ∷ 0x01 ∷ []) (plain 0x0E (0x28 ∷ 0x12 ∷ []) ∷ plain 0x17 (0x00 ∷ 0x01 ∷ []) ∷ []) 0x60 0x0A refl
     (omega arith, (omega arith, (omega arith, (omega arith, (omega arith, (omega arith, (omega arith, (omega arith, tt))))))))
     (omega arith) (omega arith)
     (refl, (omega arith, omega arith, (omega arith, omega arith, tt)), refl)
-    (omega arith, (omega arith, (omega arith, (omega arith, (omega arith, tt)))))
+    (omega arith, (omega arith, (omega arith, (omega arith, (omega arith, tt))))) dated_listed
 
 -- ---- messages with a length of one byte
 

@@ -19,19 +19,23 @@ use Rattle.zvt_term.specs.Reports.{message_of_report, text_of}
 
 -- ---- cards
 
--- the masked number (22), the payment type (19), the card type (8A), and the name (8B) with a zero byte at its end
+-- the masked number (22), the payment type (19), the card type (8A), and the name (8B) with a zero byte at its end; then the
+-- number of the card type at the network operator (8C), or the expiry date (0E) and the sequence number (17)
 abbrev pub card_fields : Card → List Field
 card_fields Girocard =
     plain 0x22 (0x67 ∷ 0x26 ∷ 0xEE ∷ 0xEE ∷ 0xEE ∷ 0xEE ∷ 0x12 ∷ 0x34 ∷ [])
     ∷ plain 0x19 (0x70 ∷ [])
     ∷ plain 0x8A (0x05 ∷ [])
     ∷ plain 0x8B (codes "girocard" ++ 0 ∷ [])
+    ∷ plain 0x8C (0x01 ∷ [])
     ∷ []
 card_fields Visa =
     plain 0x22 (0x40 ∷ 0x00 ∷ 0xEE ∷ 0xEE ∷ 0xEE ∷ 0xEE ∷ 0x00 ∷ 0x02 ∷ [])
     ∷ plain 0x19 (0x60 ∷ [])
     ∷ plain 0x8A (0x0A ∷ [])
     ∷ plain 0x8B (codes "Visa" ++ 0 ∷ [])
+    ∷ plain 0x0E (0x28 ∷ 0x12 ∷ [])
+    ∷ plain 0x17 (0x00 ∷ 0x01 ∷ [])
     ∷ []
 
 -- a status, and then the fields of the card

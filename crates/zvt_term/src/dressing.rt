@@ -44,7 +44,7 @@ fn put_carded(message: &[u8], card: Card, out: &mut [u8]) -> usize
     requires is_status { (fields : List Field) × Spells (status fields) message.now }
     ensures written { (fields : List Field) → Spells (status fields) message.now
         → PutsMessage (with_fields (card_fields card) (status fields)) out.old out.new result }
-    ensures fits { result ≤ 59 }
+    ensures fits { result ≤ 61 }
 {
     let content = &message[3..];
     let more = card_bytes(card);
@@ -62,7 +62,7 @@ fn put_status(message: &[u8], card: Option<Card>, out: &mut [u8]) -> usize
     requires is_status { (fields : List Field) × Spells (status fields) message.now }
     ensures written { (fields : List Field) → Spells (status fields) message.now
         → PutsMessage (carded card (status fields)) out.old out.new result }
-    ensures fits { result ≤ 59 }
+    ensures fits { result ≤ 61 }
 {
     match card {
         Some(card) => put_carded(message, card, out),
@@ -76,7 +76,7 @@ fn put_block(message: &[u8], out: &mut [u8; MAX_MESSAGE_LEN]) -> usize
     requires is_line { (text : List ℕ) × Spells (print_line 0 text) message.now }
     ensures written { (text : List ℕ) → Spells (print_line 0 text) message.now
         → PutsMessage (block text) out.old out.new result }
-    ensures fits { result ≤ 59 }
+    ensures fits { result ≤ 61 }
 {
     let text = &message[4..];
     let [high, low] = control_bytes::TEXT_BLOCK;
@@ -99,7 +99,7 @@ fn put_block(message: &[u8], out: &mut [u8; MAX_MESSAGE_LEN]) -> usize
 fn put_dressed(report: &Report, extras: &Extras, out: &mut [u8; MAX_MESSAGE_LEN]) -> usize
     requires { IsWritable report.now }
     ensures written { PutsMessage (message_by extras.now report.now) out.old out.new result }
-    ensures fits { result ≤ 59 }
+    ensures fits { result ≤ 61 }
 {
     let mut buffer = [0; MAX_REPORT_LEN];
     let size = put_report(report, &mut buffer);

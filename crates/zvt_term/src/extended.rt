@@ -11,7 +11,7 @@ use crate::dressing::{answers_by, is_delayed};
 use crate::extras::{Extra, Extras, Receipts, extra_of};
 use crate::ledger::Row;
 use crate::messages::{Asked, Line, Report, Response};
-use crate::refunds::{MAX_NUMBER, Refunded, count_refunds};
+use crate::refunds::{Refunded, count_refunds};
 use crate::served::Served;
 use crate::terminal::{MAX_LEDGER_ROWS, Terminal};
 use crate::turns::{Phase, Turn, Verdict};
@@ -42,7 +42,7 @@ fn report_of_row(row: &Row) -> Option<Report>
             number: row.number,
             currency: row.currency,
         }),
-        Some(original) if original <= MAX_NUMBER => Some(Report::TakenBack {
+        Some(original) if usize::from(original) <= MAX_LEDGER_ROWS => Some(Report::TakenBack {
             amount: row.amount,
             number: row.number,
             original,

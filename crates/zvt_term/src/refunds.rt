@@ -3,10 +3,8 @@ ghost use Rattle.std.specs.Prelude.{◌≡◌, ◌≤◌, ◌&&◌, length, nat_
 ghost use Rattle.zvt_term.specs.Extended.{count_refunds, report_of_refund};
 
 use crate::messages::Report;
+use crate::terminal::MAX_LEDGER_ROWS;
 use zvt_bcd::{Amount, Currency};
-
-/// The largest number of a row or a refund.
-pub(crate) const MAX_NUMBER: u16 = 9_999;
 
 /// The last refund.
 #[derive(Clone, Copy, Debug, PartialEq, Eq)]
@@ -28,7 +26,7 @@ impl Refunded {
     {
         Report::Approved {
             amount: self.amount,
-            number: MAX_NUMBER.saturating_sub(self.before),
+            number: (MAX_LEDGER_ROWS as u16).saturating_sub(self.before),
             currency: self.currency,
         }
     }

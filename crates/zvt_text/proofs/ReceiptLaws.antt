@@ -1,18 +1,16 @@
 -- What holds of the text of receipts.
-use Rattle.std.proofs.Common.{◌≡◌, ℕ, zero, suc, ◌-◌, ◌<◌, Bool, true, false, nat_le, nat_lt, not, ◌==◌, ◌&&◌, List, [], ◌∷◌, ◌++◌, Option, Some, None, flat_map, slice_index, codes, refl, sym, ◌∙◌, ap, subst, arith, if◌then◌else◌}
+use Rattle.std.proofs.Common.{◌≡◌, ℕ, zero, suc, ◌-◌, Bool, true, false, nat_le, nat_lt, not, ◌==◌, ◌&&◌, List, [], ◌∷◌, ◌++◌, Some, None, flat_map, slice_index, codes, refl, sym, ◌∙◌, ap, subst, arith, if◌then◌else◌}
 use Rattle.std.proofs.lemmas.Bool.{and_parts, leb-true, lt-ltb}
 use Rattle.std.proofs.lemmas.Str.Ascii.{IsAscii-cons, IsAscii-nil}
 use Rattle.std.proofs.lemmas.Str.{IsUtf8-append, IsUtf8-encode, IsUtf8-from_ascii, IsUtf8-from_is_utf8, IsUtf8-nil, chars-encodes, chars-IsAscii}
 use Rattle.std.specs.Char.{encode_utf8, is_control}
-use Rattle.std.specs.Fmt.{digits}
 use Rattle.std.specs.Str.{IsAscii, IsUtf8, chars, is_utf8}
 use Rattle.hex.specs.Hex.{encode_upper, encode_with, upper_digits}
 use Rattle.hex.proofs.HexLemmas.{IsAscii-encode_with}
 use lib.Utf8.{scalar, scalars}
 use Rattle.zvt_text.specs.Bytes.{escaped, escaped_text, is_plain}
-use Rattle.zvt_text.specs.Codepages.{characters_437, characters_850, characters_latin1, decoded_by, decoded_byte, decoded_character, decoded_text, decoded_utf8}
+use Rattle.zvt_text.specs.Codepages.{characters_437, characters_850, characters_latin1, decoded_by, decoded_byte, decoded_character}
 use Rattle.zvt_text.specs.Receipts.{AsciiStays, ReceiptRows, TextsAreUtf8}
-use Rattle.zvt_text.specs.declared.codepages.Codepage.{Codepage}
 use Rattle.zvt_text.specs.declared.codepages.Codepage.TheVariants.{Cp437, Cp850, Latin1, Utf8}
 use Rattle.zvt_text.proofs.CodepageLemmas.{is_decoded}
 use Rattle.zvt_text.proofs.HexText.{ascii_from, digits_ascii}
@@ -93,4 +91,4 @@ texts_are_utf8 (Some Utf8) bytes = utf8_by (is_utf8 bytes) bytes refl
 
 rows : ReceiptRows
 unfolding encode_with encode_utf8 is_utf8 chars
-rows = (refl, refl, refl, refl, refl, refl, refl, refl)
+rows = (refl, refl, refl, refl, refl, refl, refl, refl, refl, refl, refl)

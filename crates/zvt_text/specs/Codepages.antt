@@ -1,8 +1,8 @@
 -- The characters of a receipt's text, by its code page.
-use Rattle.std.specs.Prelude.{◌≡◌, ℕ, ◌-◌, ◌<◌, nat_lt, if◌then◌else◌, List, [], ◌∷◌, ◌++◌, All, slice_index, Option, Some, None, codes}
+use Rattle.std.specs.Prelude.{ℕ, ◌-◌, nat_lt, nat_le, ◌&&◌, Bool, if◌then◌else◌, List, [], ◌∷◌, slice_index, Option, Some, None}
 use Rattle.std.specs.List.{flat_map}
 use Rattle.std.specs.Char.{encode_utf8, is_control}
-use Rattle.std.specs.Str.{IsUtf8, chars, is_utf8}
+use Rattle.std.specs.Str.{chars, is_utf8}
 use Rattle.zvt_text.specs.Bytes.{escaped, escaped_text}
 use Rattle.zvt_text.specs.declared.codepages.Codepage.{Codepage}
 use Rattle.zvt_text.specs.declared.codepages.Codepage.TheVariants.{Cp437, Cp850, Latin1, Utf8}
@@ -81,3 +81,27 @@ decoded_text (Some Cp437) bytes = decoded_by characters_437 bytes
 decoded_text (Some Cp850) bytes = decoded_by characters_850 bytes
 decoded_text (Some Latin1) bytes = decoded_by characters_latin1 bytes
 decoded_text (Some Utf8) bytes = decoded_utf8 bytes
+
+-- ---- the text of a line to print, in which each printing character of ASCII is as it is
+
+abbrev pub is_printing : ℕ → Bool
+is_printing byte = nat_le 0x20 byte && nat_le byte 0x7E
+
+abbrev pub printed_byte : (characters : List ℕ) → ℕ → List ℕ
+printed_byte characters byte = if is_printing byte then byte ∷ [] else decoded_byte characters byte
+
+abbrev pub printed_by : (characters : List ℕ) → List ℕ → List ℕ
+printed_by characters bytes = flat_map (printed_byte characters) bytes
+
+abbrev pub printed_character : ℕ → List ℕ
+printed_character c = if is_printing c then c ∷ [] else decoded_character c
+
+-- bytes that are not UTF-8 are as without a code page
+abbrev pub printed_utf8 : List ℕ → List ℕ
+printed_utf8 bytes = if is_utf8 bytes then flat_map printed_character (chars bytes) else escaped_text bytes
+
+abbrev pub printed_text : Codepage → List ℕ → List ℕ
+printed_text Cp437 bytes = printed_by characters_437 bytes
+printed_text Cp850 bytes = printed_by characters_850 bytes
+printed_text Latin1 bytes = printed_by characters_latin1 bytes
+printed_text Utf8 bytes = printed_utf8 bytes

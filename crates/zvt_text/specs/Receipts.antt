@@ -4,7 +4,7 @@ use Rattle.std.specs.List.{flat_map}
 use Rattle.std.specs.Str.{IsAscii, IsUtf8}
 use Rattle.zvt_field.specs.Grammar.{Field}
 use Rattle.zvt_text.specs.Bytes.{escaped_text, hex_of}
-use Rattle.zvt_text.specs.Codepages.{decoded_text}
+use Rattle.zvt_text.specs.Codepages.{decoded_text, printed_text}
 use Rattle.zvt_text.specs.TextBlocks.{block_lines, block_type}
 use Rattle.zvt_text.specs.declared.codepages.Codepage.{Codepage}
 use Rattle.zvt_text.specs.declared.codepages.Codepage.TheVariants.{Cp437, Cp850, Latin1, Utf8}
@@ -53,5 +53,8 @@ ReceiptRows =
     (receipt_line (Some Latin1) (0xE4 ∷ 0x84 ∷ []) ≡ 0xC3 ∷ 0xA4 ∷ codes "\\x84\n") ×
     (receipt_line (Some Utf8) (0xC3 ∷ 0xA4 ∷ []) ≡ 0xC3 ∷ 0xA4 ∷ 0x0A ∷ []) ×
     (receipt_line (Some Utf8) (0xE4 ∷ 0x22 ∷ []) ≡ codes "\\xE4\\x22\n") ×
+    (printed_text Cp437 (codes "\"\\" ++ 0x84 ∷ 0x1B ∷ []) ≡ codes "\"\\" ++ 0xC3 ∷ 0xA4 ∷ codes "\\x1B") ×
+    (printed_text Utf8 (0x22 ∷ 0xC3 ∷ 0xA4 ∷ []) ≡ 0x22 ∷ 0xC3 ∷ 0xA4 ∷ []) ×
+    (printed_text Utf8 (0xE4 ∷ []) ≡ codes "\\xE4") ×
     (receipt_text None (Some Merchant) (codes "A" ∷ [] ∷ []) ≡ codes "# merchant receipt\nA\n\n") ×
     (receipt_text None (Some (Other 0x04)) [] ≡ codes "# type 04 receipt\n")

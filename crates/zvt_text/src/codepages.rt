@@ -2,10 +2,11 @@
 ghost use Rattle.std.specs.Prelude.{◌≡◌, ◌≤◌, length};
 ghost use Rattle.std.specs.Char.{encode_utf8};
 ghost use Rattle.zvt_text.specs.Codepages.{decoded_by, decoded_byte, decoded_character, decoded_text, decoded_utf8};
+ghost use Rattle.zvt_text.specs.Codepages.{printed_by, printed_byte, printed_character, printed_text, printed_utf8};
 ghost use Rattle.zvt_text.specs.Writing.{Puts};
 
 use crate::bytes::{escape, escape_all};
-use crate::cursor::{Full, word};
+use crate::cursor::{Full, push, word};
 use std::str;
 
 /// How the bytes of a text become characters.
@@ -102,6 +103,79 @@ fn decode_character(buffer: &mut [u8], at: usize, character: char) -> Result<usi
         return escape_all(buffer, at, character.encode_utf8(&mut [0; 4]).as_bytes());
     }
     encode(buffer, at, character)
+}
+
+/// Writes a line to print in UTF-8. Each printing character of ASCII is as it is; the others are as in [`decode`].
+pub(crate) fn print(
+    buffer: &mut [u8],
+    at: usize,
+    codepage: Codepage,
+    bytes: &[u8],
+) -> Result<usize, Full>
+    requires { at ≤ length buffer.old }
+    ensures { Puts result at buffer.old buffer.new (printed_text codepage bytes.now) }
+{
+    match codepage {
+        Codepage::Cp437 => print_by(buffer, at, &CP437, bytes),
+        Codepage::Cp850 => print_by(buffer, at, &CP850, bytes),
+        Codepage::Latin1 => print_by(buffer, at, &LATIN1, bytes),
+        Codepage::Utf8 => print_utf8(buffer, at, bytes),
+    }
+}
+
+fn print_by(
+    buffer: &mut [u8],
+    at: usize,
+    characters: &[char; 128],
+    bytes: &[u8],
+) -> Result<usize, Full>
+    requires { at ≤ length buffer.old }
+    ensures { Puts result at buffer.old buffer.new (printed_by characters.now bytes.now) }
+{
+    let mut end = at;
+    for byte in bytes {
+        end = print_byte(buffer, end, characters, *byte)?;
+    }
+    Ok(end)
+}
+
+fn print_byte(
+    buffer: &mut [u8],
+    at: usize,
+    characters: &[char; 128],
+    byte: u8,
+) -> Result<usize, Full>
+    requires { at ≤ length buffer.old }
+    ensures { Puts result at buffer.old buffer.new (printed_byte characters.now byte) }
+{
+    if byte >= 0x20 && byte <= 0x7E {
+        return push(buffer, at, byte);
+    }
+    decode_byte(buffer, at, characters, byte)
+}
+
+fn print_utf8(buffer: &mut [u8], at: usize, bytes: &[u8]) -> Result<usize, Full>
+    requires { at ≤ length buffer.old }
+    ensures { Puts result at buffer.old buffer.new (printed_utf8 bytes.now) }
+{
+    let Ok(text) = str::from_utf8(bytes) else {
+        return escape_all(buffer, at, bytes);
+    };
+    let mut end = at;
+    for character in text.chars() {
+        end = print_character(buffer, end, character)?;
+    }
+    Ok(end)
+}
+
+fn print_character(buffer: &mut [u8], at: usize, character: char) -> Result<usize, Full>
+    requires { at ≤ length buffer.old }
+    ensures { Puts result at buffer.old buffer.new (printed_character character) }
+{
+    if character >= ' ' && character <= '~' {
+        return push(buffer, at, character as u8);
+    }
+    decode_character(buffer, at, character)
 }
 
 /// Writes a character in UTF-8.

@@ -1,10 +1,11 @@
 //! The lines of receipts, each written completely or not at all.
 ghost use Rattle.std.specs.Prelude.{◌≤◌, length, map};
 ghost use Rattle.std.specs.List.{flat_map};
+ghost use Rattle.zvt_text.specs.Codepages.{printed_text};
 ghost use Rattle.zvt_text.specs.Receipts.{heading, receipt_line, receipt_text, type_name};
 ghost use Rattle.zvt_text.specs.Writing.{Adds, Puts};
 
-use crate::codepages::{Codepage, decode};
+use crate::codepages::{Codepage, decode, print};
 use crate::cursor::{Full, byte, fixed, push};
 use crate::text::{Says, Text};
 use crate::text_blocks::{ReceiptType, TextBlock};
@@ -38,6 +39,29 @@ pub fn receipt_block(
         receipt_type: block.receipt_type,
         lines: block.lines.as_slice(),
     })
+}
+
+/// Writes a line to print in UTF-8, without an end. Each printing character of ASCII is as it is; the others are as in
+/// [`receipt_line`].
+pub fn printed_line(text: &mut Text, codepage: Codepage, line: &[u8]) -> Result<(), AllocError>
+    ensures { Adds result text.old text.new (printed_text codepage line.now) }
+{
+    text.add(&PrintedLine { codepage, line })
+}
+
+/// A line to print.
+#[derive(Drop)]
+struct PrintedLine<'a> {
+    codepage: Codepage,
+    line: &'a [u8],
+}
+
+impl Says for PrintedLine<'_> {
+    ghost said = { λ l. printed_text l.codepage l.line.now };
+
+    fn put(&self, buffer: &mut [u8]) -> Result<usize, Full> {
+        print(buffer, 0, self.codepage, self.line)
+    }
 }
 
 /// A line of a receipt.

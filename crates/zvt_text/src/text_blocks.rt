@@ -1,5 +1,6 @@
 //! The lines of a text block, and the type of its receipt.
-ghost use Rattle.std.specs.Prelude.{◌≡◌, ◌++◌, IfOk, OnOk, map};
+ghost use Rattle.std.specs.Prelude.{◌≡◌, ◌++◌, ◌-◌, IfOk, IsNone, OnOk, length, map, slice_get};
+ghost use Rattle.std.specs.Option.{option_copied};
 ghost use Rattle.zvt_field.specs.Lent.{shown};
 ghost use Rattle.zvt_text.specs.TextBlocks.{block_lines, block_type, field_type, is_line_tag, is_texts_tag};
 ghost use Rattle.zvt_text.specs.TextBlocks.{is_type_tag, printed_lines, text_lines, type_in, type_in_content};
@@ -77,8 +78,64 @@ fn add_texts<'a>(lines: &mut Vec<&'a [u8]>, texts: ForestView<'a>) -> Result<(),
     Ok(())
 }
 
+/// Returns the line at this index of a text block, counted from 0. Allocates nothing.
+pub fn block_line<'a>(fields: FieldsView<'a>, place: usize) -> Option<&'a [u8]>
+    ensures { option_copied result ≡ slice_get (block_lines fields.entry) place }
+{
+    let mut skip = place;
+    for field in fields {
+        if let Some(objects) = field.tree() {
+            let found = printed_at(objects, &mut skip);
+            if found.is_some() {
+                return found;
+            }
+        }
+    }
+    None
+}
+
+/// Returns the text line of the print texts among these objects that follows that many others. Without one, leaves the
+/// number that is still to skip.
+fn printed_at<'a>(objects: ForestView<'a>, skip: &mut usize) -> Option<&'a [u8]>
+    ensures found { option_copied result ≡ slice_get (printed_lines objects.entry) skip.old }
+    ensures left { IsNone result → skip.new ≡ skip.old - length (printed_lines objects.entry) }
+{
+    for object in objects {
+        match object.children() {
+            Some(texts) if is_texts_tag(object.tag) => {
+                let found = text_at(texts, skip);
+                if found.is_some() {
+                    return found;
+                }
+            }
+            _ => {}
+        }
+    }
+    None
+}
+
+/// Returns the text line among these objects that follows that many others. Without one, leaves the number that is
+/// still to skip.
+fn text_at<'a>(texts: ForestView<'a>, skip: &mut usize) -> Option<&'a [u8]>
+    ensures found { option_copied result ≡ slice_get (text_lines texts.entry) skip.old }
+    ensures left { IsNone result → skip.new ≡ skip.old - length (text_lines texts.entry) }
+{
+    for text in texts {
+        match text.children() {
+            None if is_line_tag(text.tag) => {
+                if *skip == 0 {
+                    return Some(text.content);
+                }
+                *skip -= 1;
+            }
+            _ => {}
+        }
+    }
+    None
+}
+
 /// Returns the receipt type of the first field that has one.
-fn block_type(fields: FieldsView<'_>) -> Option<ReceiptType>
+pub fn block_type(fields: FieldsView<'_>) -> Option<ReceiptType>
     ensures { result ≡ block_type fields.entry }
 {
     for field in fields {

@@ -1,4 +1,4 @@
-use Rattle.std.proofs.Common.{◌≡◌, ◌++◌, ℕ, List, [], Ok, Err, OnOk, refl, subst}
+use Rattle.std.proofs.Common.{◌≡◌, ◌++◌, ℕ, List, Ok, Err, OnOk, refl, subst}
 use Rattle.zvt_till.specs.Sending.{Settings}
 use Rattle.zvt_kept.specs.Recovery.{Recovers}
 use Rattle.zvt_kept.specs.RowNotes.{HasNotes}

@@ -10,4 +10,5 @@ returns-in-Ok-clause-made c _ =
       c.put.ensures.value ∙ c.from.ensures,
       ap (option_map (λ end. end.till.state)) held ∙ ap Some (c.new-2.ensures.state ∙ ap (λ (n : ℕ). new_till (record { password = c.put.new.out; config = c.args.config; currency = n })) c.in-Some.ensures.value),
       ap (option_map (λ end. end.stream)) held ∙ ap Some c.new-3.ensures,
+      ap (option_map (λ end. end.card)) held ∙ ap Some c.none.ensures,
     )
