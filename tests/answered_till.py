@@ -95,6 +95,19 @@ NO_CHANGES = [
     (f"{ACK} {DECLINED} {COMPLETION}", "declined 6C abort by time-out or abort key"), (f"{ACK} {ABORT}", ABORTED),
     (REFUSED, "refused 6C abort by time-out or abort key"),
 ]
+# A status without a result code, and one with several.
+UNNAMED, SEVERAL = "04 0F 00", "04 0F 04 27 00 27 00"
+# An end of day: what is answered, and its outcome strictly and with --close-by-completion.
+CLOSES = [
+    ("no status", COMPLETION, "day closed", "day closed"),
+    ("no result code", f"{UNNAMED} {COMPLETION}", "unclear Conflict", "day closed"),
+    ("no result code, twice", f"{UNNAMED} {UNNAMED} {COMPLETION}", "unclear Conflict", "day closed"),
+    ("no result code, then 00", f"{UNNAMED} 04 0F 02 27 00 {COMPLETION}", "unclear Conflict", "day closed"),
+    ("no result code, then a decline", f"{UNNAMED} {DECLINED} {COMPLETION}", "unclear Conflict", "unclear Conflict"),
+    ("several result codes", f"{SEVERAL} {COMPLETION}", "unclear Conflict", "unclear Conflict"),
+    ("a decline", f"{DECLINED} {COMPLETION}", "declined 6C abort by time-out or abort key", "declined 6C abort by time-out or abort key"),
+    ("no result code before an abort", f"{UNNAMED} {ABORT}", "unclear AbortAfterApproval", "unclear AbortAfterApproval"),
+]
 JSON_LINES = [
     '{"outcome":"registered","step":"register"}', '{"outcome":"paid","step":"pay:1234","trace":17}',
     '{"outcome":"not sent","reason":"NoReceipt","step":"reverse:1"}', '{"code":"99","outcome":"aborted","step":"pay:5"}',
@@ -320,6 +333,20 @@ class Trial:
             check(f"{name}: who may read it", before or oct(book.stat().st_mode & 0o777), before or "0o600")
             check(f"{name}: what it has", found, (before or lines("# zvt journal 1, currency 978")) + added + "\n")
 
+    def closes(self):
+        """An end of day, strictly and with --close-by-completion, which changes no other order and no book."""
+        for name, answer, strictly, stated in CLOSES:
+            for words, outcome in ([], strictly), (["--close-by-completion"], stated):
+                self.answers(f"an end of day: {name} {words}", [REGISTERS, ("close", f"{ACK} {answer}", outcome)], 0, *words)
+        unnamed = f"04 0F 12 04 00 00 00 00 12 34 0B 00 00 19 87 00 07 37 00 00 17 {COMPLETION}"
+        course = [REGISTERS, PAYS, ("pay:1234", f"{ACK} {unnamed}", "unclear Conflict"), ("reverse:1", f"{ACK} {unnamed}", "unclear Conflict")]
+        strict, stated = self.new_file(), self.new_file()
+        self.answers("a book, strictly", [*course, ("close", f"{ACK} {UNNAMED} {COMPLETION}", "unclear Conflict")], 1234, "--book", strict)
+        self.answers("a book with the option", [*course, ("close", f"{ACK} {UNNAMED} {COMPLETION}", "day closed")], 1234, "--book", stated, "--close-by-completion")
+        kept = [re.sub(r"at 20\S+(\n> .*\n#= )[0-9A-F]{8}", r"at TIME\1CHECK", book.read_text()) for book in (strict, stated)]
+        check("the book is the same", kept[1], kept[0])
+        self.answers("which goes on without it", [REGISTERS], 1234, "--book", stated)
+
     def has_its_book(self, seed):
         """The audit of what a till records says what the till says: of one connection, or of three with a book, which keeps a line
         that is malformed as one that is lost. Answers how many payments are booked, and how many are unclear."""
@@ -349,7 +376,7 @@ def main():
     with tempfile.TemporaryDirectory() as folder:
         trial = Trial(pathlib.Path(folder))
         for part in (trial.runs, trial.sends, trial.breaks, trial.is_cut_off, trial.doubts, trial.goes_on, trial.full_book, trial.unheard, trial.settings,
-                     trial.keeps, trial.recorded_runs):
+                     trial.keeps, trial.closes, trial.recorded_runs):
             part()
     print(f"{check.verdict}: a till and given answers: {check.count} checks, {check.wrong} wrong")
     return check.status

@@ -35,6 +35,8 @@ REFUSED = [
     ("terminal --port=1 register", "error: unexpected argument 'register' found\n\nUsage: zvt terminal [OPTIONS] --port <PORT>\n"),
     ("till --port=1 --timeout=65536", "error: invalid value '65536' for '--timeout <SECONDS>': 65536 is not in 0..=65535\n"),
     ("loop --timeout 1", "error: unexpected argument '--timeout' found\n"),
+    ("loop --close-by-completion", "error: unexpected argument '--close-by-completion' found\n"),
+    ("till --port=1 --close-by-completion --close-by-completion", "error: the argument '--close-by-completion' cannot be used multiple times\n"),
     ("terminal --port=1 --show", "error: unexpected argument '--show' found"),
     ("tap --listen 1", "error: the following required arguments were not provided:\n  --to <ADDRESS>\n"),
     ("tap", "error: the following required arguments were not provided:\n  --listen <ADDRESS>\n  --to <ADDRESS>\n"),

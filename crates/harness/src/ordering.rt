@@ -60,6 +60,7 @@ fn is_paid(till: &mut Till) -> bool {
     till.hear(Heard::Positive);
     till.hear(Heard::Status(StatusFacts {
         result: Some(0),
+        has_result: true,
         amount: Some(price(1234)),
         trace: Trace::new(17),
         receipt: Some([0, 5]),

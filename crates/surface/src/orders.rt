@@ -96,6 +96,7 @@ fn replayed(alloc: Global) -> Result<bool, AllocError> {
 fn approval(amount: Amount, trace: Trace) -> StatusFacts {
     StatusFacts {
         result: Some(0),
+        has_result: true,
         amount: Some(amount),
         trace: Some(trace),
         receipt: Some([0, 5]),

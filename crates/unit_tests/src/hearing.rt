@@ -29,6 +29,7 @@ fn heard_in(rt: &impl Abort, alloc: Global, bytes: &[u8]) -> Result<Heard, Fail>
 fn takes_back(original: Original) -> Heard {
     Heard::Status(StatusFacts {
         result: None,
+        has_result: false,
         amount: None,
         trace: None,
         receipt: None,
@@ -41,6 +42,7 @@ fn takes_back(original: Original) -> Heard {
 fn names(currency: CurrencyFact) -> Heard {
     Heard::Status(StatusFacts {
         result: None,
+        has_result: false,
         amount: None,
         trace: None,
         receipt: None,
@@ -53,6 +55,7 @@ fn names(currency: CurrencyFact) -> Heard {
 fn hears_each_message(rt: HostRuntime) -> Result<(), Fail> {
     let approved = Heard::Status(StatusFacts {
         result: Some(0),
+        has_result: true,
         amount: Amount::new(1234),
         trace: Trace::new(17),
         receipt: Some([0x00, 0x05]),

@@ -14,6 +14,7 @@ use Rattle.zvt_runs.specs.declared.tcp.options.TillRun.{TillRun}
 use Rattle.zvt_tool.specs.Options.{form_by, lengths_by}
 use Rattle.zvt_runs.specs.Settings.{config_of, currency_of, password_of}
 use Rattle.zvt_runs.specs.Words.{code_in}
+use Rattle.zvt_till.specs.declared.settings.Rules.{Rules}
 use Rattle.zvt_till.specs.declared.settings.TillSettings.{TillSettings}
 use Rattle.zvt_tool.specs.declared.terminal_options.TerminalOptions.{TerminalOptions}
 use Rattle.zvt_tool.specs.declared.till_options.TillOptions.{TillOptions}
@@ -32,9 +33,15 @@ config_named options = named run_settings.config config_of options.config
 abbrev pub currency_named : TillOptions → Option ℕ
 currency_named options = named run_settings.currency currency_of options.currency
 
--- the settings that the words name; or none, where one of the words names none
+-- the rules that the flags state
+abbrev pub rules_stated : TillOptions → Rules
+rules_stated options = record { close_by_completion = options.close_by_completion }
+
+-- the settings that the words and the flags name; or none, where one of the words names none
 abbrev pub AreSettings : TillOptions → Option TillSettings → Type 0
-AreSettings options (Some set) = (password_named options ≡ Some set.password) × (config_named options ≡ Some set.config) × (currency_named options ≡ Some set.currency)
+AreSettings options (Some set) =
+    (password_named options ≡ Some set.password) × (config_named options ≡ Some set.config) × (currency_named options ≡ Some set.currency)
+    × (set.rules ≡ rules_stated options)
 AreSettings options None = (password_named options ≡ None) ⊎ ((config_named options ≡ None) ⊎ (currency_named options ≡ None))
 
 -- what a terminal decides: with no word it approves, and with one it declines by the code that the word names

@@ -195,12 +195,7 @@ fn new_till(rt: &HostRuntime, settings: &TillSettings) -> Till
     ensures numbers { result.numbers ≡ no_numbers }
     ensures heard { result.heard ≡ [] }
 {
-    Till::new(
-        rt.alloc(),
-        settings.password,
-        settings.config,
-        settings.currency,
-    )
+    Till::with_settings(rt.alloc(), settings)
 }
 
 /// Parses the words as steps. Reports a word that names no step.

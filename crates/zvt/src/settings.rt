@@ -8,7 +8,7 @@ use std::io;
 use zvt_bcd::Currency;
 use zvt_runs::{config_of, currency_of, password_of, result_code};
 use zvt_term::{Card, Extras, Receipts, Verdict};
-use zvt_till::TillSettings;
+use zvt_till::{Rules, TillSettings};
 use zvt_tool::{TerminalOptions, TillOptions};
 
 /// Returns the settings that the words name, with the default for each missing word. Reports the first wrong word, and
@@ -30,6 +30,9 @@ pub fn settings(rt: &HostRuntime, options: &TillOptions<'_>) -> io::Result<Optio
         password,
         config,
         currency,
+        rules: Rules {
+            close_by_completion: options.close_by_completion,
+        },
     }))
 }
 

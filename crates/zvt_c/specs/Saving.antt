@@ -1,5 +1,6 @@
 -- The bytes that a handle's till is saved in and loaded from.
 use Rattle.std.specs.Prelude.{◌≡◌, ◌⊎◌, ℕ, List, length, Option, Some, None, option_map}
+use Rattle.zvt_till.specs.SnapshotDecoding.{strictly}
 use Rattle.zvt_till.specs.SnapshotEncoded.{saved, saved_first, HasNoDoubts, IsKept, IsSavedAs}
 use Rattle.zvt_stream.specs.StreamState.{at_start}
 use Rattle.zvt_till.specs.Till.{TillState, step}
@@ -33,9 +34,9 @@ abbrev pub Loads : List ℕ → Option Session → Type 0
 Loads bytes None = ⊥
 Loads bytes (Some end) = IsSavedAs bytes (step end.till.state Lost) × (end.stream ≡ at_start) × (end.card ≡ no_card)
 
--- The handle's till has this state, or memory ran out.
+-- The handle's till has this state under the strict rules, or memory ran out.
 abbrev pub IsRestored : TillState → (after : Option Session) → (status : ℕ) → Type 0
-IsRestored state after status = ((status ≡ statuses.ok) × (option_map (λ end. end.till.state) after ≡ Some state)) ⊎ (status ≡ statuses.no_memory)
+IsRestored state after status = ((status ≡ statuses.ok) × (option_map (λ end. end.till.state) after ≡ Some (strictly state))) ⊎ (status ≡ statuses.no_memory)
 
 -- Bytes that a till was saved in restore that till, or memory runs out.
 abbrev pub Restores : List ℕ → (after : Option Session) → (status : ℕ) → Type 0

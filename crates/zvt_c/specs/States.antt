@@ -2,6 +2,7 @@
 use Rattle.std.specs.Prelude.{◌≡◌, ℕ, List, Option, Some, option_map}
 use Rattle.zvt_bcd.specs.Digits.{AreDigits, number_of}
 use Rattle.zvt_stream.specs.StreamState.{at_start}
+use Rattle.zvt_till.specs.Settings.{strict}
 use Rattle.zvt_till.specs.Till.{TillState, new_till}
 use Rattle.zvt_c.specs.declared.session.Session.{Session}
 use Rattle.zvt_c.specs.Cards.{no_card}
@@ -16,5 +17,5 @@ state_of handle = option_map (λ end. end.till.state) handle.raw_handle.held
 abbrev pub IsNewTill : (password config currency : ℕ) → Option Session → Type 0
 IsNewTill password config currency held =
     (digits : List ℕ) × AreDigits digits × (number_of digits ≡ password)
-    × (option_map (λ end. end.till.state) held ≡ Some (new_till (record { password = digits; config = config; currency = currency })))
+    × (option_map (λ end. end.till.state) held ≡ Some (new_till (record { password = digits; config = config; currency = currency; rules = strict })))
     × (option_map (λ end. end.stream) held ≡ Some at_start) × (option_map (λ end. end.card) held ≡ Some no_card)

@@ -59,6 +59,7 @@ pub(crate) fn settings(till: &Till) -> TillSettings
         password: till.password(),
         config: till.config(),
         currency: till.currency(),
+        rules: till.rules(),
     }
 }
 

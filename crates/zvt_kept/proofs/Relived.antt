@@ -83,7 +83,7 @@ either_line false x y up p q = q
 running_line : (s : TillState) (running : Option Running) (h : Happening) → s.running ≡ running → (meet s h).line_up ≡ s.line_up
 running_line s None h none = rw none refl
 running_line s (Some r) h is =
-    rw is (either_line (ends r.positive h) (finish s r.order (outcome_by s.book r.order r.statuses h)) (record s { running = Some (listened (demand_of (Some s.settings.currency) s.book r.order) r h) }) s.line_up refl refl)
+    rw is (either_line (ends r.positive h) (finish s r.order (outcome_by s.book r.order r.statuses h)) (record s { running = Some (listened (demand_of s.settings.rules (Some s.settings.currency) s.book r.order) r h) }) s.line_up refl refl)
 
 if_up : (up : Bool) (x y : TillState) → up ≡ true → cond up x y ≡ x
 if_up true x y is = refl

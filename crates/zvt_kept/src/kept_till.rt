@@ -100,7 +100,7 @@ impl<D: Device + Drop> KeptTill<D> {
                 why,
             });
         }
-        let till = Till::new(alloc, settings.password, settings.config, settings.currency);
+        let till = Till::with_settings(alloc, settings);
         Ok(KeptTill {
             till,
             journal,

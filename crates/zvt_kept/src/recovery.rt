@@ -87,7 +87,7 @@ pub fn recover(
         Err(RecordError::Check { number }) => return Err(RecoveryError::Check { number }),
         Err(RecordError::Memory) => return Err(RecoveryError::Memory),
     };
-    let mut till = Till::new(alloc, settings.password, settings.config, settings.currency);
+    let mut till = Till::with_settings(alloc, settings);
     till.connected();
     let mut notes = RowNotes::new(alloc);
     for (at, entry) in entries.iter().enumerate() {

@@ -1,5 +1,5 @@
 -- Both ends by what they mean to each other, apart from how messages are spelled.
-use Rattle.std.specs.Prelude.{ℕ, ◌==◌, Bool, cond, List, [], ◌++◌, Option, Some, None, map, slice_get, option_to_list}
+use Rattle.std.specs.Prelude.{ℕ, ◌==◌, Bool, true, cond, List, [], ◌++◌, Option, Some, None, map, slice_get, option_to_list}
 use Rattle.zvt_apdu.specs.Briefs.{digits}
 use Rattle.zvt_apdu.specs.declared.brief.Brief.{Brief}
 use Rattle.zvt_apdu.specs.declared.brief.Brief.TheVariants.{Ack as AckBrief, Nack as NackBrief, Register, Pay, Reverse, CloseDay, AbortOrder as AbortBrief}
@@ -32,14 +32,14 @@ fact_of (Some currency) = OneCurrency currency
 
 abbrev pub approval_status : ℕ → ℕ → Option ℕ → StatusFacts
 approval_status amount number currency =
-    record { result = Some 0; amount = Some amount; trace = Some number; receipt = Some (digits 2 number); original = Absent; currency = fact_of currency }
+    record { result = Some 0; has_result = true; amount = Some amount; trace = Some number; receipt = Some (digits 2 number); original = Absent; currency = fact_of currency }
 
 abbrev pub code_status : ℕ → StatusFacts
-code_status code = record { result = Some code; amount = None; trace = None; receipt = None; original = Absent; currency = NoCurrency }
+code_status code = record { result = Some code; has_result = true; amount = None; trace = None; receipt = None; original = Absent; currency = NoCurrency }
 
 abbrev pub reversal_status : ℕ → ℕ → ℕ → Option ℕ → StatusFacts
 reversal_status amount number original currency =
-    record { result = Some 0; amount = Some amount; trace = Some number; receipt = Some (digits 2 number); original = Once (digits 3 original); currency = fact_of currency }
+    record { result = Some 0; has_result = true; amount = Some amount; trace = Some number; receipt = Some (digits 2 number); original = Once (digits 3 original); currency = fact_of currency }
 
 -- what a report is to the till
 abbrev pub heard_of : Report → Heard

@@ -22,6 +22,7 @@ use Rattle.zvt_till.specs.declared.statuses.Class.{Class}
 use Rattle.zvt_till.specs.declared.statuses.Class.TheVariants.{Good, Declining, Doubtful}
 use Rattle.zvt_till.specs.Statuses.{class_of, same_trace}
 use Rattle.zvt_till.specs.Segments.{ends, status_of}
+use Rattle.zvt_till.specs.declared.settings.Rules.{Rules}
 use Rattle.zvt_till.specs.Outcomes.{charged, demand_of, note, note_if, note_class, trace_used, payment_outcome, reversal_outcome, broken_outcome, outcome_by, listened}
 use Rattle.zvt_till.specs.Sending.{Settings}
 use Rattle.zvt_till.specs.Till.{TillState, entry_after, book_after, finish, meet, accept, step}
@@ -167,12 +168,12 @@ module _ (home : ℕ) where
   takes-option l force None f t st h = h
   takes-option l force (Some row) f t st h = takes-note l force row f t st (class_of (ReversalDemand (charged force row.amount) row.trace) f) refl h
 
-  summary-note : (l : List Row) (force : Option ℕ) (book : List Entry) (o : Order) (st : Statuses) (f : StatusFacts) → ToldStatus l f → SummaryHolds l book o st → SummaryHolds l book o (note (demand_of force book o) st f)
-  summary-note l force book RegisterOrder st f t h = tt
-  summary-note l force book (PayOrder a) st f t h = pays-note l force a f t st (class_of (Payment (charged force a)) f) refl h
-  summary-note l force book (ReverseOrder e) st f t h = takes-option l force (slice_get book e) f t st h
-  summary-note l force book CloseDayOrder st f t h = tt
-  summary-note l force book CancelOrder st f t h = tt
+  summary-note : (rules : Rules) (l : List Row) (force : Option ℕ) (book : List Entry) (o : Order) (st : Statuses) (f : StatusFacts) → ToldStatus l f → SummaryHolds l book o st → SummaryHolds l book o (note (demand_of rules force book o) st f)
+  summary-note rules l force book RegisterOrder st f t h = tt
+  summary-note rules l force book (PayOrder a) st f t h = pays-note l force a f t st (class_of (Payment (charged force a)) f) refl h
+  summary-note rules l force book (ReverseOrder e) st f t h = takes-option l force (slice_get book e) f t st h
+  summary-note rules l force book CloseDayOrder st f t h = tt
+  summary-note rules l force book CancelOrder st f t h = tt
 
   summary-more : (l more : List Row) (book : List Entry) (o : Order) (st : Statuses) → SummaryHolds l book o st → SummaryHolds (l ++ more) book o st
   summary-more l more book RegisterOrder st h = tt
@@ -302,18 +303,18 @@ module _ (home : ℕ) where
   pub till-more : (l more : List Row) (s : TillState) → TillHolds l s → TillHolds (l ++ more) s
   till-more l more s t = record { running = running-more l more s.book s.running t.running; book = all_match-more l more s.book t.book }
 
-  noted : (l : List Row) (force : Option ℕ) (book : List Entry) (o : Order) (st : Statuses) (f : Option StatusFacts) → ((x : StatusFacts) → f ≡ Some x → ToldStatus l x) → SummaryHolds l book o st
-      → SummaryHolds l book o (note_if (demand_of force book o) st f)
-  noted l force book o st None t s = s
-  noted l force book o st (Some f) t s = summary-note l force book o st f (t f refl) s
+  noted : (rules : Rules) (l : List Row) (force : Option ℕ) (book : List Entry) (o : Order) (st : Statuses) (f : Option StatusFacts) → ((x : StatusFacts) → f ≡ Some x → ToldStatus l x) → SummaryHolds l book o st
+      → SummaryHolds l book o (note_if (demand_of rules force book o) st f)
+  noted rules l force book o st None t s = s
+  noted rules l force book o st (Some f) t s = summary-note rules l force book o st f (t f refl) s
 
   abbrev HappeningTold : List Row → Happening → Type 0
   HappeningTold l h = (x : StatusFacts) → status_of h ≡ Some x → ToldStatus l x
 
   meet-running-holds : (l : List Row) (s : TillState) (r : Running) (h : Happening) → HappeningTold l h → SummaryHolds l s.book r.order r.statuses → AllMatch home l s.book → (b : Bool)
-      → TillHolds l (cond b (finish s r.order (outcome_by s.book r.order r.statuses h)) (record s { running = Some (listened (demand_of (Some s.settings.currency) s.book r.order) r h) }))
+      → TillHolds l (cond b (finish s r.order (outcome_by s.book r.order r.statuses h)) (record s { running = Some (listened (demand_of s.settings.rules (Some s.settings.currency) s.book r.order) r h) }))
   meet-running-holds l s r h t k m true = record { running = tt; book = ended-book l s.book r.order r.statuses h m k }
-  meet-running-holds l s r h t k m false = record { running = noted l (Some s.settings.currency) s.book r.order r.statuses (status_of h) t k; book = m }
+  meet-running-holds l s r h t k m false = record { running = noted s.settings.rules l (Some s.settings.currency) s.book r.order r.statuses (status_of h) t k; book = m }
 
   meet-by-holds : (l : List Row) (h : Happening) (k : Settings) (up g : Bool) (run : Option Running) (es : List Entry) (u : List (ℕ × Cause)) (last : Option Outcome)
       → HappeningTold l h → RunningHolds l es run → AllMatch home l es → TillHolds l (meet (state k up g run es u last) h)

@@ -118,12 +118,13 @@ currency-read : (currency : ℕ) → currency ≤ 9999 → number_of (digits 2 c
 currency-read currency h = number_of-digits 2 currency (omega arith)
 
 abbrev status_of : ℕ → ℕ → List ℕ → Original → CurrencyFact → StatusFacts
-status_of amount number receipt original currency = record { result = Some 0; amount = Some amount; trace = Some number; receipt = Some receipt; original = original; currency = currency }
+status_of amount number receipt original currency = record { result = Some 0; has_result = true; amount = Some amount; trace = Some number; receipt = Some receipt; original = original; currency = currency }
 
 -- a status whose amount and number were written
 status-read : (amount number : ℕ) (receipt : List ℕ) (original : Original) (currency : CurrencyFact) → IsAmount amount → number ≤ 9999
     → Status (record {
       result = Some 0;
+      has_result = true;
       amount = positive (number_of (digits 6 amount));
       trace = Some (number_of (digits 3 number));
       receipt = Some receipt;
@@ -131,7 +132,7 @@ status-read : (amount number : ℕ) (receipt : List ℕ) (original : Original) (
       currency = currency;
     }) ≡ Status (status_of amount number receipt original currency)
 status-read amount number receipt original currency f w =
-    ap₂ (λ (a t : Option ℕ). Status (record { result = Some 0; amount = a; trace = t; receipt = Some receipt; original = original; currency = currency })) (amount-read amount f) (trace-read number w)
+    ap₂ (λ (a t : Option ℕ). Status (record { result = Some 0; has_result = true; amount = a; trace = t; receipt = Some receipt; original = original; currency = currency })) (amount-read amount f) (trace-read number w)
 
 heard-report : (report : Report) → IsWritable report → FitReport report → heard_as (message_of_report report) ≡ heard_of report
 heard-report Ack w f = refl

@@ -64,7 +64,7 @@ reversal-undeclined (ReversalDemand charge trace) amount n original c k =
     by_tests true true false k = k
     by_tests true false named k = k
     by_tests false same named k = k
-reversal-undeclined Closing amount n original c k = k
+reversal-undeclined (Closing by_completion) amount n original c k = k
 
 -- the number of the approval that a turn takes back, by the receipt number that was asked for, and what it says then
 record TakesBack (l : List Row) (receipt : Option (List ℕ)) (turn : Turn) (n : ℕ) : Type 0 where

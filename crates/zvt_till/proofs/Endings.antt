@@ -20,6 +20,7 @@ use Rattle.zvt_till.specs.Marks.{reverses_end, mark, entries_of}
 use Rattle.zvt_till.specs.Till.{entry_after, book_after, unclear_after}
 use Rattle.zvt_till.specs.Outcomes.{demand_of, outcome_by}
 use Rattle.zvt_till.specs.Refusals.{sent_as}
+use Rattle.zvt_till.specs.declared.settings.Rules.{Rules}
 use Rattle.zvt_till.proofs.Summaries.{summary}
 use Rattle.zvt_till.proofs.Payment.{verdict_of, payment-verdict}
 use Rattle.zvt_till.proofs.Marks.{mark-idle, IsPlaced, Placed, mark-snoc, mark-traces, row_at, entry_at, after_end, changed_at, mark-reversal}
@@ -112,11 +113,11 @@ changed-alike f g same es i = by_entry (slice_get es i)
     by_entry None = refl
     by_entry (Some x) = ap (λ y. slice_set es i y) (same x)
 
-shut-reversal : (force : Option ℕ) (closed : List Segment) (e : ℕ) (hs : List Happening) (h : Happening)
+shut-reversal : (rules : Rules) (force : Option ℕ) (closed : List Segment) (e : ℕ) (hs : List Happening) (h : Happening)
     → end_of (hs ++ h ∷ []) ≡ Some (record { before = hs; by = h }) → e < length (rows closed)
-    → let st : Statuses = summary (demand_of force (entries_of closed) (ReverseOrder e)) (statuses hs) in
+    → let st : Statuses = summary (demand_of rules force (entries_of closed) (ReverseOrder e)) (statuses hs) in
     book_after (entries_of closed) (ReverseOrder e) (outcome_by (entries_of closed) (ReverseOrder e) st h) ≡ entries_of (closed ++ seg (begun_by force (Reverse e)) (hs ++ h ∷ []) ∷ [])
-shut-reversal force closed e hs h q lt =
+shut-reversal rules force closed e hs h q lt =
     let o : Opening = begun_by force (Reverse e) in
     let w = row_at (rows closed) e lt in
     let row = w.0 in
@@ -124,7 +125,7 @@ shut-reversal force closed e hs h q lt =
     let d : Demand = Reversal (charge_of o row.amount) row.trace in
     let ended : Option Ended = Some (record { before = hs; by = h }) in
     let s : Segment = seg o (hs ++ h ∷ []) in
-    let demand : demand_of force (entries_of closed) (ReverseOrder e) ≡ Some d = ap (λ x. option_map (λ y. Reversal (charge_of o y.amount) y.trace) x) at.2 in
+    let demand : demand_of rules force (entries_of closed) (ReverseOrder e) ≡ Some d = ap (λ x. option_map (λ y. Reversal (charge_of o y.amount) y.trace) x) at.2 in
     let es : List Entry = entries_of closed in
     let out : Outcome = outcome_by es (ReverseOrder e) (summary (Some d) (statuses hs)) h in
     ap (λ x. book_after es (ReverseOrder e) (outcome_by es (ReverseOrder e) (summary x (statuses hs)) h)) demand
@@ -132,21 +133,21 @@ shut-reversal force closed e hs h q lt =
     ∙ sym (mark-reversal o e ended s (record { marks = λ place r. ap (reverses_end place r o) q; opens = λ place r before. ap (doubt_end place r before o) q }) closed 0 e (rows closed) row (sym (zero-add e)) w.1)
     ∙ sym (entries-shut closed o (hs ++ h ∷ []) ended q)
 
-pub shut : (own : ℕ) (force : Option ℕ) (order : Order) (closed : List Segment) (hs : List Happening) (h : Happening) (p : Bool)
+pub shut : (rules : Rules) (own : ℕ) (force : Option ℕ) (order : Order) (closed : List Segment) (hs : List Happening) (h : Happening) (p : Bool)
     → end_of (hs ++ h ∷ []) ≡ Some (record { before = hs; by = h }) → ends p h ≡ true
     → Placed (length (rows closed)) closed → IsPlaced (length (rows closed)) (sent_as own order)
     → let es : List Entry = entries_of closed in
-    let out : Outcome = outcome_by es order (summary (demand_of force es order) (statuses hs)) h in
+    let out : Outcome = outcome_by es order (summary (demand_of rules force es order) (statuses hs)) h in
     Shut (closed ++ seg (opened own force order) (hs ++ h ∷ []) ∷ []) (book_after es order out) (unclear_after (loose closed) order out)
-shut own force RegisterOrder closed hs h p e n placed here = shut-plain closed (begun_by force (Register (Some own))) (hs ++ h ∷ []) (Some (record { before = hs; by = h })) e refl (λ place row. refl) (λ place row before. refl)
-shut own force (PayOrder a) closed hs h p e n placed here = shut-payment force closed a hs h p e n placed
-shut own force (ReverseOrder k) closed hs h p e n placed here =
+shut rules own force RegisterOrder closed hs h p e n placed here = shut-plain closed (begun_by force (Register (Some own))) (hs ++ h ∷ []) (Some (record { before = hs; by = h })) e refl (λ place row. refl) (λ place row before. refl)
+shut rules own force (PayOrder a) closed hs h p e n placed here = shut-payment force closed a hs h p e n placed
+shut rules own force (ReverseOrder k) closed hs h p e n placed here =
     record {
-      book = shut-reversal force closed k hs h e here;
+      book = shut-reversal rules force closed k hs h e here;
       unclear = ap (λ x. settled x.unclear) (sym (books-snoc closed (begun_by force (Reverse k)) (hs ++ h ∷ []) (Some (record { before = hs; by = h })) e));
     }
-shut own force CloseDayOrder closed hs h p e n placed here = shut-plain closed (begun_by force CloseDay) (hs ++ h ∷ []) (Some (record { before = hs; by = h })) e refl (λ place row. refl) (λ place row before. refl)
-shut own force CancelOrder closed hs h p e n placed here = shut-plain closed (begun_by force Cancel) (hs ++ h ∷ []) (Some (record { before = hs; by = h })) e refl (λ place row. refl) (λ place row before. refl)
+shut rules own force CloseDayOrder closed hs h p e n placed here = shut-plain closed (begun_by force CloseDay) (hs ++ h ∷ []) (Some (record { before = hs; by = h })) e refl (λ place row. refl) (λ place row before. refl)
+shut rules own force CancelOrder closed hs h p e n placed here = shut-plain closed (begun_by force Cancel) (hs ++ h ∷ []) (Some (record { before = hs; by = h })) e refl (λ place row. refl) (λ place row before. refl)
 
 grows-by : (b : Books) (a : ℕ) (v : Verdict) → length b.booked ≤ length (write_down b a v).booked
 grows-by b a (Entered row) = omega (arith, length-append b.booked (row ∷ []))

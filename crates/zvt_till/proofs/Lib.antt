@@ -27,6 +27,7 @@ pub mod BooksLemmas
 pub mod HeardLemmas
 pub mod Unclear
 mod Rows
+pub mod RulesLemmas
 pub mod Room
 mod DistinctLemmas
 pub mod NumbersHeard

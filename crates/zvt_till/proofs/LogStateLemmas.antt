@@ -17,6 +17,7 @@ use Rattle.zvt_till.specs.Outcomes.{demand_of, note_if, outcome_by, listened}
 use Rattle.zvt_till.specs.Refusals.{sent_as}
 use Rattle.zvt_till.specs.Sending.{Settings}
 use Rattle.zvt_till.specs.Log.{is_break, awaited_by_end, awaited_of}
+use Rattle.zvt_till.specs.declared.settings.Rules.{Rules}
 use Rattle.zvt_till.proofs.Segments.{heard_last, list_any-snoc, heard_last-snoc, split_last}
 use Rattle.zvt_till.proofs.Summaries.{summary, summary-snoc}
 use Rattle.zvt_till.proofs.Marks.{IsPlaced, Placed, Placed-more, Placed-snoc, Placed-prefix, Placed-last}
@@ -24,33 +25,33 @@ use Rattle.zvt_till.proofs.SegmentEndLemmas.{seg, opened, rows, loose, books-sno
 use Rattle.zvt_till.proofs.Endings.{shut, grows}
 
 -- the running order of a till of this currency is the last segment, without an end so far; its statuses are measured by the currency in force
-pub record Open (own : ℕ) (ss : List Segment) (book : List Entry) (r : Running) : Type 0 where
+pub record Open (rules : Rules) (own : ℕ) (ss : List Segment) (book : List Entry) (r : Running) : Type 0 where
   pub closed : List Segment
   pub answers : List Happening
   pub force : Option ℕ
-  pub forced : (rows : List Entry) → demand_of (Some own) rows r.order ≡ demand_of force rows r.order
+  pub forced : (rows : List Entry) → demand_of rules (Some own) rows r.order ≡ demand_of rules force rows r.order
   pub is : ss ≡ closed ++ seg (opened own force r.order) answers ∷ []
   pub unended : end_of answers ≡ None
   pub unbroken : list_any is_break answers ≡ false
   pub positive : r.positive ≡ list_any is_positive answers
-  pub statuses : r.statuses ≡ summary (demand_of (Some own) book r.order) (Rattle.zvt_till.specs.Segments.statuses answers)
+  pub statuses : r.statuses ≡ summary (demand_of rules (Some own) book r.order) (Rattle.zvt_till.specs.Segments.statuses answers)
 
-abbrev pub TiedTo : ℕ → List Segment → List Entry → Option Running → Type 0
-TiedTo own ss book None = awaited_of ss ≡ None
-TiedTo own ss book (Some r) = Open own ss book r
+abbrev pub TiedTo : Rules → ℕ → List Segment → List Entry → Option Running → Type 0
+TiedTo rules own ss book None = awaited_of ss ≡ None
+TiedTo rules own ss book (Some r) = Open rules own ss book r
 
-pub record Core (own : ℕ) (ss : List Segment) (the_book : List Entry) (the_unclear : List (ℕ × Cause)) (running : Option Running) : Type 0 where
+pub record Core (rules : Rules) (own : ℕ) (ss : List Segment) (the_book : List Entry) (the_unclear : List (ℕ × Cause)) (running : Option Running) : Type 0 where
   pub book : the_book ≡ entries_of ss
   pub unclear : the_unclear ≡ settled (books_of ss).unclear
   pub placed : Placed (length (books_of ss).booked) ss
-  pub tied : TiedTo own ss the_book running
+  pub tied : TiedTo rules own ss the_book running
 
 abbrev pub more_heard : Segment → Happening → Segment
 more_heard s h = seg s.opening (s.answers ++ h ∷ [])
 
-idle-last : (own : ℕ) (closed : List Segment) (s : Segment) (h : Happening) (book : List Entry) (unclear : List (ℕ × Cause))
-    → Core own (closed ++ s ∷ []) book unclear None → Core own (closed ++ more_heard s h ∷ []) book unclear None
-idle-last own closed s h book unclear c =
+idle-last : (rules : Rules) (own : ℕ) (closed : List Segment) (s : Segment) (h : Happening) (book : List Entry) (unclear : List (ℕ × Cause))
+    → Core rules own (closed ++ s ∷ []) book unclear None → Core rules own (closed ++ more_heard s h ∷ []) book unclear None
+idle-last rules own closed s h book unclear c =
     let w = has-ended closed s c.tied in
     let after = end-kept s.answers h w.0 w.1 in
     let same : end_of s.answers ≡ end_of (s.answers ++ h ∷ []) = w.1 ∙ sym after in
@@ -67,23 +68,23 @@ idle-last own closed s h book unclear c =
       tied = awaited-snoc closed (more_heard s h) ∙ ap (awaited_by_end (more_heard s h)) after;
     }
 
-core-idle : (own : ℕ) (ss : List Segment) (h : Happening) (book : List Entry) (unclear : List (ℕ × Cause))
-    → Core own ss book unclear None → Core own (heard_last ss h) book unclear None
-core-idle own ss h book unclear c = by_last (split_last ss)
+core-idle : (rules : Rules) (own : ℕ) (ss : List Segment) (h : Happening) (book : List Entry) (unclear : List (ℕ × Cause))
+    → Core rules own ss book unclear None → Core rules own (heard_last ss h) book unclear None
+core-idle rules own ss h book unclear c = by_last (split_last ss)
   where
-    by_last : (ss ≡ []) ⊎ ((closed : List Segment) × (s : Segment) × (ss ≡ closed ++ s ∷ [])) → Core own (heard_last ss h) book unclear None
-    by_last (inl e) = subst (λ x. Core own x book unclear None → Core own (heard_last x h) book unclear None) (sym e) (λ k. k) c
+    by_last : (ss ≡ []) ⊎ ((closed : List Segment) × (s : Segment) × (ss ≡ closed ++ s ∷ [])) → Core rules own (heard_last ss h) book unclear None
+    by_last (inl e) = subst (λ x. Core rules own x book unclear None → Core rules own (heard_last x h) book unclear None) (sym e) (λ k. k) c
     by_last (inr w) =
-        subst (λ x. Core own (heard_last x h) book unclear None) (sym w.2)
-        (subst (λ x. Core own x book unclear None) (sym (heard_last-snoc w.0 w.1 h))
-        (idle-last own w.0 w.1 h book unclear (subst (λ x. Core own x book unclear None) w.2 c)))
+        subst (λ x. Core rules own (heard_last x h) book unclear None) (sym w.2)
+        (subst (λ x. Core rules own x book unclear None) (sym (heard_last-snoc w.0 w.1 h))
+        (idle-last rules own w.0 w.1 h book unclear (subst (λ x. Core rules own x book unclear None) w.2 c)))
 
 -- the running order goes on
 
-core-on : (own : ℕ) (ss : List Segment) (h : Happening) (book : List Entry) (unclear : List (ℕ × Cause)) (r : Running)
-    → Core own ss book unclear (Some r) → ends r.positive h ≡ false
-    → Core own (heard_last ss h) book unclear (Some (listened (demand_of (Some own) book r.order) r h))
-core-on own ss h book unclear r c n =
+core-on : (rules : Rules) (own : ℕ) (ss : List Segment) (h : Happening) (book : List Entry) (unclear : List (ℕ × Cause)) (r : Running)
+    → Core rules own ss book unclear (Some r) → ends r.positive h ≡ false
+    → Core rules own (heard_last ss h) book unclear (Some (listened (demand_of rules (Some own) book r.order) r h))
+core-on rules own ss h book unclear r c n =
     let t = c.tied in
     let closed = t.closed in
     let hs = t.answers in
@@ -113,18 +114,18 @@ core-on own ss h book unclear r c n =
         unbroken = list_any-snoc is_break hs h ∙ ap₂ (λ a b. a || b) t.unbroken (unbroken-by r.positive h n);
         positive = ap (λ b. b || is_positive h) t.positive ∙ sym (list_any-snoc is_positive hs h);
         statuses =
-            ap (λ x. note_if (demand_of (Some own) book r.order) x (status_of h)) t.statuses
-            ∙ sym (summary-snoc (demand_of (Some own) book r.order) hs h);
+            ap (λ x. note_if (demand_of rules (Some own) book r.order) x (status_of h)) t.statuses
+            ∙ sym (summary-snoc (demand_of rules (Some own) book r.order) hs h);
       };
     }
 
 -- the running order ends
 
-core-shut : (own : ℕ) (ss : List Segment) (h : Happening) (book : List Entry) (unclear : List (ℕ × Cause)) (r : Running)
-    → Core own ss book unclear (Some r) → ends r.positive h ≡ true
+core-shut : (rules : Rules) (own : ℕ) (ss : List Segment) (h : Happening) (book : List Entry) (unclear : List (ℕ × Cause)) (r : Running)
+    → Core rules own ss book unclear (Some r) → ends r.positive h ≡ true
     → let out : Outcome = outcome_by book r.order r.statuses h in
-    Core own (heard_last ss h) (book_after book r.order out) (unclear_after unclear r.order out) None
-core-shut own ss h book unclear r c n =
+    Core rules own (heard_last ss h) (book_after book r.order out) (unclear_after unclear r.order out) None
+core-shut rules own ss h book unclear r c n =
     let t = c.tied in
     let closed = t.closed in
     let hs = t.answers in
@@ -141,19 +142,19 @@ core-shut own ss h book unclear r c n =
     let was : Placed (length (rows closed)) (closed ++ seg o hs ∷ []) = subst (λ k. Placed k (closed ++ seg o hs ∷ [])) count_is (subst (λ x. Placed (length (rows ss)) x) before c.placed) in
     let p1 : Placed (length (rows closed)) closed = Placed-prefix (length (rows closed)) closed (seg o hs) was in
     let p2 : IsPlaced (length (rows closed)) (sent_as own r.order) = Placed-last (length (rows closed)) closed (seg o hs) was in
-    let done = shut own t.force r.order closed hs h r.positive reached n p1 p2 in
+    let done = shut rules own t.force r.order closed hs h r.positive reached n p1 p2 in
     let more : length (rows closed) ≤ length (rows (closed ++ seg o (hs ++ h ∷ []) ∷ [])) =
     subst (λ b. length (rows closed) ≤ length b.booked) (sym (books-snoc closed o (hs ++ h ∷ []) ended reached)) (grows (books_of closed) o o.order ended) in
     record {
       book =
           ap (λ st. book_after book r.order (outcome_by book r.order st h)) t.statuses
-          ∙ ap (λ b. book_after b r.order (outcome_by b r.order (summary (demand_of (Some own) b r.order) (statuses hs)) h)) book_is
+          ∙ ap (λ b. book_after b r.order (outcome_by b r.order (summary (demand_of rules (Some own) b r.order) (statuses hs)) h)) book_is
           ∙ ap (λ d. book_after es r.order (outcome_by es r.order (summary d (statuses hs)) h)) (t.forced es)
           ∙ done.book
           ∙ ap entries_of (sym now);
       unclear =
           ap (λ st. unclear_after unclear r.order (outcome_by book r.order st h)) t.statuses
-          ∙ ap₂ (λ u b. unclear_after u r.order (outcome_by b r.order (summary (demand_of (Some own) b r.order) (statuses hs)) h)) loose_is book_is
+          ∙ ap₂ (λ u b. unclear_after u r.order (outcome_by b r.order (summary (demand_of rules (Some own) b r.order) (statuses hs)) h)) loose_is book_is
           ∙ ap (λ d. unclear_after (loose closed) r.order (outcome_by es r.order (summary d (statuses hs)) h)) (t.forced es)
           ∙ done.unclear
           ∙ ap loose (sym now);
@@ -165,20 +166,20 @@ core-shut own ss h book unclear r c n =
     }
 
 abbrev pub CoreAt : List Segment → TillState → Type 0
-CoreAt ss s = Core s.settings.currency ss s.book s.unclear s.running
+CoreAt ss s = Core s.settings.rules s.settings.currency ss s.book s.unclear s.running
 
-core-running : (ss : List Segment) (h : Happening) (s : TillState) (r : Running) → Core s.settings.currency ss s.book s.unclear (Some r) → (b : Bool) → ends r.positive h ≡ b
-    → CoreAt (heard_last ss h) (cond b (finish s r.order (outcome_by s.book r.order r.statuses h)) (record s { running = Some (listened (demand_of (Some s.settings.currency) s.book r.order) r h) }))
-core-running ss h s r c true e = core-shut s.settings.currency ss h s.book s.unclear r c e
-core-running ss h s r c false e = core-on s.settings.currency ss h s.book s.unclear r c e
+core-running : (ss : List Segment) (h : Happening) (s : TillState) (r : Running) → Core s.settings.rules s.settings.currency ss s.book s.unclear (Some r) → (b : Bool) → ends r.positive h ≡ b
+    → CoreAt (heard_last ss h) (cond b (finish s r.order (outcome_by s.book r.order r.statuses h)) (record s { running = Some (listened (demand_of s.settings.rules (Some s.settings.currency) s.book r.order) r h) }))
+core-running ss h s r c true e = core-shut s.settings.rules s.settings.currency ss h s.book s.unclear r c e
+core-running ss h s r c false e = core-on s.settings.rules s.settings.currency ss h s.book s.unclear r c e
 
 abbrev pub state : Settings → Bool → Bool → Option Running → List Entry → List (ℕ × Cause) → Option Outcome → TillState
 state settings up registered running book unclear last =
     record { settings = settings; line_up = up; registered = registered; running = running; book = book; unclear = unclear; last_outcome = last }
 
 core-meet-by : (ss : List Segment) (h : Happening) (k : Settings) (up g : Bool) (run : Option Running) (es : List Entry) (u : List (ℕ × Cause)) (last : Option Outcome)
-    → Core k.currency ss es u run → CoreAt (heard_last ss h) (meet (state k up g run es u last) h)
-core-meet-by ss h k up g None es u last c = core-idle k.currency ss h es u c
+    → Core k.rules k.currency ss es u run → CoreAt (heard_last ss h) (meet (state k up g run es u last) h)
+core-meet-by ss h k up g None es u last c = core-idle k.rules k.currency ss h es u c
 core-meet-by ss h k up g (Some r) es u last c = core-running ss h (state k up g (Some r) es u last) r c (ends r.positive h) refl
 
 pub core-meet : (ss : List Segment) (h : Happening) (s : TillState) → CoreAt ss s → CoreAt (heard_last ss h) (meet s h)
@@ -200,10 +201,10 @@ quiet-cancel = ((λ p. refl), refl, refl)
 quiet-running : (h : Happening) (s : TillState) (r : Running) → IsQuiet h → meet_running s r h ≡ record s { running = Some r }
 unfolding IsQuiet
 quiet-running h s r q =
-    ap (λ b. cond b (finish s r.order (outcome_by s.book r.order r.statuses h)) (record s { running = Some (listened (demand_of (Some s.settings.currency) s.book r.order) r h) })) (q.0 r.positive)
+    ap (λ b. cond b (finish s r.order (outcome_by s.book r.order r.statuses h)) (record s { running = Some (listened (demand_of s.settings.rules (Some s.settings.currency) s.book r.order) r h) })) (q.0 r.positive)
     ∙ ap₂ (λ b st. record s { running = Some (record { order = r.order; positive = b; statuses = st }) })
     (ap (λ b. r.positive || b) q.1 ∙ or-false r.positive)
-    (ap (note_if (demand_of (Some s.settings.currency) s.book r.order) r.statuses) q.2)
+    (ap (note_if (demand_of s.settings.rules (Some s.settings.currency) s.book r.order) r.statuses) q.2)
 
 quiet-by : (h : Happening) (k : Settings) (up g : Bool) (run : Option Running) (es : List Entry) (u : List (ℕ × Cause)) (last : Option Outcome)
     → IsQuiet h → meet (state k up g run es u last) h ≡ state k up g run es u last

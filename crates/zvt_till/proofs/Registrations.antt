@@ -140,9 +140,9 @@ registers-end own force (ReverseOrder k) g before hs h e = e
 registers-end own force CloseDayOrder g before hs h e = e
 registers-end own force CancelOrder g before hs h e = e
 
-registered-running : (ss : List Segment) (h : Happening) (s : TillState) (r : Running) → is_break h ≡ false → s.registered ≡ registered_of ss → Open s.settings.currency ss s.book r
+registered-running : (ss : List Segment) (h : Happening) (s : TillState) (r : Running) → is_break h ≡ false → s.registered ≡ registered_of ss → Open s.settings.rules s.settings.currency ss s.book r
     → (b : Bool) → ends r.positive h ≡ b
-    → (cond b (finish s r.order (outcome_by s.book r.order r.statuses h)) (record s { running = Some (listened (demand_of (Some s.settings.currency) s.book r.order) r h) })).registered ≡ registered_of (heard_last ss h)
+    → (cond b (finish s r.order (outcome_by s.book r.order r.statuses h)) (record s { running = Some (listened (demand_of s.settings.rules (Some s.settings.currency) s.book r.order) r h) })).registered ≡ registered_of (heard_last ss h)
 registered-running ss h s r k g t true e =
     let closed = t.closed in
     let hs = t.answers in
@@ -166,15 +166,15 @@ registered-running ss h s r k g t false e =
     ∙ ap (λ x. registered_of (heard_last x h)) (sym t.is)
 
 registered-meet-by : (ss : List Segment) (h : Happening) (k : Settings) (up g : Bool) (run : Option Running) (es : List Entry) (u : List (ℕ × Cause)) (last : Option Outcome)
-    → is_break h ≡ false → g ≡ registered_of ss → TiedTo k.currency ss es run → (meet (state k up g run es u last) h).registered ≡ registered_of (heard_last ss h)
+    → is_break h ≡ false → g ≡ registered_of ss → TiedTo k.rules k.currency ss es run → (meet (state k up g run es u last) h).registered ≡ registered_of (heard_last ss h)
 registered-meet-by ss h k up g None es u last unbroken e t = e ∙ sym (registered-idle ss h unbroken t)
 registered-meet-by ss h k up g (Some r) es u last unbroken e t = registered-running ss h (state k up g (Some r) es u last) r unbroken e t (ends r.positive h) refl
 
-pub registered-meet : (ss : List Segment) (h : Happening) (s : TillState) → is_break h ≡ false → s.registered ≡ registered_of ss → TiedTo s.settings.currency ss s.book s.running
+pub registered-meet : (ss : List Segment) (h : Happening) (s : TillState) → is_break h ≡ false → s.registered ≡ registered_of ss → TiedTo s.settings.rules s.settings.currency ss s.book s.running
     → (meet s h).registered ≡ registered_of (heard_last ss h)
 registered-meet ss h s k e t = registered-meet-by ss h s.settings s.line_up s.registered s.running s.book s.unclear s.last_outcome k e t
 
-pub registered-quiet : (ss : List Segment) (h : Happening) (s : TillState) → IsQuiet h → is_break h ≡ false → s.registered ≡ registered_of ss → TiedTo s.settings.currency ss s.book s.running
+pub registered-quiet : (ss : List Segment) (h : Happening) (s : TillState) → IsQuiet h → is_break h ≡ false → s.registered ≡ registered_of ss → TiedTo s.settings.rules s.settings.currency ss s.book s.running
     → s.registered ≡ registered_of (heard_last ss h)
 registered-quiet ss h s q k e t = ap (λ x. x.registered) (sym (meet-quiet h s q)) ∙ registered-meet ss h s k e t
 

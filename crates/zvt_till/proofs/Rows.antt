@@ -1,21 +1,25 @@
 -- Worked logs: what they are worth, computed from the whole log and by the machine.
-use Rattle.std.specs.Prelude.{◌≡◌, ℕ, false, true, List, [], ◌∷◌, ◌++◌, Some, None, refl}
+use Rattle.std.specs.Prelude.{◌≡◌, ℕ, Bool, Option, false, true, List, [], ◌∷◌, ◌++◌, Some, None, refl}
 use Rattle.zvt_till.specs.declared.happenings.Happening.{Happening}
 use Rattle.zvt_till.specs.declared.happenings.Happening.TheVariants.{Connected, Sent as SentOut, Heard as HeardIn, Malformed, Lost}
-use Rattle.zvt_till.specs.declared.happenings.Sent.TheVariants.{Register, Pay, Reverse}
+use Rattle.zvt_till.specs.declared.happenings.Sent.TheVariants.{Register, Pay, Reverse, CloseDay}
 use Rattle.zvt_till.specs.declared.orders.Order.TheVariants.{Pay as PayOrder}
 use Rattle.zvt_till.specs.declared.messages.Heard.TheVariants.{Positive, Negative, Status, Completion, Abort}
 use Rattle.zvt_till.specs.declared.messages.Original.TheVariants.{Absent, Once}
 use Rattle.zvt_till.specs.declared.messages.Original.{Original}
 use Rattle.zvt_till.specs.declared.messages.CurrencyFact.{CurrencyFact}
 use Rattle.zvt_till.specs.declared.messages.CurrencyFact.TheVariants.{Absent as NoCurrency, Once as OneCurrency, Many as ManyCurrencies}
-use Rattle.zvt_till.specs.declared.outcomes.Outcome.TheVariants.{Refused, Unclear}
+use Rattle.zvt_till.specs.declared.outcomes.Outcome.{Outcome}
+use Rattle.zvt_till.specs.declared.outcomes.Outcome.TheVariants.{Declined, Refused, Unclear, DayClosed}
 use Rattle.zvt_till.specs.declared.orders.OrderRefusal.TheVariants.{Offline}
 use Rattle.zvt_till.specs.declared.entries.Doubt.TheVariants.{No, Unclear as UnclearReversal, TakenBack}
 use Rattle.zvt_till.specs.declared.entries.Entry.{Entry}
+use Rattle.zvt_till.specs.declared.messages.StatusFacts.{StatusFacts}
+use Rattle.zvt_till.specs.Statuses.{Closing, Doubtful, class_unnamed}
 use Rattle.zvt_till.specs.declared.outcomes.Cause.TheVariants.{NoStatus, NoTrace, Conflict, AmountDiffers, AbortAfterApproval, TraceUsed, Line as LineCause, Malformed as MalformedCause, WrongCurrency}
 use Rattle.zvt_till.specs.Books.{books}
 use Rattle.zvt_till.specs.Marks.{total, entries, reversals_left}
+use Rattle.zvt_till.specs.Settings.{strict}
 use Rattle.zvt_till.specs.Sending.{Settings}
 use Rattle.zvt_till.specs.Till.{facts_of, state_after}
 use Rattle.zvt_till.specs.Refusals.{refusal}
@@ -23,13 +27,13 @@ use Rattle.zvt_till.specs.Log.{IsLog, facts_in}
 use Rattle.zvt_till.specs.TillHistory.{sent_in}
 
 euro : Settings
-euro = record { password = 0 ∷ 0 ∷ 0 ∷ []; config = 190; currency = 978 }
+euro = record { password = 0 ∷ 0 ∷ 0 ∷ []; config = 190; currency = 978; rules = strict }
 
 start : List Happening
 start = Connected ∷ SentOut (Register (Some 978)) ∷ HeardIn Positive ∷ HeardIn Completion ∷ []
 
 approval : Happening
-approval = HeardIn (Status (record { result = Some 0; amount = Some 1234; trace = Some 17; receipt = Some (0 ∷ 5 ∷ []); original = Absent; currency = NoCurrency }))
+approval = HeardIn (Status (record { result = Some 0; has_result = true; amount = Some 1234; trace = Some 17; receipt = Some (0 ∷ 5 ∷ []); original = Absent; currency = NoCurrency }))
 
 paid_twice_over : List Happening
 unfolding start approval
@@ -83,7 +87,7 @@ unfolding start approval paid_twice_over
 again =
     paid_twice_over
     ++ (SentOut (Pay 1234) ∷ HeardIn Positive ∷ approval ∷ HeardIn Completion ∷ [])
-    ++ (SentOut (Pay 1234) ∷ HeardIn Positive ∷ HeardIn (Status (record { result = Some 0; amount = Some 1234; trace = Some 18; receipt = Some (0 ∷ 6 ∷ []); original = Absent; currency = NoCurrency })) ∷ HeardIn Completion ∷ [])
+    ++ (SentOut (Pay 1234) ∷ HeardIn Positive ∷ HeardIn (Status (record { result = Some 0; has_result = true; amount = Some 1234; trace = Some 18; receipt = Some (0 ∷ 6 ∷ []); original = Absent; currency = NoCurrency })) ∷ HeardIn Completion ∷ [])
 
 again_books : (facts_in again).book ≡ entry 17 5 ∷ entry 18 6 ∷ []
 unfolding start approval paid_twice_over again entry
@@ -94,11 +98,11 @@ unfolding start approval paid_twice_over again entry
 again_unclear = refl
 
 -- another amount; a reversal's status; no status
-other_amount : (facts_in (start ++ (SentOut (Pay 1234) ∷ HeardIn Positive ∷ HeardIn (Status (record { result = Some 0; amount = Some 1235; trace = Some 17; receipt = None; original = Absent; currency = NoCurrency })) ∷ HeardIn Completion ∷ []))).unclear ≡ (1234, AmountDiffers) ∷ []
+other_amount : (facts_in (start ++ (SentOut (Pay 1234) ∷ HeardIn Positive ∷ HeardIn (Status (record { result = Some 0; has_result = true; amount = Some 1235; trace = Some 17; receipt = None; original = Absent; currency = NoCurrency })) ∷ HeardIn Completion ∷ []))).unclear ≡ (1234, AmountDiffers) ∷ []
 unfolding start
 other_amount = refl
 
-of_reversal : (facts_in (start ++ (SentOut (Pay 1234) ∷ HeardIn Positive ∷ HeardIn (Status (record { result = Some 0; amount = Some 1234; trace = Some 18; receipt = None; original = Once (0 ∷ 0 ∷ 23 ∷ []); currency = NoCurrency })) ∷ HeardIn Completion ∷ []))).unclear ≡ (1234, Conflict) ∷ []
+of_reversal : (facts_in (start ++ (SentOut (Pay 1234) ∷ HeardIn Positive ∷ HeardIn (Status (record { result = Some 0; has_result = true; amount = Some 1234; trace = Some 18; receipt = None; original = Once (0 ∷ 0 ∷ 23 ∷ []); currency = NoCurrency })) ∷ HeardIn Completion ∷ []))).unclear ≡ (1234, Conflict) ∷ []
 unfolding start
 of_reversal = refl
 
@@ -149,7 +153,7 @@ taken_back : Original → List Happening
 unfolding start approval paid_twice_over
 taken_back original =
     paid_twice_over
-    ++ (SentOut (Reverse 0) ∷ HeardIn Positive ∷ HeardIn (Status (record { result = Some 0; amount = Some 1234; trace = Some 18; receipt = None; original = original; currency = NoCurrency })) ∷ HeardIn Completion ∷ [])
+    ++ (SentOut (Reverse 0) ∷ HeardIn Positive ∷ HeardIn (Status (record { result = Some 0; has_result = true; amount = Some 1234; trace = Some 18; receipt = None; original = original; currency = NoCurrency })) ∷ HeardIn Completion ∷ [])
 
 marked : (facts_in (taken_back (Once (0 ∷ 0 ∷ 23 ∷ [])))).book ≡ record { amount = 1234; trace = 17; receipt = Some (0 ∷ 5 ∷ []); reversed = true; doubt = No } ∷ []
 unfolding start approval paid_twice_over taken_back
@@ -172,7 +176,7 @@ in_currency : CurrencyFact → List Happening
 unfolding start
 in_currency currency =
     start
-    ++ (SentOut (Pay 1234) ∷ HeardIn Positive ∷ HeardIn (Status (record { result = Some 0; amount = Some 1234; trace = Some 17; receipt = Some (0 ∷ 5 ∷ []); original = Absent; currency = currency })) ∷ HeardIn Completion ∷ [])
+    ++ (SentOut (Pay 1234) ∷ HeardIn Positive ∷ HeardIn (Status (record { result = Some 0; has_result = true; amount = Some 1234; trace = Some 17; receipt = Some (0 ∷ 5 ∷ []); original = Absent; currency = currency })) ∷ HeardIn Completion ∷ [])
 
 own_currency : (facts_in (in_currency (OneCurrency 978))).book ≡ entry 17 5 ∷ []
 unfolding start in_currency entry
@@ -187,7 +191,7 @@ unfolding start in_currency
 two_currencies = refl
 
 -- without a registration that names one any one currency will do
-unnamed : (books (SentOut (Register None) ∷ SentOut (Pay 1234) ∷ HeardIn (Status (record { result = Some 0; amount = Some 1234; trace = Some 17; receipt = None; original = Absent; currency = OneCurrency 840 })) ∷ HeardIn Completion ∷ [])).unclear ≡ []
+unnamed : (books (SentOut (Register None) ∷ SentOut (Pay 1234) ∷ HeardIn (Status (record { result = Some 0; has_result = true; amount = Some 1234; trace = Some 17; receipt = None; original = Absent; currency = OneCurrency 840 })) ∷ HeardIn Completion ∷ [])).unclear ≡ []
 unnamed = refl
 
 -- a reversal that ends so: what it leaves of the one entry, and whether it is unclear
@@ -201,7 +205,7 @@ unfolding start approval paid_twice_over reversing
 second_try ends = reversing (HeardIn Positive ∷ Lost ∷ start ++ (SentOut (Reverse 0) ∷ ends))
 
 taken : Happening
-taken = HeardIn (Status (record { result = Some 0; amount = Some 1234; trace = Some 18; receipt = None; original = Once (0 ∷ 0 ∷ 23 ∷ []); currency = NoCurrency }))
+taken = HeardIn (Status (record { result = Some 0; has_result = true; amount = Some 1234; trace = Some 18; receipt = None; original = Once (0 ∷ 0 ∷ 23 ∷ []); currency = NoCurrency }))
 
 lost_reversal : entries (reversing (HeardIn Positive ∷ taken ∷ Lost ∷ [])) ≡ record (entry 17 5) { doubt = UnclearReversal LineCause } ∷ []
 unfolding start approval paid_twice_over entry reversing taken
@@ -256,3 +260,32 @@ malformed_again = refl
 doubt_by_steps : (state_after euro (second_try (HeardIn Positive ∷ HeardIn (Abort 180) ∷ []))).book ≡ record (entry 17 5) { doubt = TakenBack } ∷ []
 unfolding euro start approval paid_twice_over entry reversing second_try
 doubt_by_steps = refl
+
+-- an end of day under the strict rules or by its completion, with a status that names its result so
+closed : Bool → Option ℕ → Bool → Option Outcome
+unfolding euro start
+closed by_completion result has_result =
+    (state_after (record euro { rules = record { close_by_completion = by_completion } })
+    (start
+    ++ (SentOut CloseDay ∷ HeardIn Positive ∷ HeardIn (Status (record { result = result; has_result = has_result; amount = None; trace = None; receipt = None; original = Absent; currency = NoCurrency })) ∷ HeardIn Completion ∷ []))).last_outcome
+
+strictly_unclear : closed false None false ≡ Some (Unclear Conflict)
+unfolding euro start closed
+strictly_unclear = refl
+
+closed_by_completion : closed true None false ≡ Some DayClosed
+unfolding euro start closed
+closed_by_completion = refl
+
+-- several results, and one that declines, say so under either
+several_results : closed true None true ≡ Some (Unclear Conflict)
+unfolding euro start closed
+several_results = refl
+
+declined_close : closed true (Some 111) true ≡ Some (Declined 111)
+unfolding euro start closed
+declined_close = refl
+
+-- under the strict rules no status without a result is good
+strictly_doubtful : (s : StatusFacts) → class_unnamed (Closing strict.close_by_completion) s ≡ Doubtful Conflict
+strictly_doubtful s = refl

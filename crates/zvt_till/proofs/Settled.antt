@@ -1,5 +1,5 @@
 -- An order that ended is never left unclear as unfinished.
-use Rattle.std.proofs.Common.{◌≡◌, ℕ, Bool, true, false, cond, ◌==◌, List, [], ◌∷◌, Option, Some, None, fold, refl}
+use Rattle.std.proofs.Common.{◌≡◌, ℕ, Bool, true, false, not, cond, ◌&&◌, ◌==◌, List, [], ◌∷◌, Option, Some, None, fold, refl}
 use Rattle.zvt_till.specs.declared.happenings.Happening.{Happening}
 use Rattle.zvt_till.specs.declared.happenings.Happening.TheVariants.{Connected, Sent as SentOut, Heard as HeardIn, Malformed, Lost}
 use Rattle.zvt_till.specs.declared.orders.Order.{Order}
@@ -12,7 +12,7 @@ use Rattle.zvt_till.specs.declared.entries.Entry.{Entry}
 use Rattle.zvt_till.specs.declared.outcomes.Cause.TheVariants.{Conflict, AmountDiffers, NoTrace, TraceUsed, WrongCurrency}
 use Rattle.zvt_till.specs.declared.outcomes.Outcome.{Outcome}
 use Rattle.zvt_till.specs.declared.outcomes.Outcome.TheVariants.{Registered, Paid, Declined, Refused, Aborted, Unclear, Reversed, DayClosed}
-use Rattle.zvt_till.specs.Statuses.{is_value, is_absent, is_in_currency, names, same_trace, Demand, Payment, Reversal, Closing, Class, Good, Declining, Doubtful, class_undeclined, class_by, class_of}
+use Rattle.zvt_till.specs.Statuses.{is_value, is_absent, is_in_currency, names, same_trace, Demand, Payment, Reversal, Closing, Class, Good, Declining, Doubtful, class_undeclined, class_unnamed, class_by, class_of}
 use Rattle.zvt_till.specs.Segments.{ends}
 use Rattle.zvt_till.specs.Books.{is_finished}
 use Rattle.zvt_till.specs.Outcomes.{note, note_class, payment_outcome, reversal_outcome, closing_outcome, completion_outcome, broken_outcome, outcome_by}
@@ -55,10 +55,19 @@ sound-reversal true true true = tt
 sound-undeclined : (d : Demand) (s : StatusFacts) → SoundClass (class_undeclined d s)
 sound-undeclined (Payment charge) s = sound-payment (is_absent s.original) (is_in_currency charge.currency s.currency) (is_value s.amount charge.amount) s.trace
 sound-undeclined (Reversal charge t) s = sound-reversal (is_in_currency charge.currency s.currency) (is_value s.amount charge.amount) (names s.original t)
-sound-undeclined Closing s = tt
+sound-undeclined (Closing by_completion) s = tt
+
+sound-unnamed : (d : Demand) (s : StatusFacts) → SoundClass (class_unnamed d s)
+sound-unnamed (Payment charge) s = refl
+sound-unnamed (Reversal charge t) s = refl
+sound-unnamed (Closing by_completion) s = by_test (by_completion && not s.has_result)
+  where
+    by_test : (b : Bool) → SoundClass (cond b (Good None) (Doubtful Conflict))
+    by_test true = tt
+    by_test false = refl
 
 sound-class : (d : Demand) (s : StatusFacts) (r : Option ℕ) → SoundClass (class_by r d s)
-sound-class d s None = refl
+sound-class d s None = sound-unnamed d s
 sound-class d s (Some code) = by_code (code == 0)
   where
     by_code : (b : Bool) → SoundClass (cond b (class_undeclined d s) (Declining code))

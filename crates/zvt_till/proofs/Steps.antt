@@ -19,6 +19,7 @@ use Rattle.zvt_till.specs.Outcomes.{demand_of, outcome_by, listened}
 use Rattle.zvt_till.specs.Refusals.{sent_as, Awaited, Facts, refusal, busy_refusal, idle_refusal, line_refusal, asked_refusal, row_refusal, or_else}
 use Rattle.zvt_till.specs.Sending.{Settings}
 use Rattle.zvt_till.specs.Log.{line_after, line_up, registered_by, registered_of, awaited_by_end, awaited_of, facts_in_segments, facts_in, CanFollow, IsLogFrom, IsLog, StepsMeetLog}
+use Rattle.zvt_till.specs.declared.settings.Rules.{Rules}
 use Rattle.zvt_till.proofs.Segments.{heard_last, grown, segments-snoc, fold-snoc}
 use Rattle.zvt_till.proofs.Marks.{IsPlaced, Placed, Placed-snoc, mark-length}
 use Rattle.zvt_till.proofs.SegmentEndLemmas.{seg, opened, begun_by, rows, rows-open, loose-open, entries-open, awaited-snoc}
@@ -27,7 +28,7 @@ use Rattle.zvt_till.proofs.Registrations.{registered-snoc, registered-break, reg
 use Rattle.zvt_till.proofs.BookStepLemmas.{settings-by-running, settings-step}
 
 line-met-running : (s : TillState) (r : Running) (h : Happening) (b : Bool)
-    → (cond b (finish s r.order (outcome_by s.book r.order r.statuses h)) (record s { running = Some (listened (demand_of (Some s.settings.currency) s.book r.order) r h) })).line_up ≡ s.line_up
+    → (cond b (finish s r.order (outcome_by s.book r.order r.statuses h)) (record s { running = Some (listened (demand_of s.settings.rules (Some s.settings.currency) s.book r.order) r h) })).line_up ≡ s.line_up
 line-met-running s r h true = refl
 line-met-running s r h false = refl
 
@@ -78,8 +79,8 @@ forced-by up force ss s asked i e =
 -- an order that begins a segment
 
 core-order : (force : Option ℕ) (ss : List Segment) (s : TillState) (o : Order) → CoreAt ss s → IsPlaced (length (rows ss)) (sent_as s.settings.currency o)
-    → ((book : List Entry) → demand_of (Some s.settings.currency) book o ≡ demand_of force book o)
-    → Core s.settings.currency (ss ++ seg (opened s.settings.currency force o) [] ∷ []) s.book s.unclear (Some (fresh o))
+    → ((book : List Entry) → demand_of s.settings.rules (Some s.settings.currency) book o ≡ demand_of s.settings.rules force book o)
+    → Core s.settings.rules s.settings.currency (ss ++ seg (opened s.settings.currency force o) [] ∷ []) s.book s.unclear (Some (fresh o))
 core-order force ss s o c here forced =
     let opening : Opening = opened s.settings.currency force o in
     record {
@@ -110,8 +111,8 @@ placed-reversal up ss e q =
     let lt : e < length (entries_of ss) = slice_get_within (entries_of ss) e w.0 w.1 in
     omega (arith, mark-length ss 0 (rows ss))
 
-same-demand : (own : ℕ) (force : Option ℕ) (o : Order) → force ≡ Some own → (book : List Entry) → demand_of (Some own) book o ≡ demand_of force book o
-same-demand own force o e book = ap (λ c. demand_of c book o) (sym e)
+same-demand : (rules : Rules) (own : ℕ) (force : Option ℕ) (o : Order) → force ≡ Some own → (book : List Entry) → demand_of rules (Some own) book o ≡ demand_of rules force book o
+same-demand rules own force o e book = ap (λ c. demand_of rules c book o) (sym e)
 
 -- a registration brings its currency into force
 registers : (up : Bool) (force : Option ℕ) (ss : List Segment) (s : TillState) → Inv up force ss s
@@ -141,7 +142,7 @@ grow up force ss s (SentOut (Pay a)) i k =
     record {
       line = i.line;
       registered = i.registered ∙ sym (registered-order ss (begun_by force (Pay a)));
-      core = core-order force ss s (PayOrder a) i.core tt (same-demand s.settings.currency force (PayOrder a) e);
+      core = core-order force ss s (PayOrder a) i.core tt (same-demand s.settings.rules s.settings.currency force (PayOrder a) e);
       forced = inl e;
     }
 grow up force ss s (SentOut (Reverse n)) i k =
@@ -149,7 +150,7 @@ grow up force ss s (SentOut (Reverse n)) i k =
     record {
       line = i.line;
       registered = i.registered ∙ sym (registered-order ss (begun_by force (Reverse n)));
-      core = core-order force ss s (ReverseOrder n) i.core (placed-reversal up ss n k.1) (same-demand s.settings.currency force (ReverseOrder n) e);
+      core = core-order force ss s (ReverseOrder n) i.core (placed-reversal up ss n k.1) (same-demand s.settings.rules s.settings.currency force (ReverseOrder n) e);
       forced = inl e;
     }
 grow up force ss s (SentOut CloseDay) i k =
@@ -205,9 +206,9 @@ inv-log settings log k = inv-after settings [] log (new_till settings) refl (inv
 
 -- what the till awaits
 
-awaited-tied : (own : ℕ) (ss : List Segment) (book : List Entry) (run : Option Running) → TiedTo own ss book run → option_map (awaited_by own) run ≡ awaited_of ss
-awaited-tied own ss book None t = sym t
-awaited-tied own ss book (Some r) t =
+awaited-tied : (rules : Rules) (own : ℕ) (ss : List Segment) (book : List Entry) (run : Option Running) → TiedTo rules own ss book run → option_map (awaited_by own) run ≡ awaited_of ss
+awaited-tied rules own ss book None t = sym t
+awaited-tied rules own ss book (Some r) t =
     let last = seg (opened own t.force r.order) t.answers in
     ap (λ p. Some (record { order = sent_as own r.order; positive = p })) t.positive
     ∙ sym (ap awaited_of t.is ∙ awaited-snoc t.closed last ∙ ap (awaited_by_end last) t.unended)
@@ -218,7 +219,7 @@ facts_by up g awaited book unclear = record { line_up = up; registered = g; awai
 facts-tied : (up : Bool) (force : Option ℕ) (ss : List Segment) (s : TillState) → Inv up force ss s → facts_of s ≡ facts_in_segments up ss
 facts-tied up force ss s i =
     ap₂ (λ a b. facts_by a b (option_map (awaited_by s.settings.currency) s.running) s.book s.unclear) i.line i.registered
-    ∙ ap₂ (λ a b. facts_by up (registered_of ss) a b s.unclear) (awaited-tied s.settings.currency ss s.book s.running i.core.tied) i.core.book
+    ∙ ap₂ (λ a b. facts_by up (registered_of ss) a b s.unclear) (awaited-tied s.settings.rules s.settings.currency ss s.book s.running i.core.tied) i.core.book
     ∙ ap (λ u. facts_by up (registered_of ss) (awaited_of ss) (entries_of ss) u) i.core.unclear
 
 pub steps_meet_log : StepsMeetLog

@@ -15,13 +15,14 @@ use Rattle.zvt_till.specs.declared.events.Event.TheVariants.{Connected as Connec
 use Rattle.zvt_till.specs.Hearing.{heard_as}
 use Rattle.zvt_till.specs.Refusals.{refusal, sent_as, order_in}
 use Rattle.zvt_till.specs.Sending.{Settings, message_of, reply_to}
+use Rattle.zvt_till.specs.Settings.{strict}
 use Rattle.zvt_till.specs.Marks.{entries}
 use Rattle.zvt_till.specs.Till.{TillState, state_after}
 use Rattle.zvt_till.specs.Log.{IsLog, facts_in, line_up}
 
--- the till of a run has the password 00 00 00, the configuration BE and the euro
+-- the till of a run has the password 00 00 00, the configuration BE, the euro and the strict rules
 abbrev pub run_settings : Settings
-run_settings = record { password = 0 ∷ 0 ∷ 0 ∷ []; config = 190; currency = 978 }
+run_settings = record { password = 0 ∷ 0 ∷ 0 ∷ []; config = 190; currency = 978; rules = strict }
 
 -- an order is sent if nothing in the log so far refuses it; otherwise it has no effect
 abbrev pub log_after_order : List Happening → Order → Option OrderRefusal → List Happening

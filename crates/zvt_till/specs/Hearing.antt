@@ -1,5 +1,5 @@
 -- The content of a terminal's message that matters to a till.
-use Rattle.std.specs.Prelude.{◌==◌, cond, Some, None, List}
+use Rattle.std.specs.Prelude.{◌==◌, Bool, true, not, cond, Some, None, List}
 use Rattle.zvt_field.specs.Grammar.{Field}
 use Rattle.zvt_field.specs.Named.{count_of, amount_of, trace_of, result_of, receipt_of, currency_of, original_of}
 use Rattle.zvt_apdu.specs.Message.{Message, ack, nack, registration, authorisation, reversal, end_of_day, abort_order, status, intermediate, print_line, text_block, completion, abort, other}
@@ -19,11 +19,16 @@ original_in fields = elim (original_of fields) [ None ↦ cond (count_of 0x37 fi
 abbrev pub currency_in : List Field → CurrencyFact
 currency_in fields = elim (currency_of fields) [ None ↦ cond (count_of 0x49 fields == 0) NoCurrency ManyCurrencies | Some currency ↦ OneCurrency currency ]
 
+-- BMP 27 appears, if only more than once
+abbrev pub has_result_in : List Field → Bool
+has_result_in fields = elim (result_of fields) [ None ↦ not (count_of 0x27 fields == 0) | Some code ↦ true ]
+
 -- the values in the fields of a status information, each if it appears exactly once
 abbrev pub facts_in_fields : List Field → StatusFacts
 facts_in_fields fields =
     record {
       result = result_of fields;
+      has_result = has_result_in fields;
       amount = amount_of fields;
       trace = trace_of fields;
       receipt = receipt_of fields;

@@ -21,7 +21,7 @@ value_of t =
     record {
       state =
           record {
-            settings = record { password = t.password; config = t.config; currency = t.currency };
+            settings = record { password = t.password; config = t.config; currency = t.currency; rules = t.rules };
             line_up = t.line_up;
             registered = t.registered;
             running = t.running;

@@ -12,8 +12,10 @@ use Rattle.zvt_till.specs.Segments.{Segment, Ended, end_of, statuses}
 use Rattle.zvt_till.specs.Books.{Books, Booked, booked_as, charge_of, judge, is_finished}
 use Rattle.zvt_till.specs.Doubts.{reversing, doubt_after}
 use Rattle.zvt_till.specs.Marks.{reverses}
+use Rattle.zvt_till.specs.Log.{IsLog}
 use Rattle.zvt_till.specs.Sending.{Settings}
-use Rattle.zvt_till.specs.Till.{state_after}
+use Rattle.zvt_till.specs.Till.{facts_of, state_after}
+use Rattle.zvt_till.specs.declared.settings.Rules.{Rules}
 
 -- one row more: a payment of this amount, booked or unclear for good
 abbrev pub AddsPayment : ℕ → Books → Books → Type 0
@@ -54,6 +56,18 @@ trace_of entry = entry.trace
 -- whatever happens, no trace number appears twice in the book
 abbrev pub TracesStayDistinct : Type 0
 TracesStayDistinct = (settings : Settings) (log : List Happening) → IsDistinct nat_eq (map trace_of (state_after settings log).book)
+
+-- the same settings but for the rules
+abbrev pub with_rules : Rules → Settings → Settings
+with_rules rules settings = record settings { rules = rules }
+
+-- a till of other rules can have the same logs, with the same book, marks and unclear payments, and accepts the same
+-- orders: the rules only say what an end of day was
+abbrev pub RulesKeepBooks : Type 0
+RulesKeepBooks =
+    (settings : Settings) (rules : Rules) (log : List Happening)
+    → IsLog settings log
+    → IsLog (with_rules rules settings) log × (facts_of (state_after (with_rules rules settings) log) ≡ facts_of (state_after settings log))
 
 -- an entry without its mark
 abbrev pub row_of : Entry → Booked

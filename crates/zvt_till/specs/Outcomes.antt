@@ -11,6 +11,7 @@ use Rattle.zvt_till.specs.declared.statuses.Statuses.{Statuses}
 use Rattle.zvt_till.specs.declared.statuses.Statuses.TheVariants.{Nothing, Good as AllGood, Declining as AllDeclining, Fault}
 use Rattle.zvt_till.specs.declared.statuses.Running.{Running}
 use Rattle.zvt_till.specs.declared.entries.Entry.{Entry}
+use Rattle.zvt_till.specs.declared.settings.Rules.{Rules}
 use Rattle.zvt_till.specs.declared.outcomes.Cause.TheVariants.{NoStatus, Conflict, NoTrace, TraceUsed, AbortAfterApproval, Line, Malformed as MalformedCause, Unfinished}
 use Rattle.zvt_till.specs.declared.outcomes.Outcome.{Outcome}
 use Rattle.zvt_till.specs.declared.outcomes.Outcome.TheVariants.{Registered, Paid, Declined, Refused, Aborted, Unclear, Reversed, DayClosed}
@@ -21,13 +22,13 @@ use Rattle.zvt_till.specs.Segments.{is_positive, status_of}
 abbrev pub charged : Option ℕ → ℕ → Charge
 charged currency amount = record { amount = amount; currency = currency }
 
--- the values with which the statuses of an order must agree; a registration has none
-abbrev pub demand_of : Option ℕ → List Entry → Order → Option Demand
-demand_of currency book RegisterOrder = None
-demand_of currency book (PayOrder a) = Some (Payment (charged currency a))
-demand_of currency book (ReverseOrder e) = option_map (λ row. Reversal (charged currency row.amount) row.trace) (slice_get book e)
-demand_of currency book CloseDayOrder = Some Closing
-demand_of currency book CancelOrder = None
+-- the values with which the statuses of an order must agree, by the till's rules; a registration has none
+abbrev pub demand_of : Rules → Option ℕ → List Entry → Order → Option Demand
+demand_of rules currency book RegisterOrder = None
+demand_of rules currency book (PayOrder a) = Some (Payment (charged currency a))
+demand_of rules currency book (ReverseOrder e) = option_map (λ row. Reversal (charged currency row.amount) row.trace) (slice_get book e)
+demand_of rules currency book CloseDayOrder = Some (Closing rules.close_by_completion)
+demand_of rules currency book CancelOrder = None
 
 -- one more status
 abbrev pub note_class : Statuses → Class → Option (List ℕ) → Statuses

@@ -8,12 +8,14 @@ use Rattle.zvt_apdu.specs.declared.brief.Brief.TheVariants.{Ack, Nack, Register,
 use Rattle.zvt_till.specs.declared.messages.Heard.{Heard}
 use Rattle.zvt_till.specs.declared.messages.Heard.TheVariants.{Positive, Negative, Status, Passing, Completion, Abort, Strange}
 use Rattle.zvt_till.specs.declared.entries.Entry.{Entry}
+use Rattle.zvt_till.specs.declared.settings.Rules.{Rules}
 
 -- the settings of a till
 pub record Settings : Type 0 where
   pub password : List ℕ
   pub config : ℕ
   pub currency : ℕ
+  pub rules : Rules
 
 -- the receipt number for reversing an entry
 abbrev pub receipt_at : Option Entry → Option (List ℕ)

@@ -61,11 +61,17 @@ class_undeclined (Reversal charge trace) s =
     (cond (names s.original trace) (Good None) (Doubtful NoTrace))
     (Doubtful AmountDiffers))
     (Doubtful WrongCurrency)
-class_undeclined Closing s = Good None
+class_undeclined (Closing by_completion) s = Good None
+
+-- the class of a status that does not name one result: an end of day by completion needs none
+abbrev pub class_unnamed : Demand → StatusFacts → Class
+class_unnamed (Payment charge) s = Doubtful Conflict
+class_unnamed (Reversal charge trace) s = Doubtful Conflict
+class_unnamed (Closing by_completion) s = cond (by_completion && not s.has_result) (Good None) (Doubtful Conflict)
 
 -- one result other than 0 declines, whatever else the status contains
 abbrev pub class_by : Option ℕ → Demand → StatusFacts → Class
-class_by None d s = Doubtful Conflict
+class_by None d s = class_unnamed d s
 class_by (Some code) d s = cond (code == 0) (class_undeclined d s) (Declining code)
 
 abbrev pub class_of : Demand → StatusFacts → Class

@@ -4,7 +4,7 @@
 ghost use Rattle.std.specs.Prelude.{◌≡◌, ◌==◌, cond, List};
 ghost use Rattle.zvt_field.specs.Grammar.{Field};
 ghost use Rattle.zvt_field.specs.Single.{Says};
-ghost use Rattle.zvt_till.specs.Hearing.{original_in, currency_in, facts_in_fields, heard_as};
+ghost use Rattle.zvt_till.specs.Hearing.{original_in, currency_in, has_result_in, facts_in_fields, heard_as};
 
 use crate::messages::{CurrencyFact, Heard, Original, StatusFacts};
 use zvt_apdu::{Apdu, ApduView, Kind, Message};
@@ -12,6 +12,9 @@ use zvt_field::{Fields, FieldsView, Single, count, currency, original, read_sing
 
 /// The BMP of the trace number of a payment to be reversed.
 const ORIGINAL_TRACE: u8 = 0x37;
+
+/// The BMP of a result code.
+const RESULT: u8 = 0x27;
 
 /// The BMP of a currency.
 const CURRENCY: u8 = 0x49;
@@ -58,12 +61,23 @@ pub fn currency_in(fields: &Fields) -> CurrencyFact
     }
 }
 
+/// Returns whether the fields name a result, if only more than once.
+fn has_result_in(fields: &Fields) -> bool
+    ensures { result ≡ has_result_in fields.now }
+{
+    match zvt_field::result(fields) {
+        Some(_) => true,
+        None => count(fields, RESULT) != 0,
+    }
+}
+
 /// Returns the values in the fields of a status information.
 fn facts_in(fields: &Fields) -> StatusFacts
     ensures { result ≡ facts_in_fields fields.now }
 {
     StatusFacts {
         result: zvt_field::result(fields),
+        has_result: has_result_in(fields),
         amount: zvt_field::amount(fields),
         trace: zvt_field::trace(fields),
         receipt: zvt_field::receipt(fields),
@@ -141,6 +155,7 @@ pub(crate) fn facts_shown(fields: &FieldsView<'_>) -> StatusFacts
     let single = read_single(fields);
     StatusFacts {
         result: single.result,
+        has_result: single.result.is_some() || fields.count(RESULT) != 0,
         amount: single.amount,
         trace: single.trace,
         receipt: single.receipt,

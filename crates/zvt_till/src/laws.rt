@@ -3,7 +3,7 @@ ghost use Rattle.zvt_till.specs.Log.{StepsMeetLog};
 ghost use Rattle.zvt_till.specs.TillHistory.{RunsAreLogged, FaultsAreLogged, UnsentAreLogged, OrdersAreLogged};
 ghost use Rattle.zvt_till.specs.Cuttings.{LogsAreOne, CuttingsAgree};
 ghost use Rattle.zvt_till.specs.Laws.{NoApprovalDropped, NoReversalDropped, DoubtsStay, TracesStayDistinct};
-ghost use Rattle.zvt_till.specs.Laws.{EntriesStay};
+ghost use Rattle.zvt_till.specs.Laws.{EntriesStay, RulesKeepBooks};
 
 /// The state of a till after a log is the state that the log prescribes, judged by whole orders.
 pub fn steps_meet_log()
@@ -33,6 +33,11 @@ pub fn traces_stay_distinct()
 /// Whatever happens, no entry leaves the book, and nothing in an entry changes except its mark and its doubt.
 pub fn entries_stay()
     ensures { EntriesStay }
+{}
+
+/// The rules of a till change no book, no mark, no unclear payment and no order that it accepts.
+pub fn rules_keep_books()
+    ensures { RulesKeepBooks }
 {}
 
 /// Events have exactly one log.

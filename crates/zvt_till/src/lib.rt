@@ -32,5 +32,5 @@ pub use messages::{CurrencyFact, Heard, Original, StatusFacts, reply_to};
 pub use numbers::Numbers;
 pub use orders::{Order, OrderRefusal, Outgoing, Reply};
 pub use outcomes::{Cause, Outcome};
-pub use settings::TillSettings;
+pub use settings::{Rules, TillSettings};
 pub use till::{MAX_BOOK_ENTRIES, RestoreError, Till};

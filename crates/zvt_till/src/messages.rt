@@ -73,6 +73,8 @@ impl CurrencyFact {
 pub struct StatusFacts {
     /// The result code (BMP 27), which is 0 if the terminal approves.
     pub result: Option<u8>,
+    /// Whether there is any BMP 27, so that a code that is missing can be told from several.
+    pub has_result: bool,
     /// The amount (BMP 04).
     pub amount: Option<Amount>,
     /// The trace number (BMP 0B).

@@ -1,8 +1,29 @@
-//! The settings of a till.
+//! The settings of a till, and its rules.
 
 use zvt_bcd::Currency;
 
-/// The password, the configuration byte and the currency of a till.
+/// What a shop accepts although the strict rules leave it unclear.
+#[derive(Clone, Copy, Debug, PartialEq, Eq)]
+pub struct Rules {
+    /// A completed end of day counts as closed even if its status information has no result code (BMP 27).
+    pub close_by_completion: bool,
+}
+
+impl Rules {
+    ghost use Rattle.std.specs.Prelude.{◌≡◌};
+    ghost use Rattle.zvt_till.specs.Settings.{strict};
+
+    /// Returns the strict rules, which hold unless a shop states otherwise.
+    pub fn strict() -> Rules
+        ensures { result ≡ strict }
+    {
+        Rules {
+            close_by_completion: false,
+        }
+    }
+}
+
+/// The password, the configuration byte, the currency and the rules of a till.
 #[derive(Clone, Copy, Debug, PartialEq, Eq)]
 pub struct TillSettings {
     /// The password: six digits, two per byte.
@@ -11,9 +32,11 @@ pub struct TillSettings {
     pub config: u8,
     /// The currency of its registrations and payments.
     pub currency: Currency,
+    /// What the shop accepts.
+    pub rules: Rules,
 }
 
-/// The password 00 00 00, the configuration byte BE and the euro.
+/// The password 00 00 00, the configuration byte BE, the euro and the strict rules.
 impl Default for TillSettings {
     ghost use Rattle.std.specs.Prelude.{◌≡◌};
     ghost use Rattle.zvt_till.specs.Events.{run_settings};
@@ -26,6 +49,7 @@ impl Default for TillSettings {
             password: [0; 3],
             config: 0xBE,
             currency: Currency::EURO,
+            rules: Rules::strict(),
         }
     }
 }

@@ -2,7 +2,7 @@
 //!
 //! The functions that judge a status are `#[inline(always)]`: an audit calls them for each status.
 ghost use Rattle.std.specs.Prelude.{◌≡◌};
-ghost use Rattle.zvt_till.specs.Statuses.{class_of, class_undeclined, same_trace};
+ghost use Rattle.zvt_till.specs.Statuses.{class_of, class_undeclined, class_unnamed, same_trace};
 ghost use Rattle.zvt_till.specs.Outcomes.{note, note_class, demand_of, listened};
 
 use crate::entries::Entry;
@@ -10,6 +10,7 @@ use crate::happenings::{Happening, is_positive};
 use crate::messages::{Heard, StatusFacts};
 use crate::orders::Order;
 use crate::outcomes::Cause;
+use crate::settings::Rules;
 use zvt_bcd::{Amount, Currency, Trace};
 
 /// The amount and currency that a status information must confirm. It may omit the currency.
@@ -37,7 +38,8 @@ impl Charge {
 pub enum Demand {
     Payment(Charge),
     Reversal(Charge, Trace),
-    Closing,
+    /// An end of day, which may be closed by its completion alone.
+    Closing(bool),
 }
 
 /// The meaning of one status information under an order. `Good` has a trace number only for payments.
@@ -105,7 +107,18 @@ fn class_undeclined(demand: &Demand, status: &StatusFacts) -> Class
                 Class::Doubtful(Cause::NoTrace)
             }
         }
-        Demand::Closing => Class::Good(None),
+        Demand::Closing(_) => Class::Good(None),
+    }
+}
+
+/// Returns the class of a status that does not name one result.
+#[inline(always)]
+fn class_unnamed(demand: &Demand, status: &StatusFacts) -> Class
+    ensures { result ≡ class_unnamed demand.now status.now }
+{
+    match demand {
+        Demand::Closing(true) if !status.has_result => Class::Good(None),
+        _ => Class::Doubtful(Cause::Conflict),
     }
 }
 
@@ -115,7 +128,7 @@ fn class_of(demand: &Demand, status: &StatusFacts) -> Class
     ensures { result ≡ class_of demand.now status.now }
 {
     match status.result {
-        None => Class::Doubtful(Cause::Conflict),
+        None => class_unnamed(demand, status),
         Some(0) => class_undeclined(demand, status),
         Some(code) => Class::Declining(code),
     }
@@ -163,10 +176,15 @@ pub(crate) fn note(demand: &Option<Demand>, so_far: Statuses, status: &StatusFac
     }
 }
 
-/// Returns the values with which the order's statuses have to agree, given the currency in force. A registration
-/// demands nothing.
-pub fn demand_of(currency: Option<Currency>, book: &[Entry], order: &Order) -> Option<Demand>
-    ensures { result ≡ demand_of currency book.now order.now }
+/// Returns the values with which the order's statuses have to agree, given the rules and the currency in force. A
+/// registration demands nothing.
+pub fn demand_of(
+    rules: Rules,
+    currency: Option<Currency>,
+    book: &[Entry],
+    order: &Order,
+) -> Option<Demand>
+    ensures { result ≡ demand_of rules currency book.now order.now }
 {
     match order {
         Order::Register | Order::Cancel => None,
@@ -179,7 +197,7 @@ pub fn demand_of(currency: Option<Currency>, book: &[Entry], order: &Order) -> O
             let amount = row.amount;
             Some(Demand::Reversal(Charge { amount, currency }, row.trace))
         }
-        Order::CloseDay => Some(Demand::Closing),
+        Order::CloseDay => Some(Demand::Closing(rules.close_by_completion)),
     }
 }
 

@@ -11,7 +11,7 @@ use crate::messages::{Heard, reply_to};
 use crate::numbers::Numbers;
 use crate::orders::{Order, Reply};
 use crate::outcomes::{Cause, Outcome, outcome_by};
-use crate::settings::TillSettings;
+use crate::settings::{Rules, TillSettings};
 use crate::statuses::{Running, demand_of, listened};
 use crate::used_traces::UsedTraces;
 pub use restoring::RestoreError;
@@ -29,6 +29,7 @@ pub struct Till {
     password: [u8; 3],
     config: u8,
     currency: Currency,
+    rules: Rules,
     line_up: bool,
     registered: bool,
     running: Option<Running>,
@@ -62,20 +63,42 @@ impl Till {
     ghost use Rattle.zvt_till.specs.Doubts.{unclear_reversals};
     ghost use Rattle.zvt_till.specs.Marks.{total};
     ghost use Rattle.zvt_till.specs.Events.{run_settings};
+    ghost use Rattle.zvt_till.specs.Settings.{settings_of, strict};
     ghost use Rattle.zvt_till.specs.Numbers.{no_numbers, numbers_after, with_status_of};
     ghost use Rattle.zvt_till.specs.Segments.{status_of};
 
-    /// Creates a till with an empty book, which is not connected. Registrations contain the password and the
-    /// configuration byte unchanged.
+    /// Creates a till with the strict rules and an empty book, which is not connected. Registrations contain the
+    /// password and the configuration byte unchanged.
     pub fn new(alloc: Global, password: [u8; 3], config: u8, currency: Currency) -> Till
-        ensures state { result.state ≡ new_till (record { password = password; config = config; currency = currency }) }
+        ensures state { result.state ≡ new_till (record {
+          password = password;
+          config = config;
+          currency = currency;
+          rules = strict;
+        }) }
+        ensures numbers { result.numbers ≡ no_numbers }
+        ensures heard { result.heard ≡ [] }
+    {
+        let settings = TillSettings {
+            password,
+            config,
+            currency,
+            rules: Rules::strict(),
+        };
+        Till::with_settings(alloc, &settings)
+    }
+
+    /// Creates a till with these settings and an empty book, which is not connected.
+    pub fn with_settings(alloc: Global, settings: &TillSettings) -> Till
+        ensures state { result.state ≡ new_till (settings_of settings.now) }
         ensures numbers { result.numbers ≡ no_numbers }
         ensures heard { result.heard ≡ [] }
     {
         Till {
-            password,
-            config,
-            currency,
+            password: settings.password,
+            config: settings.config,
+            currency: settings.currency,
+            rules: settings.rules,
             line_up: false,
             registered: false,
             running: None,
@@ -88,14 +111,14 @@ impl Till {
         }
     }
 
-    /// Creates a till with the default settings: the password 00 00 00, the configuration byte BE and the euro.
+    /// Creates a till with the default settings: the password 00 00 00, the configuration byte BE, the euro and the
+    /// strict rules.
     pub fn with_defaults(alloc: Global) -> Till
         ensures state { result.state ≡ new_till run_settings }
         ensures numbers { result.numbers ≡ no_numbers }
         ensures heard { result.heard ≡ [] }
     {
-        let settings = TillSettings::default();
-        Till::new(alloc, settings.password, settings.config, settings.currency)
+        Till::with_settings(alloc, &TillSettings::default())
     }
 
     /// Notifies the till that the line is up. Nothing changes if it already was.
@@ -134,6 +157,13 @@ impl Till {
         ensures { result ≡ self.now.state.settings.currency }
     {
         self.currency
+    }
+
+    /// Returns what the shop accepts beyond the strict rules.
+    pub fn rules(&self) -> Rules
+        ensures { result ≡ self.now.state.settings.rules }
+    {
+        self.rules
     }
 
     /// Returns the booked payments in the order of their completion.
@@ -287,7 +317,7 @@ impl Till {
             self.finish(&running.order, &outcome);
             return Some(outcome);
         }
-        let demand = demand_of(Some(self.currency), self.book(), &running.order);
+        let demand = demand_of(self.rules, Some(self.currency), self.book(), &running.order);
         self.running = Some(listened(&demand, &running, happening));
         self.numbers = self.numbers.with(happening);
         None

@@ -18,6 +18,7 @@ till_app = command_app (codes "till") (
     option_rule (codes "book") ∷
     flag_rule (codes "check") ∷
     flag_rule (codes "show") ∷
+    flag_rule (codes "close-by-completion") ∷
     flag_rule (codes "loose") ∷
     flag_rule (codes "json") ∷
     several_rule (codes "step") ∷
@@ -35,6 +36,7 @@ pub record AreTillOptionsOf (rows : List Row) (options : TillOptions) : Type 0 w
   pub book : IsTextOf (codes "book") rows options.book
   pub check : IsFlagOf (codes "check") rows options.check
   pub show : IsFlagOf (codes "show") rows options.show
+  pub close_by_completion : IsFlagOf (codes "close-by-completion") rows options.close_by_completion
   pub loose : IsFlagOf (codes "loose") rows options.loose
   pub json : IsFlagOf (codes "json") rows options.json
   pub steps : map (λ step. step.now) options.steps.items ≡ words_of (codes "step") rows

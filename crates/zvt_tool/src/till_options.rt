@@ -29,6 +29,8 @@ pub struct TillOptions<'a> {
     pub check: bool,
     /// Whether the messages of the terminal are shown.
     pub show: bool,
+    /// Whether an end of day without a result code is closed by its completion.
+    pub close_by_completion: bool,
     /// Whether lengths are accepted in any form.
     pub loose: bool,
     /// Whether the output is JSON.
@@ -37,7 +39,7 @@ pub struct TillOptions<'a> {
 }
 
 /// The options of `till`, in the order of its help.
-const OPTIONS: [CommandOption<'static>; 13] = [
+const OPTIONS: [CommandOption<'static>; 14] = [
     CommandOption::NeededPort("port", "TCP port of the terminal"),
     CommandOption::Host("Host name or address of the terminal"),
     CommandOption::Value(
@@ -67,6 +69,10 @@ const OPTIONS: [CommandOption<'static>; 13] = [
     CommandOption::Flag(
         "show",
         "Print each message from the terminal on standard error as soon as it has arrived",
+    ),
+    CommandOption::Flag(
+        "close-by-completion",
+        "Count a completed end of day as closed even if its status names no result code",
     ),
     CommandOption::Flag(
         "loose",
@@ -126,6 +132,7 @@ pub fn read_till<'a>(
         book: text(inner, "book"),
         check: flag(inner, "check"),
         show: flag(inner, "show"),
+        close_by_completion: flag(inner, "close-by-completion"),
         loose: flag(inner, "loose"),
         json: flag(inner, "json"),
         steps,

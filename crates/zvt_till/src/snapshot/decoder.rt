@@ -201,8 +201,8 @@ fn load_in(alloc: Global, layout: Layout, bytes: &[u8]) -> Result<Till, LoadErro
     }
 }
 
-/// Restores a till from saved bytes in either layout. It is not connected, and no order is running. Fails if the bytes
-/// are not a saved till, or if an allocation fails.
+/// Restores a till from saved bytes in either layout. It is not connected, no order is running, and its rules are the
+/// strict ones. Fails if the bytes are not a saved till, or if an allocation fails.
 pub fn load(alloc: Global, bytes: &[u8]) -> Result<Till, LoadError>
     ensures whole { (s : TillState) → IsKept s → bytes.now ≡ saved s → LeadsTo result s }
     ensures first { (s : TillState) → IsKept s → HasNoDoubts s → bytes.now ≡ saved_first s → LeadsTo result s }
@@ -212,7 +212,7 @@ pub fn load(alloc: Global, bytes: &[u8]) -> Result<Till, LoadError>
 }
 
 /// Saves this till and restores it. The contract is a law: a saved till can always be loaded, and equals the till
-/// after losing its connection.
+/// after losing its connection, under the strict rules.
 pub fn reloaded(alloc: Global, till: &Till) -> Result<Till, LoadError>
     ensures { LeadsTo result (step till.now.state Happening.Lost) }
 {

@@ -326,7 +326,7 @@ pub fn save_in(alloc: Global, layout: Layout, till: &Till) -> Result<Vec<u8>, Al
 }
 
 /// Saves a till as it would be after losing its connection, so a payment or reversal in progress is saved as unclear.
-/// `load` accepts the result. Fails only if memory runs out.
+/// `load` accepts the result, and its till has the strict rules: rules are not saved. Fails only if memory runs out.
 pub fn save(alloc: Global, till: &Till) -> Result<Vec<u8>, AllocError>
     ensures bytes { IfOk result (λ bytes. bytes.items ≡ saved (step till.now.state Happening.Lost)) }
     ensures kept { OnOk result (IsKept (step till.now.state Happening.Lost)) }

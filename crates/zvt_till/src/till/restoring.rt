@@ -76,6 +76,7 @@ impl Till {
                 password: self.password,
                 config: self.config,
                 currency: self.currency,
+                rules: self.rules,
                 line_up: false,
                 registered: false,
                 running: None,

@@ -1,4 +1,5 @@
 use Rattle.std.proofs.Common.{ℕ, Some, option_map, ap, ◌∙◌}
+use Rattle.zvt_till.specs.Settings.{strict}
 use Rattle.zvt_till.specs.Till.{new_till}
 use Rattle.zvt_c.proofs.till.zvt_till_new.Goals as goal
 
@@ -8,7 +9,7 @@ returns-in-Ok-clause-made c _ =
       c.put.new.out,
       c.put.ensures.digits,
       c.put.ensures.value ∙ c.from.ensures,
-      ap (option_map (λ end. end.till.state)) held ∙ ap Some (c.new-2.ensures.state ∙ ap (λ (n : ℕ). new_till (record { password = c.put.new.out; config = c.args.config; currency = n })) c.in-Some.ensures.value),
+      ap (option_map (λ end. end.till.state)) held ∙ ap Some (c.new-2.ensures.state ∙ ap (λ (n : ℕ). new_till (record { password = c.put.new.out; config = c.args.config; currency = n; rules = strict })) c.in-Some.ensures.value),
       ap (option_map (λ end. end.stream)) held ∙ ap Some c.new-3.ensures,
       ap (option_map (λ end. end.card)) held ∙ ap Some c.none.ensures,
     )

@@ -39,8 +39,8 @@ invariant_of-result g c =
     let new = c.keep_opening.new.journal in
     let durable = c.in_default.ensures.adds.durable in
     let text = durable.0 ∙ ap (λ (l : List ℕ). l ++ opening c.args.settings.now.currency) (empty_text (V.seen c.args.device) c.requires.at_gate) in
-    keeps_some (settings_of c.args.settings.now) _ (V.seen new.device) (V.may_leave new.device) new.gate c.new-till.result.state
-    (begun (settings_of c.args.settings.now) (V.seen new.device) (V.may_leave new.device) new.gate c.new-till.result.state durable.1 text c.in_default.ensures.kept c.new-till.ensures.state)
+    keeps_some (settings_of c.args.settings.now) _ (V.seen new.device) (V.may_leave new.device) new.gate c.with_settings-till.result.state
+    (begun (settings_of c.args.settings.now) (V.seen new.device) (V.may_leave new.device) new.gate c.with_settings-till.result.state durable.1 text c.in_default.ensures.kept c.with_settings-till.ensures.state)
 
 pub returns-clause-log : goal.returns-clause-log
 returns-clause-log g c =
@@ -48,4 +48,4 @@ returns-clause-log g c =
     let new = c.keep_opening.new.journal in
     let durable = c.in_default.ensures.adds.durable in
     let text = durable.0 ∙ ap (λ (l : List ℕ). l ++ opening c.args.settings.now.currency) (empty_text (V.seen c.args.device) c.requires.at_gate) in
-    begun (settings_of c.args.settings.now) (V.seen new.device) (V.may_leave new.device) new.gate c.new-till.result.state durable.1 text c.in_default.ensures.kept c.new-till.ensures.state
+    begun (settings_of c.args.settings.now) (V.seen new.device) (V.may_leave new.device) new.gate c.with_settings-till.result.state durable.1 text c.in_default.ensures.kept c.with_settings-till.ensures.state

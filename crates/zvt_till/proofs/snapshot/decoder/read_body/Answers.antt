@@ -1,8 +1,9 @@
-use Rattle.std.proofs.Common.{◌≡◌, ℕ, ◌*◌, List, Option, Some, None, length, min, take, drop, sym, subst, ap, unwrap_or, ◌∙◌, arith, rules}
+use Rattle.std.proofs.Common.{MatchResult, ◌≡◌, ℕ, ◌*◌, List, Option, Some, None, length, min, take, drop, sym, subst, ap, unwrap_or, ◌∙◌, arith, rules}
 use Rattle.zvt_till.specs.Till.{TillState, step}
 use Rattle.zvt_till.specs.Restoring.{at_rest}
 use Rattle.zvt_till.specs.declared.snapshot.decoder.Made.{Made}
-use Rattle.zvt_till.specs.SnapshotDecoding.{LeadsTo, made_of, settings_of}
+use Rattle.zvt_till.specs.declared.snapshot.decoder.LoadError.TheVariants.{Memory}
+use Rattle.zvt_till.specs.SnapshotDecoding.{strictly, made_of, settings_of}
 use Rattle.zvt_till.specs.declared.happenings.Happening.TheVariants.{Lost}
 use Rattle.zvt_till.proofs.SnapshotBodies.{on_value}
 use Rattle.zvt_till.proofs.SnapshotHeaders.{body-made, body-rows, entries-are, entries-end, of-layout, others-are, rows-held}
@@ -40,8 +41,8 @@ returns-clause-value c s k of is =
     ap (λ (o : Option Made). unwrap_or o c.in-Some.made)
     (sym read ∙ c.read_made.ensures s.settings s.last_outcome k.outcome k.currency k.password (body-made c.args.layout s c.args.bytes.now k is)) in
     let loaded = c.restore.ensures.value (rw (book, unclear) k.stands) in
-    let state : at_rest (settings_of c.in-Some.made) c.in-Ok.book.items c.in-Ok-read_rows.unclear.items c.in-Some.made.last ≡ s = rw (book, unclear, made) (sym k.rests) in
-    subst (λ (t : TillState). LeadsTo c.restore.result t) state loaded
+    let state : strictly (at_rest (settings_of c.in-Some.made) c.in-Ok.book.items c.in-Ok-read_rows.unclear.items c.in-Some.made.last) ≡ strictly s = rw (book, unclear, made) (ap strictly (sym k.rests)) in
+    subst (λ (t : TillState). MatchResult c.restore.result (λ till. till.state ≡ t) (λ why. why ≡ Memory)) state loaded
 
 pub returns-clause-held : goal.returns-clause-held
 returns-clause-held c =
