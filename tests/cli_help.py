@@ -34,6 +34,7 @@ REFUSED = [
     ("terminal --port=1 --connections=65536", "error: invalid value '65536' for '--connections <N>': 65536 is not in 0..=65535\n"),
     ("terminal --port=1 register", "error: unexpected argument 'register' found\n\nUsage: zvt terminal [OPTIONS] --port <PORT>\n"),
     ("till --port=1 --timeout=65536", "error: invalid value '65536' for '--timeout <SECONDS>': 65536 is not in 0..=65535\n"),
+    ("loop --open", "error: unexpected argument '--open' found\n"),
     ("loop --timeout 1", "error: unexpected argument '--timeout' found\n"),
     ("terminal --port=1 --show", "error: unexpected argument '--show' found"),
     ("tap --listen 1", "error: the following required arguments were not provided:\n  --to <ADDRESS>\n"),

@@ -19,6 +19,7 @@ till_app = command_app (codes "till") (
     flag_rule (codes "check") ∷
     flag_rule (codes "show") ∷
     flag_rule (codes "loose") ∷
+    flag_rule (codes "open") ∷
     flag_rule (codes "json") ∷
     several_rule (codes "step") ∷
     [])
@@ -36,5 +37,6 @@ pub record AreTillOptionsOf (rows : List Row) (options : TillOptions) : Type 0 w
   pub check : IsFlagOf (codes "check") rows options.check
   pub show : IsFlagOf (codes "show") rows options.show
   pub loose : IsFlagOf (codes "loose") rows options.loose
+  pub reads_on : IsFlagOf (codes "open") rows options.reads_on
   pub json : IsFlagOf (codes "json") rows options.json
   pub steps : map (λ step. step.now) options.steps.items ≡ words_of (codes "step") rows

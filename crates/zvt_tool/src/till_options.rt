@@ -31,13 +31,15 @@ pub struct TillOptions<'a> {
     pub show: bool,
     /// Whether lengths are accepted in any form.
     pub loose: bool,
+    /// Whether the till goes on after an invalid message.
+    pub reads_on: bool,
     /// Whether the output is JSON.
     pub json: bool,
     pub steps: Vec<&'a str>,
 }
 
 /// The options of `till`, in the order of its help.
-const OPTIONS: [CommandOption<'static>; 13] = [
+const OPTIONS: [CommandOption<'static>; 14] = [
     CommandOption::NeededPort("port", "TCP port of the terminal"),
     CommandOption::Host("Host name or address of the terminal"),
     CommandOption::Value(
@@ -72,6 +74,7 @@ const OPTIONS: [CommandOption<'static>; 13] = [
         "loose",
         "Accept padded lengths. Use this only for terminals known to send them.",
     ),
+    CommandOption::Flag("open", help::OPEN_TILL),
     CommandOption::Flag("json", help::JSON),
     CommandOption::Several(
         "step",
@@ -127,6 +130,7 @@ pub fn read_till<'a>(
         check: flag(inner, "check"),
         show: flag(inner, "show"),
         loose: flag(inner, "loose"),
+        reads_on: flag(inner, "open"),
         json: flag(inner, "json"),
         steps,
     })))
