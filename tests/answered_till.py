@@ -90,6 +90,20 @@ RUNS = [
     ("an order that is strange, at the end of a day", [REGISTERS, ("close", f"{ACK} {UNKNOWN} {COMPLETION}", "day closed")], 0),
     ("a reversal that is aborted", [REGISTERS, PAYS, ("reverse:1", f"{ACK} {ABORT}", ABORTED)], 1234),
 ]
+# The data of each is invalid, and its length says where it ends. An open till goes on behind it.
+UNREAD_STATUS, UNREAD_COMPLETION, UNREAD_ABORT, UNREAD_LINE = "04 0F 02 D0 00", "06 0F 02 D0 00", "06 1E 00", "06 D1 00"
+OPEN_RUNS = [
+    ("an invalid status", [REGISTERS, ("pay:1234", f"{ACK} {UNREAD_STATUS} {COMPLETION}", "unclear Conflict"), PAYS], 1234),
+    ("an invalid status beside an approval", [REGISTERS, ("pay:1234", f"{ACK} {APPROVED} {UNREAD_STATUS} {COMPLETION}", "unclear Conflict")], 0),
+    ("an invalid completion", [REGISTERS, ("pay:1234", f"{ACK} {APPROVED} {UNREAD_COMPLETION}", PAID)], 1234),
+    ("an invalid abort", [REGISTERS, ("pay:1234", f"{ACK} {UNREAD_ABORT}", "aborted FF system error"), PAYS], 1234),
+    ("an invalid abort after an approval", [REGISTERS, ("pay:1234", f"{ACK} {APPROVED} {UNREAD_ABORT}", "unclear AbortAfterApproval")], 0),
+]
+# Those that an open till may meet. One that is cut off is left out: it takes the beginning of the next answer.
+OPEN_COURSES = [
+    *(course for course in COURSES if MALFORMED not in course), [ACK, UNREAD_STATUS, COMPLETION],
+    [ACK, APPROVED, UNREAD_LINE, UNREAD_COMPLETION], [ACK, APPROVED_NEXT, UNREAD_ABORT],
+]
 # What ends a reversal and leaves its payment's doubt as it was: the answer, and the outcome.
 NO_CHANGES = [
     (f"{ACK} {DECLINED} {COMPLETION}", "declined 6C abort by time-out or abort key"), (f"{ACK} {ABORT}", ABORTED),
@@ -216,6 +230,19 @@ class Trial:
         trace = self.new_file()
         self.answers("the greatest amount", [REGISTERS, ("pay:999999999999", REFUSED, "refused 6C abort by time-out or abort key")], 0, "--trace", trace)
         check("how it is sent", "> 06010A04999999999999490978\n" in trace.read_text(), True)
+
+    def reads_on(self):
+        """What an open till makes of messages that it cannot read, and what a strict one makes of the first."""
+        for name, course, total in OPEN_RUNS:
+            self.answers(f"{name}, on an open line", course, total, "--open")
+        course = [REGISTERS, ("pay:1234", f"{ACK} {UNREAD_LINE} {APPROVED} {COMPLETION}", PAID)]
+        _, heard = self.answers("an invalid print line, on an open line", course, 1234, "--open")
+        check("what is sent to it", heard, bytes.fromhex(" ".join([REGISTRATION, ACK, PAYMENT, NACK, ACK, ACK])))
+        cut = [REGISTERS, ("pay:1234", f"{ACK} 06 D1 FF 00", "unclear Line")]
+        said, _ = self.answers("an invalid message that is cut off, on an open line", cut, 0, "--open", status=4)
+        check("its fault", said, [CLOSED.format(4)])
+        strict = [REGISTERS, ("pay:1234", f"{ACK} {UNREAD_STATUS} {COMPLETION}", "unclear Malformed")]
+        self.answers("an invalid status, on a strict line", strict, 0, status=4)
 
     def is_cut_off(self):
         """A payment whose connection closes after each byte of its answer."""
@@ -347,25 +374,26 @@ class Trial:
         check("the book is the same", kept[1], kept[0])
         self.answers("which goes on without it", [REGISTERS], 1234, "--book", stated)
 
-    def has_its_book(self, seed):
+    def has_its_book(self, seed, *words):
         """The audit of what a till records says what the till says: of one connection, or of three with a book, which keeps a line
-        that is malformed as one that is lost. Answers how many payments are booked, and how many are unclear."""
+        that is malformed as one that is lost, also on an open line. Answers how many payments are booked, and how many are unclear."""
         chance, trace, said = random.Random(seed), self.new_file(), ""
         book = ["--book", self.new_file()] if seed % 2 else []
         for _connection in range(3 if book else 1):
             orders = [chance.choice(["reverse:1", "close", *["pay:1234"] * 4]) for _order in range(4)]
-            answers = [f"{ACK} {COMPLETION}", *(" ".join(chance.choice(COURSES)) for _order in orders)]
+            courses = OPEN_COURSES if words else COURSES
+            answers = [f"{ACK} {COMPLETION}", *(" ".join(chance.choice(courses)) for _order in orders)]
             with Answering(answers) as peer:
-                said += till(peer.port, *book, "--trace", trace, "register", *orders).text
+                said += till(peer.port, *words, *book, "--trace", trace, "register", *orders).text
         booked, unclear = re.findall(r"^pay:1234 -> paid (.*)$", said, re.M), re.findall(r"^pay:1234 -> unclear (.*)$", said, re.M)
         rows = [*(f"booked 1234 {numbers}" for numbers in booked), *(f"unclear 1234 {cause}" for cause in unclear)]
-        found = run("audit", trace).text
+        found = run("audit", *words, trace).text
         check(f"the audit of run {seed}", found.replace("Malformed", "Line") if book else found, lines(*rows, f"total {1234 * len(booked)}"))
         check(f"run {seed} is shown", run("show", trace).text != "", True)
         return len(booked), len(unclear)
 
     def recorded_runs(self):
-        counts = [self.has_its_book(seed) for seed in range(60)]
+        counts = [self.has_its_book(seed, *["--open"] * (seed % 3 == 0)) for seed in range(60)]
         check("many payments are booked, and many are unclear", [sum(column) > 60 for column in zip(*counts)], [True, True])
 
 
@@ -375,8 +403,8 @@ def main():
         return 2
     with tempfile.TemporaryDirectory() as folder:
         trial = Trial(pathlib.Path(folder))
-        for part in (trial.runs, trial.sends, trial.breaks, trial.is_cut_off, trial.doubts, trial.goes_on, trial.full_book, trial.unheard, trial.settings,
-                     trial.keeps, trial.closes, trial.recorded_runs):
+        for part in (trial.runs, trial.sends, trial.breaks, trial.reads_on, trial.is_cut_off, trial.doubts, trial.goes_on, trial.full_book, trial.unheard,
+                     trial.settings, trial.keeps, trial.closes, trial.recorded_runs):
             part()
     print(f"{check.verdict}: a till and given answers: {check.count} checks, {check.wrong} wrong")
     return check.status

@@ -34,6 +34,7 @@ REFUSED = [
     ("terminal --port=1 --connections=65536", "error: invalid value '65536' for '--connections <N>': 65536 is not in 0..=65535\n"),
     ("terminal --port=1 register", "error: unexpected argument 'register' found\n\nUsage: zvt terminal [OPTIONS] --port <PORT>\n"),
     ("till --port=1 --timeout=65536", "error: invalid value '65536' for '--timeout <SECONDS>': 65536 is not in 0..=65535\n"),
+    ("loop --open", "error: unexpected argument '--open' found\n"),
     ("loop --timeout 1", "error: unexpected argument '--timeout' found\n"),
     ("loop --close-by-completion", "error: unexpected argument '--close-by-completion' found\n"),
     ("till --port=1 --close-by-completion --close-by-completion", "error: the argument '--close-by-completion' cannot be used multiple times\n"),

@@ -187,6 +187,9 @@ class Trial:
         served = terminal("--loose")
         check("a loose terminal of a till that pads", asked(served.port, "06 00 FF 06 00 00 00 00 BE 09 78")[:6], "800000")
         check("its end", served.ended()[0], 0)
+        served = terminal("--open")
+        check("an open terminal of a till that sends an invalid order", asked(served.port, "06 01 02 D0 00 06 00 06 00 00 00 BE 09 78")[:12], "848300800000")
+        check("its end, too", served.ended()[0], 0)
         with BrokenTerminal(f"{ACK} 04 0F 10 27 00 04 00 00 00 00 12 34 0B 00 00 17 49 08 40 {COMPLETION}", 1) as peer:
             ended = till(peer.port, "register", "pay:1234")
         ends("a terminal that approves in another currency", ended, 0, "register -> registered", "pay:1234 -> unclear WrongCurrency", "total 0")

@@ -1,15 +1,26 @@
 //! Streams that are fed in pieces, and what they are made of (`zvt_stream`).
 use std::alloc::Global;
 use zvt_grammar::{Lengths, Why};
-use zvt_stream::{Fed, FedView, FeedError, Held, Judge, Judged, Steps, Stream, Truncated};
+use zvt_stream::{
+    Fed, FedView, FeedError, Held, Judge, Judged, LineForm, Steps, Stream, Truncated,
+};
 
 const ACK: [u8; 3] = [0x80, 0x00, 0x00];
 
 /// No message has the BMP D0.
 const UNKNOWN: [u8; 4] = [0x06, 0x01, 0x02, 0xD0];
 
+/// A whole completion with that BMP.
+const UNREAD: [u8; 5] = [0x06, 0x0F, 0x02, 0xD0, 0x00];
+
 pub fn all(alloc: Global) -> bool {
-    fed(alloc) && viewed(alloc) && reserved(alloc) && refused(alloc) && held(alloc) && judged()
+    fed(alloc)
+        && viewed(alloc)
+        && reserved(alloc)
+        && refused(alloc)
+        && passed(alloc)
+        && held(alloc)
+        && judged()
 }
 
 fn fed(alloc: Global) -> bool {
@@ -53,6 +64,28 @@ fn refused(alloc: Global) -> bool {
         _ => return false,
     };
     why == Why::UnknownField && matches!(stream.feed_view(&ACK), Err(FeedError::Stopped))
+}
+
+fn passed(alloc: Global) -> bool {
+    let form = LineForm {
+        lengths: Lengths::Padded,
+        passes: true,
+    };
+    let Ok(mut reserved) = Stream::reserved_reading(alloc, form) else {
+        return false;
+    };
+    let mut stream = Stream::open(alloc);
+    let within = stream.feed_view(&UNREAD[..4]);
+    let view = stream.feed_view(&UNREAD[4..]);
+    let lent = stream.lent_bytes().is_some();
+    matches!(within, Ok(FedView::More))
+        && matches!(view, Ok(FedView::Message { taken: 1 }))
+        && lent
+        && matches!(
+            reserved.feed(alloc, &UNREAD),
+            Ok(Fed::Message { taken: 5, .. })
+        )
+        && matches!(reserved.feed_view(&ACK), Ok(FedView::Message { taken: 3 }))
 }
 
 fn held(alloc: Global) -> bool {

@@ -2,7 +2,7 @@
 use Rattle.std.specs.Prelude.{◌≡◌, ◌+◌, ℕ, Bool, List, [], ◌∷◌, length, Option, Some, None, Result}
 use Rattle.zvt_apdu.specs.Message.{Message}
 use Rattle.zvt_stream.specs.Answered.{Answered}
-use Rattle.zvt_grammar.specs.Lengths.{reading_of}
+use Rattle.zvt_stream.specs.LineReading.{reading_as}
 use Rattle.zvt_till.specs.Keeping.{itself, never_failed, till_connects, till_orders}
 use Rattle.zvt_till.specs.Line.{till_hears, till_loses, till_malforms, till_rests}
 use Rattle.zvt_till.specs.Sending.{Settings}
@@ -32,7 +32,7 @@ module _ {K : Type 0} (connects : K → Result Unit BookFault → K → Type 0) 
   -- What the run of these steps returns and writes: with a terminal elsewhere, or with one in this process.
   abbrev pub MakesSteps : TillSteps → (old new : K) → (first last : Option (List ℕ)) → (Reported : List ℕ → List Entry → Type 0) → (Quiet : Type 0) → Result Unit EndFault → Type 0
   MakesSteps (There run) old new first last Reported Quiet result =
-      AnswersOverTcp connects failed till (noting noted (MakesThere orders hears is_resting failed till loses malforms)) (BeginsThere (reading_of run.lengths)) run.options run.plan.now old new first last Reported Quiet result
+      AnswersOverTcp connects failed till (noting noted (MakesThere orders hears is_resting failed till loses malforms)) (BeginsThere (reading_as run.line)) run.options run.plan.now old new first last Reported Quiet result
   MakesSteps (Here run) old new first last Reported Quiet result =
       AnswersOverTcp connects failed till (noting noted (MakesHere orders hears is_resting failed till loses malforms)) BeginsHere run.options run.plan.now old new first last Reported Quiet result
 

@@ -74,7 +74,8 @@ pub record RunsAsAsked (options : TillOptions) (run : TillRun) : Type 0 where
   pub host : run.host.now ≡ options.host.now
   pub port : run.port ≡ options.port
   pub seconds : run.seconds ≡ options.timeout
-  pub lengths : run.lengths ≡ lengths_by options.loose
+  pub lengths : run.line.lengths ≡ lengths_by options.loose
+  pub reads_on : run.line.passes ≡ options.reads_on
   pub show : is_some run.show ≡ options.show
   pub form : run.options.form ≡ form_by options.json
   pub check : run.options.check ≡ options.check

@@ -21,6 +21,7 @@ use zvt_journal::FileDevice;
 use zvt_kept::KeptTill;
 use zvt_runs::tcp::{LoopRun, TerminalRun, TillRun, run_loop, run_terminal, run_till};
 use zvt_runs::{Clocked, EndFault, Ends, NoNotes, NoteSource, Planned, StepOptions, plan};
+use zvt_stream::LineForm;
 use zvt_till::{Keeper, Till, TillSettings};
 use zvt_tool::TerminalOptions;
 use zvt_tool::options::{connections_by, form_by, lengths_by};
@@ -173,7 +174,10 @@ pub fn terminal(rt: &HostRuntime, options: &TerminalOptions<'_>) -> Result<u8, E
         tid: options.tid,
         verdict,
         extras,
-        lengths: lengths_by(options.loose),
+        line: LineForm {
+            lengths: lengths_by(options.loose),
+            passes: options.reads_on,
+        },
         connections: connections_by(options.connections),
         trace,
         form: form_by(options.json),

@@ -11,6 +11,7 @@ use std::fs::File;
 use std::io;
 use zvt_runs::tcp::TillRun;
 use zvt_runs::{Ends, Planned, StepOptions};
+use zvt_stream::LineForm;
 use zvt_tool::TillOptions;
 use zvt_tool::options::{form_by, lengths_by};
 use zvt_tool::statuses::WORDS;
@@ -49,7 +50,10 @@ fn till_run<'a, 'f>(
         host: options.host,
         port: options.port,
         seconds: options.timeout,
-        lengths: lengths_by(options.loose),
+        line: LineForm {
+            lengths: lengths_by(options.loose),
+            passes: options.reads_on,
+        },
         trace,
         show: if options.show {
             Some(rt.stderr())

@@ -6,7 +6,8 @@ use Rattle.zvt_grammar.specs.declared.why.Why.{Why}
 use Rattle.zvt_grammar.proofs.CutLemmas.{spelled_push}
 use Rattle.zvt_apdu.specs.Message.{Message}
 use Rattle.zvt_apdu.specs.Grammar as grammar
-use Rattle.zvt_stream.specs.Apdus.{IsRefusedIn, SpelledIn, UnfinishedIn}
+use Rattle.zvt_stream.specs.Apdus.{SpelledIn, UnfinishedIn}
+use Rattle.zvt_stream.specs.LineReading.{IsRefusedBy, LineReading, Reads, UnfinishedBy, strictly}
 use Rattle.zvt_stream.specs.Feeds.{Lends}
 use Rattle.zvt_stream.specs.StreamState.{StreamState}
 use Rattle.zvt_stream.specs.declared.stream.FedView.TheVariants as view
@@ -26,21 +27,21 @@ pub record Checked (r : Reading) (bytes rest : List ℕ) (stream : StreamState) 
   pub spelled : SpelledIn r bytes messages rest
   pub holds : stream.held ≡ []
   pub goes_on : stream.stopped ≡ false
-  pub reading : stream.reading ≡ r
+  pub reading : stream.reading ≡ strictly r
 
-pub none_checked : (r : Reading) (bytes : List ℕ) (stream : StreamState) → stream.held ≡ [] → stream.stopped ≡ false → stream.reading ≡ r → Checked r bytes bytes stream
+pub none_checked : (r : Reading) (bytes : List ℕ) (stream : StreamState) → stream.held ≡ [] → stream.stopped ≡ false → stream.reading ≡ strictly r → Checked r bytes bytes stream
 none_checked r bytes stream holds goes_on reading = record { messages = []; before = []; whole = refl; spelled = refl; holds = holds; goes_on = goes_on; reading = reading }
 
 -- with nothing held the bytes are those of the piece
-by_reading : (r : Reading) (old : StreamState) (P : Reading → List ℕ → Type 0) (more : List ℕ) → old.reading ≡ r → old.held ≡ [] → P old.reading (old.held ++ more) → P r more
-by_reading r old P more reading holds p = subst (λ (s : Reading). P s more) reading (subst (λ (h : List ℕ). P old.reading (h ++ more)) holds p)
+by_reading : (r : Reading) (old : StreamState) (P : LineReading → List ℕ → Type 0) (more : List ℕ) → old.reading ≡ strictly r → old.held ≡ [] → P old.reading (old.held ++ more) → P (strictly r) more
+by_reading r old P more reading holds p = subst (λ (s : LineReading). P s more) reading (subst (λ (h : List ℕ). P old.reading (h ++ more)) holds p)
 
 pub one_checked : (r : Reading) (bytes rest : List ℕ) (old new : StreamState) (taken : ℕ) → Checked r bytes rest old → Lends old rest (view.Message taken) new → Checked r bytes (drop taken rest) new
 one_checked r bytes rest old new taken c f = record {
   messages = c.messages ++ f.0 ∷ [];
   before = c.before ++ take taken rest;
   whole = c.whole ∙ ap (λ (b : List ℕ). c.before ++ b) (sym (take-append-drop taken rest)) ∙ sym (append_assoc c.before (take taken rest) (drop taken rest));
-  spelled = spelled_push (grammar.Spells r) c.messages f.0 bytes (take taken rest) (drop taken rest) rest c.spelled (sym (take-append-drop taken rest)) (by_reading r old (λ (s : Reading) (b : List ℕ). grammar.Spells s f.0 b) (take taken rest) c.reading c.holds f.1.2);
+  spelled = spelled_push (grammar.Spells r) c.messages f.0 bytes (take taken rest) (drop taken rest) rest c.spelled (sym (take-append-drop taken rest)) (by_reading r old (λ (s : LineReading) (b : List ℕ). Reads s f.0 b) (take taken rest) c.reading c.holds f.1.2);
   holds = f.1.3.0;
   goes_on = f.1.3.1;
   reading = f.1.4 ∙ c.reading;
@@ -48,7 +49,7 @@ one_checked r bytes rest old new taken c f = record {
 
 pub can_come : (r : Reading) (bytes rest : List ℕ) (old new : StreamState) → Checked r bytes rest old → Lends old rest view.More new → CanCome r bytes
 can_come r bytes rest old new c f =
-    let unfinished : UnfinishedIn r rest = by_reading r old UnfinishedIn rest c.reading c.holds f.0.0 in
+    let unfinished : UnfinishedIn r rest = by_reading r old UnfinishedBy rest c.reading c.holds f.0.0 in
     record { messages = c.messages; rest = rest; cut = record { spelled = c.spelled; none_whole = unfinished.none_whole }; alive = unfinished.alive }
 
 pub cannot_come : (r : Reading) (bytes rest : List ℕ) (old new : StreamState) (place at : ℕ) (why : Why) → Checked r bytes rest old → Lends old rest (view.Refused place why) new → at ≡ length bytes - length rest + place → AwaitSays r bytes (Err (error.NoMessage at why))
@@ -63,7 +64,7 @@ cannot_come r bytes rest old new place at why c f is =
         place = place;
         whole = c.whole;
         spelled = c.spelled;
-        refused = by_reading r old (λ (s : Reading) (b : List ℕ). IsRefusedIn s b place why) rest c.reading c.holds f.0.0;
+        refused = by_reading r old (λ (s : LineReading) (b : List ℕ). IsRefusedBy s b place why) rest c.reading c.holds f.0.0;
         is_at = omega (arith, is, ap length c.whole, length-append c.before rest);
       },
       refl,

@@ -3,14 +3,14 @@ use Rattle.std.proofs.Common.{◌≡◌, ◌⊎◌, ℕ, ◌+◌, ◌<◌, ◌�
 use Rattle.std.specs.List.{concat}
 use Rattle.std.proofs.lemmas.List.Elements.{All-append, All-cons, All-nil}
 use Rattle.zvt_io.specs.Devices.{IsPrefix}
-use Rattle.zvt_grammar.specs.Reading.{Reading}
+use Rattle.zvt_stream.specs.LineReading.{LineReading}
 use Rattle.zvt_stream.specs.StreamState.{StreamState}
 use Rattle.zvt_stream.proofs.HearingLemmas.{consumes_more, consumes_none}
 use Rattle.zvt_play.specs.Playing.{Agrees, AreApart, ComesOtherwise, Differs, Hears, HearsPart, IsMessage, Leaves, LeavesOrNot, Meets, NextMessage, NoMessage}
 use Rattle.zvt_play.specs.declared.difference.Difference.{Difference}
 use Rattle.zvt_play.specs.declared.difference.Difference.TheVariants.{Closed, Malformed, Other, Read, Surplus, Write}
 
-pub none_heard : (r : Reading) (demanded unheard : List ℕ) (coming : Option (List ℕ)) → HearsPart r demanded unheard coming unheard coming demanded
+pub none_heard : (r : LineReading) (demanded unheard : List ℕ) (coming : Option (List ℕ)) → HearsPart r demanded unheard coming unheard coming demanded
 none_heard r demanded unheard coming = record {
   messages = [];
   read = [];
@@ -39,7 +39,7 @@ cut_more unheard read more messages rest message after e f =
     sym (append_assoc unheard read more) ∙ ap (λ (b : List ℕ). b ++ more) e ∙ append_assoc (concat messages) rest more ∙ ap (λ (b : List ℕ). concat messages ++ b) f
     ∙ sym (append_assoc (concat messages) message after) ∙ ap (λ (b : List ℕ). b ++ after) (sym (concat_more messages message))
 
-pub hears_more : (r : Reading) (demanded unheard : List ℕ) (coming : Option (List ℕ)) (rest : List ℕ) (between : Option (List ℕ)) (wanted after : List ℕ) (left : Option (List ℕ)) (stream : StreamState) (more : List ℕ)
+pub hears_more : (r : LineReading) (demanded unheard : List ℕ) (coming : Option (List ℕ)) (rest : List ℕ) (between : Option (List ℕ)) (wanted after : List ℕ) (left : Option (List ℕ)) (stream : StreamState) (more : List ℕ)
     → HearsPart r demanded unheard coming rest between wanted → (next : NextMessage r rest between after left stream) → wanted ≡ next.bytes ++ more → 0 < length more → HearsPart r demanded unheard coming after left more
 hears_more r demanded unheard coming rest between wanted after left stream more part next e some = record {
   messages = part.messages ++ next.bytes ∷ [];
@@ -50,7 +50,7 @@ hears_more r demanded unheard coming rest between wanted after left stream more 
   cut = cut_more unheard part.read next.read part.messages rest next.bytes after part.cut next.cut;
 }
 
-pub hears_all : (r : Reading) (demanded unheard : List ℕ) (coming : Option (List ℕ)) (rest : List ℕ) (between : Option (List ℕ)) (wanted after : List ℕ) (left : Option (List ℕ)) (stream : StreamState)
+pub hears_all : (r : LineReading) (demanded unheard : List ℕ) (coming : Option (List ℕ)) (rest : List ℕ) (between : Option (List ℕ)) (wanted after : List ℕ) (left : Option (List ℕ)) (stream : StreamState)
     → HearsPart r demanded unheard coming rest between wanted → (next : NextMessage r rest between after left stream) → IsPrefix wanted next.bytes → Hears r demanded unheard coming after left stream.lent
 hears_all r demanded unheard coming rest between wanted after left stream part next p = record {
   messages = part.messages ++ next.bytes ∷ [];
@@ -67,7 +67,7 @@ pub wanted_few : (demanded : List ℕ) (messages : List (List ℕ)) (wanted : Li
 wanted_few demanded [] wanted a = omega (arith, ap length a)
 wanted_few demanded (first ∷ later) wanted a = omega (arith, wanted_few a.0 later wanted a.3, ap length a.1, length-append first a.0)
 
-pub no_message : (r : Reading) (why : Difference) (demanded unheard : List ℕ) (coming : Option (List ℕ)) (rest : List ℕ) (between : Option (List ℕ)) (wanted : List ℕ) (left : Option (List ℕ)) (stream : StreamState)
+pub no_message : (r : LineReading) (why : Difference) (demanded unheard : List ℕ) (coming : Option (List ℕ)) (rest : List ℕ) (between : Option (List ℕ)) (wanted : List ℕ) (left : Option (List ℕ)) (stream : StreamState)
     → HearsPart r demanded unheard coming rest between wanted → NoMessage r why rest between left → Differs r why demanded unheard coming left stream
 no_message r why demanded unheard coming rest between wanted left stream part none = record { wanted = wanted; rest = rest; between = between; part = part; last = as_it_is why none }
   where
@@ -79,7 +79,7 @@ no_message r why demanded unheard coming rest between wanted left stream part no
     as_it_is (Surplus count) n = absurd n.none
     as_it_is Write n = absurd n.none
 
-pub another : (r : Reading) (at : ℕ) (demanded unheard : List ℕ) (coming : Option (List ℕ)) (rest : List ℕ) (between : Option (List ℕ)) (wanted after : List ℕ) (left : Option (List ℕ)) (stream : StreamState)
+pub another : (r : LineReading) (at : ℕ) (demanded unheard : List ℕ) (coming : Option (List ℕ)) (rest : List ℕ) (between : Option (List ℕ)) (wanted after : List ℕ) (left : Option (List ℕ)) (stream : StreamState)
     → HearsPart r demanded unheard coming rest between wanted → (next : NextMessage r rest between after left stream) → AreApart wanted next.bytes → at + length wanted ≡ length demanded → Differs r (Other at) demanded unheard coming left stream
 another r at demanded unheard coming rest between wanted after left stream part next apart is = record { wanted = wanted; rest = rest; between = between; part = part; last = (after, next, apart, is) }
 

@@ -7,6 +7,7 @@ use Rattle.zvt_apdu.specs.Message.{Message}
 use Rattle.zvt_text.specs.MessageTexts.{said}
 use Rattle.zvt_text.specs.TextOptions.{safe_text}
 use Rattle.zvt_stream.specs.Apdus.{IsRefusedIn, UnfinishedIn}
+use Rattle.zvt_stream.specs.LineReading.{IsRefusedBy, Reads, UnfinishedBy}
 use Rattle.zvt_stream.specs.Feeds.{Lends}
 use Rattle.zvt_stream.specs.StreamState.{StreamState, start_in}
 use Rattle.zvt_stream.specs.declared.stream.FedView.{FedView}
@@ -44,7 +45,7 @@ begun_said r (byte ∷ bytes) some begins = inr (begins, refl)
 
 pub lent_said : (r : Reading) (old new : StreamState) (wanted : List ℕ) (fed : FedView) (message : Message) → old ≡ start_in r → 0 < length wanted → Lends old wanted fed new → new.lent ≡ Some message → SaysWanted r wanted (said safe_text message)
 lent_said r old new wanted (view.Message taken) message is some lends lent =
-    let spelled : grammar.Spells r lends.0 (take taken wanted) = subst (λ (s : StreamState). grammar.Spells s.reading lends.0 (s.held ++ take taken wanted)) is lends.1.2 in
+    let spelled : grammar.Spells r lends.0 (take taken wanted) = subst (λ (s : StreamState). Reads s.reading lends.0 (s.held ++ take taken wanted)) is lends.1.2 in
     let same : Some lends.0 ≡ Some message = sym lends.2 ∙ lent in
     by lends.0 same spelled
   where
@@ -55,5 +56,5 @@ lent_said r old new wanted (view.Refused place why) message is some lends lent =
 
 pub none_said : (r : Reading) (old new : StreamState) (wanted : List ℕ) (fed : FedView) → old ≡ start_in r → 0 < length wanted → Lends old wanted fed new → new.lent ≡ None → SaysWanted r wanted (beginning_text wanted)
 none_said r old new wanted (view.Message taken) is some lends lent = let never : Some lends.0 ≡ None = sym lends.2 ∙ lent in cc
-none_said r old new wanted view.More is some lends lent = begun_said r wanted some (inl (subst (λ (s : StreamState). UnfinishedIn s.reading (s.held ++ wanted)) is lends.0.0))
-none_said r old new wanted (view.Refused place why) is some lends lent = begun_said r wanted some (inr (place, why, subst (λ (s : StreamState). IsRefusedIn s.reading (s.held ++ wanted) place why) is lends.0.0))
+none_said r old new wanted view.More is some lends lent = begun_said r wanted some (inl (subst (λ (s : StreamState). UnfinishedBy s.reading (s.held ++ wanted)) is lends.0.0))
+none_said r old new wanted (view.Refused place why) is some lends lent = begun_said r wanted some (inr (place, why, subst (λ (s : StreamState). IsRefusedBy s.reading (s.held ++ wanted) place why) is lends.0.0))

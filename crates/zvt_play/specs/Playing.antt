@@ -4,10 +4,8 @@ use Rattle.std.specs.Borrow.{Bor}
 use Rattle.std.specs.List.{All, concat}
 use Rattle.std.specs.Io.KnownBytes.{Appends, Consumes, IsAtEnd}
 use Rattle.zvt_io.specs.Devices.{IsPrefix}
-use Rattle.zvt_grammar.specs.Reading.{Reading}
 use Rattle.zvt_apdu.specs.Message.{Message}
-use Rattle.zvt_apdu.specs.Grammar.{Spells}
-use Rattle.zvt_stream.specs.Apdus.{IsRefusedIn, UnfinishedIn}
+use Rattle.zvt_stream.specs.LineReading.{IsRefusedBy, LineReading, Reads, UnfinishedBy}
 use Rattle.zvt_stream.specs.StreamState.{IsReserved, StreamState}
 use Rattle.zvt_play.specs.Numbers.{Binds, HasNoNew, IsNumbered, bound, prepared, sent_as, used}
 use Rattle.zvt_play.specs.Script.{Act, act_of, await, bind, break, listen, prepare, same, send, silence, wait}
@@ -20,8 +18,8 @@ use Rattle.zvt_play.specs.declared.step.ScriptStep.{ScriptStep}
 
 -- ---- messages
 
-abbrev pub IsMessage : Reading → List ℕ → Type 0
-IsMessage r bytes = (message : Message) × Spells r message bytes
+abbrev pub IsMessage : LineReading → List ℕ → Type 0
+IsMessage r bytes = (message : Message) × Reads r message bytes
 
 -- The messages are what a line demands: all but the last are its next bytes, and the last begins with the remaining bytes.
 -- So a line without bytes demands one message of any kind.
@@ -49,7 +47,7 @@ LeavesOrNot demanded message None = AreApart demanded message
 LeavesOrNot demanded message (Some left) = Leaves demanded message left.now
 
 -- a stream with this reading of lengths that holds nothing and never allocates
-pub record IsReady (r : Reading) (s : StreamState) : Type 0 where
+pub record IsReady (r : LineReading) (s : StreamState) : Type 0 where
   pub holds : s.held ≡ []
   pub goes_on : s.stopped ≡ false
   pub reading : s.reading ≡ r
@@ -72,30 +70,30 @@ with_names state names = line_state state.unheard state.coming state.written sta
 
 -- One complete message arrived, and the stream lends it. It was the first of the unheard bytes and those read after them, and
 -- the rest is unheard now.
-pub record NextMessage (r : Reading) (unheard : List ℕ) (coming : Option (List ℕ)) (rest : List ℕ) (left : Option (List ℕ)) (stream : StreamState) : Type 0 where
+pub record NextMessage (r : LineReading) (unheard : List ℕ) (coming : Option (List ℕ)) (rest : List ℕ) (left : Option (List ℕ)) (stream : StreamState) : Type 0 where
   pub message : Message
   pub bytes : List ℕ
   pub read : List ℕ
   pub some : 0 < length bytes
-  pub spells : Spells r message bytes
+  pub spells : Reads r message bytes
   pub lent : stream.lent ≡ Some message
   pub consumed : Consumes coming left read
   pub cut : unheard ++ read ≡ bytes ++ rest
 
 -- One complete message arrived, and these demanded bytes are left after it.
-abbrev pub NextOf : Reading → (demanded unheard : List ℕ) → (coming : Option (List ℕ)) → (rest : List ℕ) → (left : Option (List ℕ)) → StreamState → Option (Bor (List ℕ)) → Type 0
+abbrev pub NextOf : LineReading → (demanded unheard : List ℕ) → (coming : Option (List ℕ)) → (rest : List ℕ) → (left : Option (List ℕ)) → StreamState → Option (Bor (List ℕ)) → Type 0
 NextOf r demanded unheard coming rest left stream after = (next : NextMessage r unheard coming rest left stream) × LeavesOrNot demanded next.bytes after
 
 -- No complete message arrived: no message begins with the bytes, or they begin one and nothing followed.
-abbrev pub NoneOf : Reading → Difference → (bytes : List ℕ) → (left : Option (List ℕ)) → Type 0
-NoneOf r (Closed have) bytes left = UnfinishedIn r bytes × (have ≡ length bytes) × IsAtEnd left
-NoneOf r (Malformed place why) bytes left = IsRefusedIn r bytes place why
-NoneOf r Read bytes left = UnfinishedIn r bytes
+abbrev pub NoneOf : LineReading → Difference → (bytes : List ℕ) → (left : Option (List ℕ)) → Type 0
+NoneOf r (Closed have) bytes left = UnfinishedBy r bytes × (have ≡ length bytes) × IsAtEnd left
+NoneOf r (Malformed place why) bytes left = IsRefusedBy r bytes place why
+NoneOf r Read bytes left = UnfinishedBy r bytes
 NoneOf r (Other at) bytes left = ⊥
 NoneOf r (Surplus count) bytes left = ⊥
 NoneOf r Write bytes left = ⊥
 
-pub record NoMessage (r : Reading) (why : Difference) (unheard : List ℕ) (coming left : Option (List ℕ)) : Type 0 where
+pub record NoMessage (r : LineReading) (why : Difference) (unheard : List ℕ) (coming left : Option (List ℕ)) : Type 0 where
   pub bytes : List ℕ
   pub rest : List ℕ
   pub read : List ℕ
@@ -142,16 +140,16 @@ failed_writes Read = 0
 -- ---- one step
 
 -- the last of these messages, which the stream lends
-pub record IsLast (r : Reading) (messages : List (List ℕ)) (lent : Option Message) : Type 0 where
+pub record IsLast (r : LineReading) (messages : List (List ℕ)) (lent : Option Message) : Type 0 where
   pub before : List (List ℕ)
   pub bytes : List ℕ
   pub message : Message
   pub cut : messages ≡ before ++ bytes ∷ []
-  pub spells : Spells r message bytes
+  pub spells : Reads r message bytes
   pub lends : lent ≡ Some message
 
 -- Messages arrived that are what a line demands, and the stream lends the last of them.
-pub record Hears (r : Reading) (demanded unheard : List ℕ) (coming : Option (List ℕ)) (rest : List ℕ) (left : Option (List ℕ)) (lent : Option Message) : Type 0 where
+pub record Hears (r : LineReading) (demanded unheard : List ℕ) (coming : Option (List ℕ)) (rest : List ℕ) (left : Option (List ℕ)) (lent : Option Message) : Type 0 where
   pub messages : List (List ℕ)
   pub read : List ℕ
   pub each : All (IsMessage r) messages
@@ -161,7 +159,7 @@ pub record Hears (r : Reading) (demanded unheard : List ℕ) (coming : Option (L
   pub cut : unheard ++ read ≡ concat messages ++ rest
 
 -- Messages arrived that agree with a line, and more of its bytes are demanded.
-pub record HearsPart (r : Reading) (demanded unheard : List ℕ) (coming : Option (List ℕ)) (rest : List ℕ) (left : Option (List ℕ)) (wanted : List ℕ) : Type 0 where
+pub record HearsPart (r : LineReading) (demanded unheard : List ℕ) (coming : Option (List ℕ)) (rest : List ℕ) (left : Option (List ℕ)) (wanted : List ℕ) : Type 0 where
   pub messages : List (List ℕ)
   pub read : List ℕ
   pub each : All (IsMessage r) messages
@@ -170,7 +168,7 @@ pub record HearsPart (r : Reading) (demanded unheard : List ℕ) (coming : Optio
   pub cut : unheard ++ read ≡ concat messages ++ rest
 
 -- the next message is not what is wanted, or there is none
-abbrev pub ComesOtherwise : Reading → Difference → (demanded wanted unheard : List ℕ) → (coming left : Option (List ℕ)) → StreamState → Type 0
+abbrev pub ComesOtherwise : LineReading → Difference → (demanded wanted unheard : List ℕ) → (coming left : Option (List ℕ)) → StreamState → Type 0
 ComesOtherwise r (Other at) demanded wanted unheard coming left stream =
     (rest : List ℕ) × (next : NextMessage r unheard coming rest left stream) × AreApart wanted next.bytes × (at + length wanted ≡ length demanded)
 ComesOtherwise r (Closed have) demanded wanted unheard coming left stream = NoMessage r (Closed have) unheard coming left
@@ -180,7 +178,7 @@ ComesOtherwise r (Surplus count) demanded wanted unheard coming left stream = �
 ComesOtherwise r Write demanded wanted unheard coming left stream = ⊥
 
 -- After messages that agree with a line, something else arrived than it demands.
-pub record Differs (r : Reading) (why : Difference) (demanded unheard : List ℕ) (coming left : Option (List ℕ)) (stream : StreamState) : Type 0 where
+pub record Differs (r : LineReading) (why : Difference) (demanded unheard : List ℕ) (coming left : Option (List ℕ)) (stream : StreamState) : Type 0 where
   pub wanted : List ℕ
   pub rest : List ℕ
   pub between : Option (List ℕ)
@@ -194,12 +192,12 @@ pub record Sent (bytes : List ℕ) (old new : LineState) : Type 0 where
   pub is : new ≡ line_state [] old.coming new.written old.lent (used old.names)
 
 -- The messages of a line arrived.
-pub record Heard (r : Reading) (bytes : List ℕ) (old new : LineState) : Type 0 where
+pub record Heard (r : LineReading) (bytes : List ℕ) (old new : LineState) : Type 0 where
   pub hears : Hears r bytes old.unheard old.coming new.unheard new.coming new.lent
   pub is : new ≡ line_state new.unheard new.coming old.written new.lent old.names
 
 -- A step was played. Before an own line, no unheard bytes were left.
-abbrev pub Played : Reading → Act → (old new : LineState) → Type 0
+abbrev pub Played : LineReading → Act → (old new : LineState) → Type 0
 Played r (send bytes) old new = Sent bytes old new
 Played r (await bytes) old new = Heard r bytes old new
 Played r break old new = ⊥
@@ -227,7 +225,7 @@ abbrev pub IsSurplus : (count : ℕ) → (old new : LineState) → Type 0
 IsSurplus count old new = (count ≡ length old.unheard) × (0 < count) × (new ≡ old)
 
 -- A step could not be played.
-abbrev pub Stops : Reading → Difference → Act → (old new : LineState) → StreamState → Type 0
+abbrev pub Stops : LineReading → Difference → Act → (old new : LineState) → StreamState → Type 0
 Stops r why (await bytes) old new stream = Differs r why bytes old.unheard old.coming new.coming stream × (new.written ≡ old.written) × (new.names ≡ old.names)
 Stops r (Surplus count) (send bytes) old new stream = IsSurplus count old new
 Stops r (Surplus count) break old new stream = IsSurplus count old new
@@ -238,7 +236,7 @@ Stops r (Other at) (same field name) old new stream = (at ≡ 0) × (IsNumbered 
 Stops r why act old new stream = ⊥
 
 -- the result of one step: it was played, or it ends the play over the connection
-abbrev pub PlaysStep : Reading → Act → (goes_on : Bool) → (old new : LineState) → Type 0
+abbrev pub PlaysStep : LineReading → Act → (goes_on : Bool) → (old new : LineState) → Type 0
 PlaysStep r act true old new = Played r act old new
 PlaysStep r act false old new = EndsLine act old × (new ≡ old)
 
@@ -285,7 +283,7 @@ abbrev pub acts_of : List ScriptStep → List Act
 acts_of steps = map (λ step. act_of step.action) steps
 
 -- the steps were played, one after another
-abbrev pub Plays : Reading → List Act → (old new : LineState) → Type 0
+abbrev pub Plays : LineReading → List Act → (old new : LineState) → Type 0
 Plays r [] old new = new ≡ old
 Plays r (act ∷ acts) old new = (middle : LineState) × Played r act old middle × Plays r acts middle new
 
@@ -295,7 +293,7 @@ EndsBefore [] state = state.unheard ≡ []
 EndsBefore (act ∷ acts) state = EndsLine act state
 
 -- the first of these steps, or the end, could not be played
-abbrev pub StopsAt : Reading → Difference → List Act → (old new : LineState) → StreamState → Type 0
+abbrev pub StopsAt : LineReading → Difference → List Act → (old new : LineState) → StreamState → Type 0
 StopsAt r why (act ∷ acts) old new stream = Stops r why act old new stream
 StopsAt r (Surplus count) [] old new stream = IsSurplus count old new
 StopsAt r (Other at) [] old new stream = ⊥
@@ -305,14 +303,14 @@ StopsAt r Read [] old new stream = ⊥
 StopsAt r Write [] old new stream = ⊥
 
 -- This many of the steps were played, and the play over the connection ends there.
-pub record PlaysTo (r : Reading) (steps : List ScriptStep) (count : ℕ) (old : LineState) (left written : Option (List ℕ)) (lent : Option Message) (names : Names) : Type 0 where
+pub record PlaysTo (r : LineReading) (steps : List ScriptStep) (count : ℕ) (old : LineState) (left written : Option (List ℕ)) (lent : Option Message) (names : Names) : Type 0 where
   pub unheard : List ℕ
   pub few : count ≤ length steps
   pub plays : Plays r (take count (acts_of steps)) old (line_state unheard left written lent names)
   pub ends : EndsBefore (drop count (acts_of steps)) (line_state unheard left written lent names)
 
 -- The steps before this one were played, and this one could not be played.
-pub record StopsPlay (r : Reading) (steps : List ScriptStep) (unplayed : Unplayed) (old : LineState) (left written : Option (List ℕ)) (stream : StreamState) (names : Names) : Type 0 where
+pub record StopsPlay (r : LineReading) (steps : List ScriptStep) (unplayed : Unplayed) (old : LineState) (left written : Option (List ℕ)) (stream : StreamState) (names : Names) : Type 0 where
   pub middle : LineState
   pub unheard : List ℕ
   pub few : unplayed.step ≤ length steps

@@ -4,7 +4,7 @@ ghost use Rattle.std.specs.Prelude.{IfErr, IfOk, MatchResult, OnOk};
 ghost use Rattle.std.specs.Prelude.{length, take};
 ghost use Rattle.std.specs.Io.KnownBytes.{Appends};
 ghost use Rattle.zvt_io.specs.Devices.{IsPrefix};
-ghost use Rattle.zvt_grammar.specs.Reading.{Reading};
+ghost use Rattle.zvt_stream.specs.LineReading.{LineReading};
 ghost use Rattle.zvt_apdu.specs.Message.{Message};
 ghost use Rattle.zvt_stream.specs.StreamState.{StreamState};
 ghost use Rattle.zvt_play.specs.Numbers.{longest_line, sent_as, used, with_end};
@@ -124,7 +124,7 @@ fn send_step<W: Sink>(
 ) -> Result<(), Difference>
     ensures ok { OnOk result ((unheard_in unheard.now ≡ []) × (names.new ≡ used names.old)
         × Appends (W.written writer.old) (W.written writer.new) (sent_as names.old.next bytes.now)) }
-    ensures err { IfErr result (λ why. (r : Reading) → (coming : Option (List ℕ)) → (lent : Option Message)
+    ensures err { IfErr result (λ why. (r : LineReading) → (coming : Option (List ℕ)) → (lent : Option Message)
         → (stream : StreamState) → Stops r why (send bytes.now)
         (line_state (unheard_in unheard.now) coming (W.written writer.old) lent names.old)
         (line_state (unheard_in unheard.now) coming (W.written writer.new) lent names.new) stream) }

@@ -1,7 +1,7 @@
 -- What a crash leaves of a till's book while it runs over TCP.
 use Rattle.std.proofs.Common.{◌≡◌, ◌⊎◌, ⊎_elim, inl, inr, ℕ, Bool, true, false, List, [], ◌∷◌, ◌++◌, map, Option, Some, None, Result, Ok, Err, refl, sym, ap, subst, ◌∙◌, append_assoc}
 use Rattle.std.proofs.lemmas.List.{append-nil}
-use Rattle.zvt_grammar.specs.Reading.{Reading}
+use Rattle.zvt_stream.specs.LineReading.{LineReading}
 use Rattle.zvt_stream.specs.EndState.{EndState}
 use Rattle.zvt_till.specs.declared.entries.Entry.{Entry}
 use Rattle.zvt_till.specs.declared.happenings.Happening.{Happening}
@@ -180,7 +180,7 @@ module _ {D : Type 0} (seen : D → List ℕ) (may_leave : D → List ℕ → Ty
   up_whole : (old new : Kept) → Connects seen may_leave moment left_since faults old new (Ok tt) → has_failed old ≡ false → has_failed new ≡ false
   up_whole old new up whole = ⊎_elim (λ still. subst (λ (k : Kept). has_failed k ≡ false) (sym still.1) whole) (λ line. line.1) up
 
-  begun : (settings : Settings) (log : List Happening) (reading : Reading) (options : StepOptions) (plan : List Planned) (old new : Kept) (first last : Option (List ℕ)) (Reported : List ℕ → List Entry → Type 0) (result : Result Unit EndFault)
+  begun : (settings : Settings) (log : List Happening) (reading : LineReading) (options : StepOptions) (plan : List Planned) (old new : Kept) (first last : Option (List ℕ)) (Reported : List ℕ → List Entry → Type 0) (result : Result Unit EndFault)
       → Logs settings log old → has_failed old ≡ false → RunsTill (kept_connects seen may_leave moment left_since faults) has_failed till_of Makes (BeginsThere reading) options plan old new first last Reported result → OutlivesRun seen may_leave moment left_since faults settings log plan old new
   begun settings log reading options plan old new first last Reported result has whole run =
       let g : Going settings old = record { log = log; has = has; whole = whole } in

@@ -1,6 +1,6 @@
 -- Runs over TCP of a till, alone or with a book.
 use Rattle.std.proofs.Common.{◌≡◌, ◌∙◌, ap, ℕ, List, Option, Some, None, Bool, true, false, Result, Ok, Err, refl, subst, inl}
-use Rattle.zvt_grammar.specs.Reading.{Reading}
+use Rattle.zvt_stream.specs.LineReading.{LineReading}
 use Rattle.zvt_stream.specs.EndState.{EndState}
 use Rattle.zvt_runs.specs.declared.plans.StepOptions.{StepOptions}
 use Rattle.zvt_till.specs.View.{TillValue}
@@ -28,10 +28,10 @@ module _ {L K : Type 0} (connects : K → Result Unit BookFault → K → Type 0
   silenced lacks waited ended whole result is silent answers = inl (record { ended = ended; lacks = lacks; waited = waited; answers = answers; is = silent ∙ ap (by_silence waited) is })
 
 -- a run on a line whose stream has that reading
-pub begun_there : {K : Type 0} (connects : K → Result Unit BookFault → K → Type 0) (failed : K → Bool) (seen : K → TillValue) (makes : Law EndState K) (r k : Reading)
+pub begun_there : {K : Type 0} (connects : K → Result Unit BookFault → K → Type 0) (failed : K → Bool) (seen : K → TillValue) (makes : Law EndState K) (r k : LineReading)
     (options : StepOptions) (plan : List Planned) (old new : K) (first last : Option (List ℕ)) (Reported : List ℕ → List Entry → Type 0) (Quiet : Type 0) (result : Result Unit EndFault)
     → r ≡ k → AnswersPlan connects failed seen makes (BeginsThere r) options plan old new first last Reported Quiet result → AnswersPlan connects failed seen makes (BeginsThere k) options plan old new first last Reported Quiet result
-begun_there connects failed seen makes r k options plan old new first last Reported Quiet result e = subst (λ (x : Reading). AnswersPlan connects failed seen makes (BeginsThere x) options plan old new first last Reported Quiet result) e
+begun_there connects failed seen makes r k options plan old new first last Reported Quiet result e = subst (λ (x : LineReading). AnswersPlan connects failed seen makes (BeginsThere x) options plan old new first last Reported Quiet result) e
 
 -- a trace or a silence makes no run one whose text could not be written
 

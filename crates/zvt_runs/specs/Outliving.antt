@@ -1,6 +1,6 @@
 -- The book that a crash at any moment of a run over TCP leaves.
 use Rattle.std.specs.Prelude.{◌≡◌, ℕ, false, List, ◌∷◌, ◌++◌, map, Option, Result}
-use Rattle.zvt_grammar.specs.Reading.{Reading}
+use Rattle.zvt_stream.specs.LineReading.{LineReading}
 use Rattle.zvt_stream.specs.EndState.{EndState}
 use Rattle.zvt_till.specs.declared.happenings.Happening.{Happening}
 use Rattle.zvt_till.specs.Sending.{Settings}
@@ -45,7 +45,7 @@ module _ {D : Type 0} (seen : D → List ℕ) (may_leave : D → List ℕ → Ty
   -- book of the events up to then.
   abbrev pub BookRunsOutlive : Type 0
   BookRunsOutlive =
-      (settings : Settings) (log : List Happening) (reading : Reading) (options : StepOptions) (plan : List Planned) (old new : KeptValue D) (first last : Option (List ℕ))
+      (settings : Settings) (log : List Happening) (reading : LineReading) (options : StepOptions) (plan : List Planned) (old new : KeptValue D) (first last : Option (List ℕ))
       (report_first report_last : Option (List ℕ)) (failures_before failures_after : ℕ) (result : Result Unit EndFault)
       → HasLog seen may_leave moment left_since faults settings log old.standing → has_failed old ≡ false
       → AnswersOverTcp (kept_connects seen may_leave moment left_since faults) has_failed till_of MakesKept (BeginsThere reading) options plan old new first last

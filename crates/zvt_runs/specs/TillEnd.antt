@@ -1,10 +1,10 @@
 -- The result of a step at a till's end of a line to a terminal elsewhere.
 use Rattle.std.specs.Prelude.{◌≡◌, ◌+◌, ◌≤◌, Bool, Result, Ok, Err}
 use Rattle.zvt_apdu.specs.Message.{Message}
-use Rattle.zvt_grammar.specs.Reading.{Reading}
+use Rattle.zvt_stream.specs.LineReading.{LineReading}
 use Rattle.zvt_stream.specs.EndState.{EndState, NoneFails}
 use Rattle.zvt_stream.specs.Answered.{Answered}
-use Rattle.zvt_stream.specs.StreamState.{start_in}
+use Rattle.zvt_stream.specs.StreamState.{start_by}
 use Rattle.zvt_till.specs.Keeping.{itself, never_failed, till_orders}
 use Rattle.zvt_till.specs.Line.{Fails, IsOver, Runs, reads_failed, till_hears, till_loses, till_malforms, till_rests, writes_failed}
 use Rattle.zvt_till.specs.View.{TillValue}
@@ -41,6 +41,6 @@ module _ {K : Type 0} (orders : K → Order → Result Outgoing Untaken → K �
 abbrev pub MakesThereAlone : EndState → TillValue → Step → Result Outcome RunFault → EndState → TillValue → Type 0
 MakesThereAlone before old step result after new = MakesThere till_orders till_hears till_rests never_failed itself till_loses till_malforms before old step result after new
 
--- a fresh line, whose lengths are read in this way
-abbrev pub BeginsThere : Reading → EndState → Type 0
-BeginsThere r end = end.stream ≡ start_in r
+-- a fresh line, which is read in this way
+abbrev pub BeginsThere : LineReading → EndState → Type 0
+BeginsThere r end = end.stream ≡ start_by r

@@ -1,6 +1,6 @@
 //! The till's end of a connection to a terminal elsewhere.
 ghost use Rattle.std.specs.Prelude.{◌≡◌, ◌<◌, Err};
-ghost use Rattle.zvt_stream.specs.StreamState.{start_in};
+ghost use Rattle.zvt_stream.specs.StreamState.{start_by};
 ghost use Rattle.zvt_runs.specs.Reporting.{ReportsNothing, ReportsRun};
 ghost use Rattle.zvt_runs.specs.Runs.{noting};
 ghost use Rattle.zvt_runs.specs.TillEnd.{BeginsThere, MakesThere};
@@ -64,7 +64,7 @@ pub fn run_till_end<R: Source, W: Sink, K: Keeper, T: Sink, E: Sink, N: NoteSour
     writer: &mut T,
     report: &mut E,
 ) -> Result<(), EndFault>
-    requires { end.old.stream ≡ start_in end.old.stream.reading }
+    requires { end.old.stream ≡ start_by end.old.stream.reading }
     ensures run { AnswersPlan K.connects K.failed K.till
         (noting N.noted (MakesThere K.orders K.hears K.is_resting K.failed K.till K.loses K.malforms))
         (BeginsThere end.old.stream.reading) steps.now.options steps.now.plan.now till.old till.new

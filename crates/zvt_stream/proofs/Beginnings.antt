@@ -17,7 +17,7 @@ spelled_append_in r = cuts.spelled_append (grammar.Spells r)
 pub prefix_alive_in : (r : Reading) (prefix rest : List ℕ) → AliveIn r (prefix ++ rest) → AliveIn r prefix
 prefix_alive_in r = cuts.prefixes_alive (grammar.Spells r)
 
-length_bounds : (r : Reading) (n : ℕ) (size : List ℕ) → IsFrameLength r n size → (0 < length size) × (length size ≤ 3) × (n < 65536)
+pub length_bounds : (r : Reading) (n : ℕ) (size : List ℕ) → IsFrameLength r n size → (0 < length size) × (length size ≤ 3) × (n < 65536)
 length_bounds r n [] s = absurd s
 length_bounds r n (a ∷ []) s = (omega arith, omega arith, omega (arith, s.0))
 length_bounds r n (a ∷ b ∷ []) s = absurd s

@@ -7,13 +7,15 @@ use Rattle.zvt_grammar.specs.Reading.{Reading}
 use Rattle.zvt_tlv.proofs.Places.{none_more, place_more, byte_more}
 use Rattle.zvt_apdu.specs.Judging.{Position}
 use Rattle.zvt_apdu.specs.Grammar.{Spells}
-use Rattle.zvt_stream.specs.Apdus.{AliveIn, UnfinishedIn, PlaceIn, IsRefusedIn}
+use Rattle.zvt_stream.specs.Apdus.{AliveIn, PlaceIn, IsRefusedIn}
+use Rattle.zvt_stream.specs.LineReading.{LineReading, UnfinishedBy}
 use Rattle.zvt_stream.specs.StreamState.{IsSound}
-use Rattle.zvt_stream.proofs.Beginnings.{prefix_alive_in, nothing_in}
+use Rattle.zvt_stream.proofs.Beginnings.{prefix_alive_in}
+use Rattle.zvt_stream.proofs.LineReadingLemmas.{nothing_by}
 
 -- what holds nothing is sound
-pub sound_empty : (r : Reading) (held : List ℕ) (stopped : Bool) → held ≡ [] → IsSound r held stopped
-sound_empty r held stopped e = record { unfinished = subst (UnfinishedIn r) (sym e) (nothing_in r); none_held = λ h. e }
+pub sound_empty : (l : LineReading) (held : List ℕ) (stopped : Bool) → held ≡ [] → IsSound l held stopped
+sound_empty l held stopped e = record { unfinished = subst (UnfinishedBy l) (sym e) (nothing_by l); none_held = λ h. e }
 
 -- what is refused stays refused with more after it
 pub refused_more : (r : Reading) (bytes more : List ℕ) (place : ℕ) (why : Why) → IsRefusedIn r bytes place why → IsRefusedIn r (bytes ++ more) place why

@@ -5,9 +5,8 @@ use Rattle.std.proofs.lemmas.List.Folds.{list_any-append}
 use Rattle.std.proofs.lemmas.Grind.{flat_map-append}
 use Rattle.std.specs.Prelude.{nat_lt}
 use Rattle.zvt_apdu.specs.Message.{Message}
-use Rattle.zvt_grammar.specs.Reading.{Reading}
-use Rattle.zvt_apdu.specs.Grammar.{Spells}
-use Rattle.zvt_stream.proofs.Beginnings.{spelled_more_in, spelled_append_in}
+use Rattle.zvt_stream.specs.LineReading.{LineReading, Reads}
+use Rattle.zvt_stream.proofs.LineReadingLemmas.{spelled_more_by, spelled_append_by}
 use Rattle.zvt_stream.specs.Answered.{Answered, bytes_of, any_sent}
 use Rattle.zvt_stream.specs.Hearing.{Hears, Heard}
 
@@ -38,33 +37,33 @@ sent_append : (xs ys : List Answered) → any_sent (xs ++ ys) ≡ (any_sent xs |
 sent_append xs ys = list_any-append (λ a. nat_lt 0 a.count) xs ys
 
 -- nothing heard yet
-pub heard_none : {S : Type 0} (r : Reading) (step : S → Message → Answered → S → Type 0) (bytes : List ℕ) (s : S) → Heard r step bytes s bytes s [] false
+pub heard_none : {S : Type 0} (r : LineReading) (step : S → Message → Answered → S → Type 0) (bytes : List ℕ) (s : S) → Heard r step bytes s bytes s [] false
 heard_none r step bytes s = record { messages = []; answers = []; spelled = refl; heard = refl; answered = refl; sending = refl }
 
 -- more bytes are more rest
-pub heard_longer : {S : Type 0} {r : Reading} {step : S → Message → Answered → S → Type 0} {bytes rest w : List ℕ} {old new : S} {a : Bool} (more : List ℕ) → Heard r step bytes old rest new w a → Heard r step (bytes ++ more) old (rest ++ more) new w a
+pub heard_longer : {S : Type 0} {r : LineReading} {step : S → Message → Answered → S → Type 0} {bytes rest w : List ℕ} {old new : S} {a : Bool} (more : List ℕ) → Heard r step bytes old rest new w a → Heard r step (bytes ++ more) old (rest ++ more) new w a
 heard_longer {r = r} {bytes = bytes} {rest = rest} more h = record {
   messages = h.messages;
   answers = h.answers;
-  spelled = spelled_more_in r h.messages bytes rest more h.spelled;
+  spelled = spelled_more_by r h.messages bytes rest more h.spelled;
   heard = h.heard;
   answered = h.answered;
   sending = h.sending;
 }
 
 -- one hearing after another
-pub heard_then : {S : Type 0} {r : Reading} {step : S → Message → Answered → S → Type 0} {bytes rest rest' w w' : List ℕ} {old middle new : S} {a b : Bool} → Heard r step bytes old rest middle w a → Heard r step rest middle rest' new w' b → Heard r step bytes old rest' new (w ++ w') (a || b)
+pub heard_then : {S : Type 0} {r : LineReading} {step : S → Message → Answered → S → Type 0} {bytes rest rest' w w' : List ℕ} {old middle new : S} {a b : Bool} → Heard r step bytes old rest middle w a → Heard r step rest middle rest' new w' b → Heard r step bytes old rest' new (w ++ w') (a || b)
 heard_then {r = r} {step = step} {bytes = bytes} {rest = rest} {rest' = rest'} {w = w} {w' = w'} {old = old} {middle = middle} {new = new} {a = a} {b = b} h k = record {
   messages = h.messages ++ k.messages;
   answers = h.answers ++ k.answers;
-  spelled = spelled_append_in r h.messages k.messages bytes rest rest' h.spelled k.spelled;
+  spelled = spelled_append_by r h.messages k.messages bytes rest rest' h.spelled k.spelled;
   heard = hears_append step old middle new h.messages k.messages h.answers k.answers h.heard k.heard;
   answered = ap (λ z. z ++ w') h.answered ∙ ap (λ z. bytes_of h.answers ++ z) k.answered ∙ sym (bytes_append h.answers k.answers);
   sending = ap (λ z. z || b) h.sending ∙ ap (λ z. any_sent h.answers || z) k.sending ∙ sym (sent_append h.answers k.answers);
 }
 
 -- one message heard and answered
-pub heard_one : {S : Type 0} (r : Reading) (step : S → Message → Answered → S → Type 0) (prefix later : List ℕ) (old new : S) (m : Message) (x : Answered) → Spells r m prefix → step old m x new → Heard r step (prefix ++ later) old later new x.bytes (nat_lt 0 x.count)
+pub heard_one : {S : Type 0} (r : LineReading) (step : S → Message → Answered → S → Type 0) (prefix later : List ℕ) (old new : S) (m : Message) (x : Answered) → Reads r m prefix → step old m x new → Heard r step (prefix ++ later) old later new x.bytes (nat_lt 0 x.count)
 heard_one r step prefix later old new m x s h = record { messages = m ∷ []; answers = x ∷ []; spelled = (prefix, later, refl, s, refl); heard = (new, h, refl); answered = sym (append-nil x.bytes); sending = or_false (nat_lt 0 x.count) }
   where
     or_false : (b : Bool) → b ≡ (b || false)

@@ -4,7 +4,7 @@ use Rattle.std.proofs.lemmas.Bool.{cases_lt}
 use Rattle.std.proofs.lemmas.List.{append-nil, reverse-append, length-reverse, length-take-le}
 use Rattle.std.proofs.Math.Seq.{take-append_seam, take-suc}
 use Rattle.zvt_grammar.specs.declared.why.Why.{Why}
-use Rattle.zvt_grammar.specs.Reading.{Reading}
+use Rattle.zvt_grammar.specs.Reading.{AreBytes, Reading}
 use Rattle.zvt_tlv.specs.declared.judge.TagAt.TheVariants.{First}
 use Rattle.zvt_tlv.proofs.Alive.{prefix_of}
 use Rattle.zvt_apdu.specs.Grammar.{Spells}
@@ -27,7 +27,7 @@ use Rattle.zvt_stream.specs.declared.judge.Judged.TheVariants.{Open, Ended}
 use Rattle.zvt_stream.specs.DecoderState.{IsFull, depth_of, Level, Between, Where, role_of}
 use Rattle.zvt_stream.specs.Moves.{Judges, Keeps, Leads, at_in, at_part, leads_to, move_of, opens, outer_of}
 use Rattle.zvt_stream.specs.declared.head.Head.{Head}
-use Rattle.zvt_stream.specs.declared.head.Head.TheVariants.{Two}
+use Rattle.zvt_stream.specs.declared.head.Head.TheVariants.{Empty, One, Two}
 use Rattle.zvt_stream.specs.Head.{head_of}
 use Rattle.zvt_stream.specs.Judge.{unfilled, beginning, Advances, Follows, IsJudge, IsMessageIn, JudgeState, Ran, Settles, StandsFor, HasLevelsIn, head_at, start, state_of}
 use Rattle.zvt_stream.proofs.Beginnings.{nothing_in}
@@ -164,6 +164,39 @@ begun_anew r goes levels e f = rw (e, f) refl
 
 pub start_stands : (r : Reading) (goes : Goes) (levels : Levels) → goes ≡ beginning → outer_of levels ≡ [] → StandsFor (state_of r goes levels) []
 start_stands r goes levels e f = subst (λ (w : JudgeState). StandsFor w []) (sym (begun_anew r goes levels e f)) (begun_anew_stands r)
+
+-- a judge after one control byte, and after both
+pub one_stands : (r : Reading) (x : ℕ) (levels : Levels) → levels.high ≡ x → outer_of levels ≡ [] → x < 256 → StandsFor (state_of r (record { part = part.SecondControl; more = 0; left = 1 }) levels) (x ∷ [])
+one_stands r x levels is none lt =
+    let alive = passes r stage.FirstControl 1 x [] [] lt (nothing_in r).alive (refl, refl) refl in
+    let stands : Where r (stage.SecondControl x) 1 [] (x ∷ []) = (refl, refl, lt) in
+    rw (is, none) (record { unfinished = unfinished r (stage.SecondControl x) 1 [] (x ∷ []) alive stands; stands = stands; prefix = refl })
+
+pub two_stand : (r : Reading) (x y : ℕ) (levels : Levels) → levels.high ≡ x → levels.low ≡ y → outer_of levels ≡ [] → x < 256 → y < 256 → StandsFor (state_of r (record { part = part.FirstSize; more = 0; left = 1 }) levels) (x ∷ y ∷ [])
+two_stand r x y levels is also none lt less =
+    let first = passes r stage.FirstControl 1 x [] [] lt (nothing_in r).alive (refl, refl) refl in
+    let one : Where r (stage.SecondControl x) 1 [] (x ∷ []) = (refl, refl, lt) in
+    let alive = passes r (stage.SecondControl x) 1 y [] (x ∷ []) less first one refl in
+    let stands : Where r (stage.FirstSize x y) 1 [] (x ∷ y ∷ []) = (refl, refl, lt, less) in
+    rw (is, also, none) (record { unfinished = unfinished r (stage.FirstSize x y) 1 [] (x ∷ y ∷ []) alive stands; stands = stands; prefix = refl })
+
+pub after_one : (r : Reading) (x : ℕ) (levels : Levels) (bytes : List ℕ) → levels.high ≡ x → outer_of levels ≡ [] → AreBytes bytes → One x ≡ head_of bytes → StandsFor (state_of r (record { part = part.SecondControl; more = 0; left = 1 }) levels) (take 2 bytes)
+after_one r x levels [] is none are e = absurd (cc (e))
+after_one r x levels (a ∷ []) is none are e = let same : x ≡ a = cc (e) in one_stands r a levels (is ∙ same) none are.0
+after_one r x levels (a ∷ b ∷ more) is none are e = absurd (cc (e))
+
+pub after_two : (r : Reading) (x y : ℕ) (levels : Levels) (bytes : List ℕ) → levels.high ≡ x → levels.low ≡ y → outer_of levels ≡ [] → AreBytes bytes → Two x y ≡ head_of bytes → StandsFor (state_of r (record { part = part.FirstSize; more = 0; left = 1 }) levels) (take 2 bytes)
+after_two r x y levels [] is also none are e = absurd (cc (e))
+after_two r x y levels (a ∷ []) is also none are e = absurd (cc (e))
+after_two r x y levels (a ∷ b ∷ more) is also none are e =
+    let high : x ≡ a = cc (e) in
+    let low : y ≡ b = cc (e) in
+    two_stand r a b levels (is ∙ high) (also ∙ low) none are.0 are.1.0
+
+pub after_none : (r : Reading) (judge : JudgeState) (bytes : List ℕ) → judge ≡ start r → Empty ≡ head_of bytes → StandsFor judge (take 2 bytes)
+after_none r judge [] is e = subst (λ (j : JudgeState). StandsFor j []) (sym is) (begun_anew_stands r)
+after_none r judge (a ∷ []) is e = absurd (cc (e))
+after_none r judge (a ∷ b ∷ more) is e = absurd (cc (e))
 
 -- a judge after an answer represents some bytes
 pub ran_judge : (r : Reading) (held more : List ℕ) (ran : DecodeRun) (new : JudgeState) → Ran r held more ran new → IsJudge new

@@ -4,6 +4,7 @@ use Rattle.std.proofs.lemmas.List.{length-take-le}
 use Rattle.zvt_grammar.specs.declared.why.Why.{Why}
 use Rattle.zvt_grammar.specs.Reading.{Reading}
 use Rattle.zvt_stream.specs.Apdus.{AliveIn, UnfinishedIn, IsRefusedIn}
+use Rattle.zvt_stream.specs.LineReading.{LineReading}
 use Rattle.zvt_stream.specs.StreamState.{IsSound}
 use Rattle.zvt_stream.specs.Judge.{JudgeState, start, StandsFor, Ran}
 use Rattle.zvt_stream.specs.declared.judge.DecodeRun.TheVariants.{Refused}
@@ -12,8 +13,8 @@ use Rattle.zvt_stream.proofs.FeedLemmas.{sound_empty, fed_refused}
 use Rattle.zvt_stream.proofs.JudgeLemmas.{begun_anew_stands}
 
 -- a stream that holds nothing, with a new judge
-pub fresh : (r : Reading) (judge : JudgeState) (held : List ℕ) (stopped : Bool) → judge ≡ start r → held ≡ [] → IsSound judge.reading held stopped × StandsFor judge held
-fresh r judge held stopped e f = (sound_empty judge.reading held stopped f, subst (λ (h : List ℕ). StandsFor judge h) (sym f) (subst (λ (j : JudgeState). StandsFor j []) (sym e) (begun_anew_stands r)))
+pub fresh : (l : LineReading) (r : Reading) (judge : JudgeState) (held : List ℕ) (stopped : Bool) → judge ≡ start r → held ≡ [] → IsSound l held stopped × StandsFor judge held
+fresh l r judge held stopped e f = (sound_empty l held stopped f, subst (λ (h : List ℕ). StandsFor judge h) (sym f) (subst (λ (j : JudgeState). StandsFor j []) (sym e) (begun_anew_stands r)))
 
 alive_few : (r : Reading) (b : List ℕ) → AliveIn r b → length b ≤ 65540
 alive_few r b a = omega (arith, (bounds_in r a.value (b ++ a.rest) a.spelled).1, length-append b a.rest)

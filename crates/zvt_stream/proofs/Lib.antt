@@ -1,4 +1,5 @@
 pub mod Beginnings
+pub mod LineReadingLemmas
 pub mod FeedLemmas
 pub mod LentLemmas
 pub mod HearingLemmas
@@ -19,4 +20,8 @@ pub mod WholeLemmas
 pub mod JudgedFeeds
 pub mod RunLemmas
 pub mod OpenLemmas
+pub mod OpenLineLemmas
+pub mod PassingLemmas
+pub mod StandIns
+pub mod UnreadLemmas
 pub mod OpenRows

@@ -3,10 +3,8 @@ use Rattle.std.proofs.Common.{length, ◌≡◌, ℕ, Bool, true, false, ◌||�
 use Rattle.std.specs.Prelude.{nat_lt}
 use Rattle.std.specs.Io.KnownBytes.{Consumes, Appends, IsAtEnd, Keeps}
 use Rattle.std.proofs.lemmas.List.{take-append-drop}
-use Rattle.zvt_grammar.specs.Reading.{Reading}
 use Rattle.zvt_apdu.specs.Message.{Message}
-use Rattle.zvt_apdu.specs.Grammar.{Spells}
-use Rattle.zvt_stream.specs.Apdus.{NoneWholeIn, UnfinishedIn, SpelledIn, IsRefusedIn}
+use Rattle.zvt_stream.specs.LineReading.{IsRefusedBy, LineReading, NoneWholeBy, Reads, SpelledBy, UnfinishedBy}
 use Rattle.zvt_stream.specs.declared.stream.Fed.TheVariants as fed
 use Rattle.zvt_stream.specs.declared.line.LineFault.{LineFault}
 use Rattle.zvt_stream.specs.declared.line.LineFault.TheVariants as faults
@@ -18,7 +16,7 @@ use Rattle.zvt_stream.specs.LineRun.{Course, Breaks, Pumped, Broken}
 use Rattle.zvt_stream.specs.Replies.{Replies, Unanswered}
 use Rattle.zvt_io.proofs.KnownLemmas.{appends_more}
 use Rattle.zvt_stream.proofs.HearingLemmas.{appends_none, consumes_none, consumes_more, heard_none, heard_longer, heard_then, heard_one, hears_append, bytes_append}
-use Rattle.zvt_stream.proofs.Beginnings.{spelled_more_in, spelled_append_in}
+use Rattle.zvt_stream.proofs.LineReadingLemmas.{spelled_more_by, spelled_append_by}
 
 -- Some messages of the piece were heard and answered, and the rest of it is still to be fed.
 pub record Going {S : Type 0} (step : S → Message → Answered → S → Type 0) (before : StreamState) (piece : List ℕ) (after : StreamState) (rest : List ℕ) (old new : S) (first last : Option (List ℕ)) (sent : Bool) : Type 0 where
@@ -43,7 +41,7 @@ conflict b c e t f = let g : true ≡ false = sym t ∙ sym e ∙ f in cc
 pub going_message : {S : Type 0} {step : S → Message → Answered → S → Type 0} {before after : StreamState} {piece rest : List ℕ} {old middle : S} {first now : Option (List ℕ)} {sent : Bool} (apdu : Message) (taken : ℕ) (fresh : StreamState) (new : S) (last : Option (List ℕ)) (replied : Bool) → Going step before piece after rest old middle first now sent → Feeds after rest (fed.Message apdu taken) fresh → after.stopped ≡ false → Replies step middle apdu new now last replied → Going step before piece fresh (drop taken rest) old new first last (sent || replied)
 going_message {step = step} {before = before} {after = after} {piece = piece} {rest = rest} {old = old} {middle = middle} {first = first} {now = now} {sent = sent} apdu taken fresh new last replied going f runs reply =
     let later : List ℕ = drop taken rest in
-    let one : Heard before.reading step ((after.held ++ take taken rest) ++ later) middle later new reply.answer.bytes (nat_lt 0 reply.answer.count) = heard_one before.reading step (after.held ++ take taken rest) later middle new apdu reply.answer (subst (λ (r : Reading). Spells r apdu (after.held ++ take taken rest)) going.reads_alike f.2) reply.heard in
+    let one : Heard before.reading step ((after.held ++ take taken rest) ++ later) middle later new reply.answer.bytes (nat_lt 0 reply.answer.count) = heard_one before.reading step (after.held ++ take taken rest) later middle new apdu reply.answer (subst (λ (r : LineReading). Reads r apdu (after.held ++ take taken rest)) going.reads_alike f.2) reply.heard in
     let B : List ℕ → Type 0 = λ b. Heard before.reading step b middle later new reply.answer.bytes (nat_lt 0 reply.answer.count) in
     let both : Heard before.reading step (before.held ++ piece) old later new (going.written ++ reply.answer.bytes) (sent || nat_lt 0 reply.answer.count) = heard_then going.heard (subst B (sym (split after.held rest taken)) one) in
     let H : List ℕ → Type 0 = λ held. Heard before.reading step (before.held ++ piece) old (held ++ later) new (going.written ++ reply.answer.bytes) (sent || nat_lt 0 reply.answer.count) in
@@ -62,9 +60,9 @@ going_message {step = step} {before = before} {after = after} {piece = piece} {r
 pub going_ends : {S : Type 0} {step : S → Message → Answered → S → Type 0} {before after : StreamState} {piece rest : List ℕ} {old new : S} {first last : Option (List ℕ)} {sent : Bool} (end : StreamState) → (going : Going step before piece after rest old new first last sent) → Feeds after rest fed.More end → after.stopped ≡ false → Course step before piece end old new going.written sent
 going_ends {step = step} {before = before} {after = after} {piece = piece} {rest = rest} {old = old} {new = new} {sent = sent} end going f runs =
     let H : List ℕ → Type 0 = λ held. Heard before.reading step (before.held ++ piece) old held new going.written sent in
-    let N : List ℕ → Type 0 = NoneWholeIn before.reading in
+    let N : List ℕ → Type 0 = NoneWholeBy before.reading in
     let heard : Heard before.reading step (before.held ++ piece) old end.held new going.written sent = subst H (sym f.1.0) going.heard in
-    record { heard = heard; cut = record { spelled = heard.spelled; none_whole = subst N (sym f.1.0) (subst (λ (r : Reading). NoneWholeIn r (after.held ++ rest)) going.reads_alike f.0.none_whole) }; same = f.1.1 ∙ sym runs ∙ going.same; reads_alike = f.2 ∙ going.reads_alike; still = going.still }
+    record { heard = heard; cut = record { spelled = heard.spelled; none_whole = subst N (sym f.1.0) (subst (λ (r : LineReading). NoneWholeBy r (after.held ++ rest)) going.reads_alike f.0.none_whole) }; same = f.1.1 ∙ sym runs ∙ going.same; reads_alike = f.2 ∙ going.reads_alike; still = going.still }
 
 -- a message was not heard, or its answers were not written whole
 pub going_unanswered : {S : Type 0} {step : S → Message → Answered → S → Type 0} {before after : StreamState} {piece rest : List ℕ} {old middle : S} {first now : Option (List ℕ)} {sent : Bool} (apdu : Message) (taken : ℕ) (fresh : StreamState) (new : S) (last : Option (List ℕ)) (fault : LineFault) → Going step before piece after rest old middle first now sent → Feeds after rest (fed.Message apdu taken) fresh → Unanswered step fault middle apdu new now last → (written : List ℕ) × Appends first last written × Breaks step fault before piece fresh old new written
@@ -82,7 +80,7 @@ going_unanswered {S = S} {step = step} {before = before} {after = after} {piece 
     answer = u.answer;
     part = u.part;
     rest = drop taken rest;
-    spelled = spelled_append_in before.reading going.heard.messages (apdu ∷ []) (before.held ++ piece) (after.held ++ rest) (drop taken rest) going.heard.spelled (after.held ++ take taken rest, drop taken rest, split after.held rest taken, subst (λ (r : Reading). Spells r apdu (after.held ++ take taken rest)) going.reads_alike f.2, refl);
+    spelled = spelled_append_by before.reading going.heard.messages (apdu ∷ []) (before.held ++ piece) (after.held ++ rest) (drop taken rest) going.heard.spelled (after.held ++ take taken rest, drop taken rest, split after.held rest taken, subst (λ (r : LineReading). Reads r apdu (after.held ++ take taken rest)) going.reads_alike f.2, refl);
     heard = hears_append step old middle new going.heard.messages (apdu ∷ []) going.heard.answers (u.answer ∷ []) going.heard.heard (new, u.heard, refl);
     answered = ap (λ z. z ++ u.part) going.heard.answered;
     some_part = u.some_part;
@@ -104,34 +102,34 @@ keeps_consumes (Some xs) None k = absurd k
 keeps_consumes (Some xs) (Some ys) k = sym k
 
 -- nothing was read
-pub course_none : {S : Type 0} (step : S → Message → Answered → S → Type 0) (s : StreamState) (m : S) → UnfinishedIn s.reading s.held → Course step s [] s m m [] false
+pub course_none : {S : Type 0} (step : S → Message → Answered → S → Type 0) (s : StreamState) (m : S) → UnfinishedBy s.reading s.held → Course step s [] s m m [] false
 course_none step s m u =
     let P : List ℕ → Type 0 = λ b. Heard s.reading step b m s.held m [] false in
     let h : Heard s.reading step (s.held ++ []) m s.held m [] false = subst P (sym (append-nil s.held)) (heard_none s.reading step s.held m) in
     record { heard = h; cut = record { spelled = h.spelled; none_whole = u.none_whole }; same = refl; reads_alike = refl; still = λ e. (refl, refl) }
 
-pub broken_read : {S : Type 0} (step : S → Message → Answered → S → Type 0) (s : StreamState) (m : S) (coming left first : Option (List ℕ)) → UnfinishedIn s.reading s.held → Keeps coming left → Broken step faults.Read s s m m coming left first first
+pub broken_read : {S : Type 0} (step : S → Message → Answered → S → Type 0) (s : StreamState) (m : S) (coming left first : Option (List ℕ)) → UnfinishedBy s.reading s.held → Keeps coming left → Broken step faults.Read s s m m coming left first first
 broken_read step s m coming left first u k = record { read = []; written = []; consumed = keeps_consumes coming left k; appended = appends_none first; breaks = (false, course_none step s m u); ended = tt }
 
-pub broken_end : {S : Type 0} (step : S → Message → Answered → S → Type 0) (s : StreamState) (m : S) (coming left first : Option (List ℕ)) (have count : ℕ) (buffer : List ℕ) → UnfinishedIn s.reading s.held → count ≡ 0 → have ≡ length s.held → Consumes coming left (take count buffer) → IsAtEnd left → Broken step (faults.Ended have) s s m m coming left first first
+pub broken_end : {S : Type 0} (step : S → Message → Answered → S → Type 0) (s : StreamState) (m : S) (coming left first : Option (List ℕ)) (have count : ℕ) (buffer : List ℕ) → UnfinishedBy s.reading s.held → count ≡ 0 → have ≡ length s.held → Consumes coming left (take count buffer) → IsAtEnd left → Broken step (faults.Ended have) s s m m coming left first first
 broken_end step s m coming left first have count buffer u z h k e =
     let P : ℕ → Type 0 = λ n. Consumes coming left (take n buffer) in
     record { read = []; written = []; consumed = subst P z k; appended = appends_none first; breaks = (false, course_none step s m u, h); ended = e }
 
 -- Pumped before, and then pumped or broken.
-pub pumped_starts : {S : Type 0} (step : S → Message → Answered → S → Type 0) (s : StreamState) (m : S) (coming first : Option (List ℕ)) → UnfinishedIn s.reading s.held → Pumped step s s m m coming coming first first false
+pub pumped_starts : {S : Type 0} (step : S → Message → Answered → S → Type 0) (s : StreamState) (m : S) (coming first : Option (List ℕ)) → UnfinishedBy s.reading s.held → Pumped step s s m m coming coming first first false
 pumped_starts step s m coming first u = record { read = []; written = []; consumed = consumes_none coming; appended = appends_none first; course = course_none step s m u }
 
 -- what was heard in two parts of what was read
 longer : {S : Type 0} {step : S → Message → Answered → S → Type 0} {before after : StreamState} {old middle new : S} {read w w' rest : List ℕ} {a b : Bool} (more : List ℕ) → Course step before read after old middle w a → Heard after.reading step (after.held ++ more) middle rest new w' b → Heard before.reading step (before.held ++ (read ++ more)) old rest new (w ++ w') (a || b)
 longer {step = step} {before = before} {after = after} {old = old} {middle = middle} {new = new} {read = read} {w = w} {w' = w'} {rest = rest} {a = a} {b = b} more c h =
     let P : List ℕ → Type 0 = λ bytes. Heard before.reading step bytes old rest new (w ++ w') (a || b) in
-    subst P (append_assoc before.held read more) (heard_then (heard_longer more c.heard) (subst (λ (r : Reading). Heard r step (after.held ++ more) middle rest new w' b) c.reads_alike h))
+    subst P (append_assoc before.held read more) (heard_then (heard_longer more c.heard) (subst (λ (r : LineReading). Heard r step (after.held ++ more) middle rest new w' b) c.reads_alike h))
 
 pub course_more : {S : Type 0} {step : S → Message → Answered → S → Type 0} {before after end : StreamState} {old middle new : S} {read more w w' : List ℕ} {a b : Bool} → Course step before read after old middle w a → Course step after more end middle new w' b → Course step before (read ++ more) end old new (w ++ w') (a || b)
 course_more {end = end} {more = more} {w' = w'} c d = let h = longer more c d.heard in record {
   heard = h;
-  cut = record { spelled = h.spelled; none_whole = subst (λ (r : Reading). NoneWholeIn r end.held) c.reads_alike d.cut.none_whole };
+  cut = record { spelled = h.spelled; none_whole = subst (λ (r : LineReading). NoneWholeBy r end.held) c.reads_alike d.cut.none_whole };
   same = d.same ∙ c.same;
   reads_alike = d.reads_alike ∙ c.reads_alike;
   still = λ e. let h = c.still e in let k = d.still (c.same ∙ e) in (h.0 ∙ k.0, ap (λ z. z ++ w') h.1 ∙ k.1);
@@ -150,7 +148,7 @@ breaks_more : {S : Type 0} {step : S → Message → Answered → S → Type 0} 
 breaks_more {a = a} faults.Read end new more w' c h = (a || h.0, course_more c h.1)
 breaks_more {a = a} (faults.Ended have) end new more w' c h = (a || h.0, course_more c h.1, h.2)
 breaks_more {a = a} faults.Turns end new more w' c h = (a || h.0, course_more c h.1)
-breaks_more {a = a} (faults.Malformed place why) end new more w' c h = (a || h.0, h.1, longer more c h.2, subst (λ (r : Reading). IsRefusedIn r h.1 place why) c.reads_alike h.3, h.4)
+breaks_more {a = a} (faults.Malformed place why) end new more w' c h = (a || h.0, h.1, longer more c h.2, subst (λ (r : LineReading). IsRefusedBy r h.1 place why) c.reads_alike h.3, h.4)
 breaks_more {a = a} faults.Memory end new more w' c h = (a || h.0, h.1, longer more c h.2)
 breaks_more {S = S} {step = step} {before = before} {after = after} {old = old} {middle = middle} {read = read} {w = w} faults.Write end new more w' c h = record {
   messages = c.heard.messages ++ h.messages;
@@ -160,9 +158,9 @@ breaks_more {S = S} {step = step} {before = before} {after = after} {old = old} 
   part = h.part;
   rest = h.rest;
   spelled =
-      let all : SpelledIn before.reading (before.held ++ read ++ more) (c.heard.messages ++ (h.messages ++ h.last ∷ [])) h.rest = spelled_append_in before.reading c.heard.messages (h.messages ++ h.last ∷ []) (before.held ++ read ++ more) (after.held ++ more) h.rest (spelled_more_in before.reading c.heard.messages (before.held ++ read) after.held more c.heard.spelled) (subst (λ (r : Reading). SpelledIn r (after.held ++ more) (h.messages ++ h.last ∷ []) h.rest) c.reads_alike h.spelled) in
-      let P : List ℕ → Type 0 = λ b. SpelledIn before.reading b (c.heard.messages ++ (h.messages ++ h.last ∷ [])) h.rest in
-      let Q : List Message → Type 0 = λ ms. SpelledIn before.reading (before.held ++ (read ++ more)) ms h.rest in
+      let all : SpelledBy before.reading (before.held ++ read ++ more) (c.heard.messages ++ (h.messages ++ h.last ∷ [])) h.rest = spelled_append_by before.reading c.heard.messages (h.messages ++ h.last ∷ []) (before.held ++ read ++ more) (after.held ++ more) h.rest (spelled_more_by before.reading c.heard.messages (before.held ++ read) after.held more c.heard.spelled) (subst (λ (r : LineReading). SpelledBy r (after.held ++ more) (h.messages ++ h.last ∷ []) h.rest) c.reads_alike h.spelled) in
+      let P : List ℕ → Type 0 = λ b. SpelledBy before.reading b (c.heard.messages ++ (h.messages ++ h.last ∷ [])) h.rest in
+      let Q : List Message → Type 0 = λ ms. SpelledBy before.reading (before.held ++ (read ++ more)) ms h.rest in
       subst Q (sym (append_assoc c.heard.messages h.messages (h.last ∷ []))) (subst P (append_assoc before.held read more) all);
   heard =
       let all : Hears step old (c.heard.messages ++ (h.messages ++ h.last ∷ [])) (c.heard.answers ++ (h.answers ++ h.answer ∷ [])) new = hears_append step old middle new c.heard.messages (h.messages ++ h.last ∷ []) c.heard.answers (h.answers ++ h.answer ∷ []) c.heard.heard h.heard in

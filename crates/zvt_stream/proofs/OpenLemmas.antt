@@ -21,7 +21,7 @@ use Rattle.zvt_apdu.proofs.Frames.{frame_of}
 use Rattle.zvt_apdu.proofs.OneMessage.{messages_end_themselves}
 use Rattle.zvt_apdu.proofs.Positions.{refusals_are_one}
 use Rattle.zvt_stream.specs.Apdus.{AliveIn, UnfinishedIn, SpelledIn, IsRefusedIn}
-use Rattle.zvt_stream.specs.OpenReading.{EachLineIsCut, IsFrame, OpenCutIn, OpenCutsAreOne, OpenIsStrict, OpenItem, OpenSpells, read, unread}
+use Rattle.zvt_stream.specs.OpenReading.{EachLineIsCut, IsFramed, OpenCutIn, OpenCutsAreOne, OpenIsStrict, OpenItem, OpenSpells, read, unread}
 use Rattle.zvt_stream.proofs.Beginnings.{nothing_in, prefix_alive_in}
 use Rattle.zvt_stream.proofs.FeedLemmas.{refused_more}
 use Rattle.zvt_stream.proofs.JudgeLemmas.{refuses_at}
@@ -61,16 +61,12 @@ padded_length r n (a ∷ b ∷ []) s = s
 padded_length r n (a ∷ low ∷ high ∷ []) s = (s.0, omega arith, s.2, s.3, s.4)
 padded_length r n (a ∷ b ∷ c ∷ d ∷ more) s = s
 
--- some bytes are a frame
-abbrev pub Framed : List ℕ → Type 0
-Framed bytes = (high : ℕ) × (low : ℕ) × IsFrame high low bytes
-
-message_frame : (r : Reading) (m : Message) (b : List ℕ) → Spells r m b → Framed b
+pub message_frame : (r : Reading) (m : Message) (b : List ℕ) → Spells r m b → IsFramed b
 message_frame r m b p =
     let f = frame_of r m b p in
     (f.high, f.low, record { size = f.size; content = f.content; whole = f.whole; are_bytes = f.are_bytes; is_size = padded_length r (length f.content) f.size f.is_size })
 
-item_frame : (r : Reading) (item : OpenItem) (b : List ℕ) → OpenSpells r item b → Framed b
+pub item_frame : (r : Reading) (item : OpenItem) (b : List ℕ) → OpenSpells r item b → IsFramed b
 item_frame r (read m) b p = message_frame r m b p
 item_frame r (unread high low size place byte why) b p = (high, low, p.0)
 
@@ -79,7 +75,7 @@ pub record SameFrame (high low k l : ℕ) (a b : List ℕ) : Type 0 where
   pub lows : low ≡ l
   pub same : a ≡ b
 
-frames_end : (a b x y : List ℕ) (f : Framed a) (g : Framed b) → a ++ x ≡ b ++ y → SameFrame f.0 f.1 g.0 g.1 a b
+pub frames_end : (a b x y : List ℕ) (f : IsFramed a) (g : IsFramed b) → a ++ x ≡ b ++ y → SameFrame f.0 f.1 g.0 g.1 a b
 frames_end a b x y (high, low, f) (k, l, g) e =
     let whole : high ∷ low ∷ (f.size ++ (f.content ++ x)) ≡ k ∷ l ∷ (g.size ++ (g.content ++ y)) =
     sym (ap (λ (s : List ℕ). high ∷ low ∷ s) (append_assoc f.size f.content x)) ∙ sym (ap (λ (s : List ℕ). s ++ x) f.whole) ∙ e ∙ ap (λ (s : List ℕ). s ++ y) g.whole ∙ ap (λ (s : List ℕ). k ∷ l ∷ s) (append_assoc g.size g.content y) in
@@ -126,7 +122,7 @@ decided r (x ∷ more) before u are = stands (λ v. decided r more (before ++ x 
     stands others p = by_fault others p.0 p.1 p.2 (fault r p.1 x) refl
 
 -- a frame is a message, or is refused
-frame_item : (r : Reading) (b : List ℕ) → Framed b → AreBytes b → (item : OpenItem) × OpenSpells r item b
+pub frame_item : (r : Reading) (b : List ℕ) → IsFramed b → AreBytes b → (item : OpenItem) × OpenSpells r item b
 frame_item r b f are = by_decision (decided r b [] (nothing_in r) are)
   where
     by_rest : (m : Message) (rest : List ℕ) → Spells r m (b ++ rest) → (item : OpenItem) × OpenSpells r item b
@@ -145,8 +141,8 @@ frame_item r b f are = by_decision (decided r b [] (nothing_in r) are)
 -- ---- the first frame
 
 pub data Opens (bytes : List ℕ) : Type 0 where
-  framed : (prefix later : List ℕ) → bytes ≡ prefix ++ later → Framed prefix → Opens bytes
-  short : (more : List ℕ) → 0 < length more → AreBytes more → Framed (bytes ++ more) → Opens bytes
+  framed : (prefix later : List ℕ) → bytes ≡ prefix ++ later → IsFramed prefix → Opens bytes
+  short : (more : List ℕ) → 0 < length more → AreBytes more → IsFramed (bytes ++ more) → Opens bytes
 
 -- after a length
 with_length : (h l n : ℕ) (size content : List ℕ) → (h < 256) × (l < 256) → IsFrameLength padded n size → Opens (h ∷ l ∷ (size ++ content))
@@ -165,7 +161,7 @@ with_length h l n size content small is = by_size (cases_lt (length content) n)
         framed (h ∷ l ∷ (size ++ first)) (drop n content) (ap (λ (s : List ℕ). h ∷ l ∷ s) whole)
         (h, l, record { size = size; content = first; whole = refl; are_bytes = small; is_size = subst (λ (k : ℕ). IsFrameLength padded k size) (sym many) is })
 
-opens : (bytes : List ℕ) → AreBytes bytes → Opens bytes
+pub opens : (bytes : List ℕ) → AreBytes bytes → Opens bytes
 opens [] are = short (0 ∷ 0 ∷ 0 ∷ []) (omega arith) (omega arith, (omega arith, (omega arith, tt))) (0, 0, record { size = 0 ∷ []; content = []; whole = refl; are_bytes = (omega arith, omega arith); is_size = (omega arith, refl) })
 opens (h ∷ []) are = short (0 ∷ 0 ∷ []) (omega arith) (omega arith, (omega arith, tt)) (h, 0, record { size = 0 ∷ []; content = []; whole = refl; are_bytes = (are.0, omega arith); is_size = (omega arith, refl) })
 opens (h ∷ l ∷ []) are = short (0 ∷ []) (omega arith) (omega arith, tt) (h, l, record { size = 0 ∷ []; content = []; whole = refl; are_bytes = (are.0, are.1.0); is_size = (omega arith, refl) })
@@ -184,7 +180,7 @@ opens (h ∷ l ∷ s ∷ more) are = by_byte (cases_lt s 255)
     by_byte (inr le) = long (omega (arith, le, are.1.1.0)) more refl are.1.1.1
 
 -- where a frame is incomplete, no item is whole
-pub none_yet : (r : Reading) (bytes more : List ℕ) → 0 < length more → Framed (bytes ++ more) → NoneWhole (OpenSpells r) bytes
+pub none_yet : (r : Reading) (bytes more : List ℕ) → 0 < length more → IsFramed (bytes ++ more) → NoneWhole (OpenSpells r) bytes
 none_yet r bytes more some f item prefix rest e p =
     let same = (frames_end prefix (bytes ++ more) (rest ++ more) [] (item_frame r item prefix p) f
     (sym (append_assoc prefix rest more) ∙ ap (λ (s : List ℕ). s ++ more) (sym e) ∙ sym (append-nil (bytes ++ more)))).same in
@@ -192,7 +188,7 @@ none_yet r bytes more some f item prefix rest e p =
 
 -- ---- laws
 
-ends_itself : (r : Reading) → EndThemselves (OpenSpells r)
+pub ends_itself : (r : Reading) → EndThemselves (OpenSpells r)
 ends_itself r (read m) (read n) a b x y p q e = let one = messages_end_themselves r m n a b x y p q e in (ap read one.0, one.1)
 ends_itself r (read m) (unread high low size place byte why) a b x y p q e =
     let same = (frames_end a b x y (message_frame r m a p) (high, low, q.0) e).same in
@@ -214,7 +210,7 @@ open_cuts_are_one r = record { one = cuts_are_one (OpenSpells r) (ends_itself r)
 abbrev IsCut : Reading → List ℕ → Type 0
 IsCut r bytes = (items : List OpenItem) × (rest : List ℕ) × OpenCutIn r bytes items rest × Alive (OpenSpells r) rest
 
-frame_some : (b : List ℕ) → Framed b → 0 < length b
+frame_some : (b : List ℕ) → IsFramed b → 0 < length b
 frame_some b (high, low, f) = omega (arith, ap length f.whole)
 
 cut_within : (n : ℕ) (r : Reading) (bytes : List ℕ) → length bytes < n → AreBytes bytes → IsCut r bytes

@@ -1,13 +1,15 @@
 -- Rows of the open reading, worked by hand.
-use Rattle.std.proofs.Common.{ℕ, false, List, [], ◌∷◌, ◌++◌, refl, arith}
-use Rattle.zvt_grammar.specs.Reading.{padded, shortest}
-use Rattle.zvt_grammar.specs.declared.why.Why.TheVariants.{NotShortest, UnknownField}
+use Rattle.std.proofs.Common.{◌≡◌, ℕ, false, List, [], ◌∷◌, ◌++◌, refl, arith}
+use Rattle.zvt_grammar.specs.Reading.{shortest}
+use Rattle.zvt_grammar.specs.declared.why.Why.TheVariants.{UnknownField}
 use Rattle.zvt_field.specs.Shapes.{shape_of}
 use Rattle.zvt_field.specs.Grammar.{plain}
 use Rattle.zvt_field.specs.Judging.{name}
 use Rattle.zvt_apdu.specs.Grammar.{form_of, Spells}
 use Rattle.zvt_apdu.specs.Judging.{Position, in_fields}
-use Rattle.zvt_apdu.specs.Message.{ack, completion}
+use Rattle.zvt_apdu.specs.Kinds.{kind_at}
+use Rattle.zvt_apdu.specs.Message.{abort, ack, completion, other, status}
+use Rattle.zvt_stream.specs.LineReading.{Reads, openly, stand_in}
 use Rattle.zvt_stream.specs.OpenReading.{IsFrame, OpenSpells, read, unread}
 use Rattle.zvt_stream.proofs.FeedLemmas.{refused_more}
 use Rattle.zvt_stream.proofs.JudgeLemmas.{refuses_at}
@@ -64,6 +66,32 @@ an_enquiry = (
       (longer_unfinished shortest (completion (plain 0x22 (0x55 ∷ []) ∷ [])) (0x06 ∷ 0x0F ∷ 0x04 ∷ []) (0xF0 ∷ 0xF1 ∷ 0x55 ∷ []) 0x22 a_completion) at_a_name refl),
   refl,
 )
+
+-- an open line reads it as a completion without fields
+an_unread_completion : Reads (openly shortest) (completion []) ((0x06 ∷ 0x0F ∷ 0x04 ∷ 0xF0 ∷ []) ++ 0xF0 ∷ 0xF0 ∷ 0x00 ∷ [])
+unfolding kind_at
+an_unread_completion = (unread 0x06 0x0F 7 3 0xF0 UnknownField, an_enquiry, refl)
+
+-- and a message as itself
+a_read_ack : Reads (openly shortest) (ack []) (0x80 ∷ 0x00 ∷ 0x00 ∷ [])
+a_read_ack = (read (ack []), an_ack, refl)
+
+-- 04 0F, 06 1E, 06 D1 and 06 01: a status without fields, an abort with the code FF, and twice what nobody expects
+an_unread_status : stand_in (kind_at 0x04 0x0F) ≡ status []
+unfolding kind_at
+an_unread_status = refl
+
+an_unread_abort : stand_in (kind_at 0x06 0x1E) ≡ abort 0xFF []
+unfolding kind_at
+an_unread_abort = refl
+
+an_unread_line : stand_in (kind_at 0x06 0xD1) ≡ other 0xFF 0xFF []
+unfolding kind_at
+an_unread_line = refl
+
+an_unread_order : stand_in (kind_at 0x06 0x01) ≡ other 0xFF 0xFF []
+unfolding kind_at
+an_unread_order = refl
 
 -- 80 00 FF 00 00: a padded length ends a frame, too
 a_padded_frame : IsFrame 0x80 0x00 (0x80 ∷ 0x00 ∷ 0xFF ∷ 0x00 ∷ 0x00 ∷ [])

@@ -3,7 +3,7 @@ use Rattle.std.proofs.Common.{◌≡◌, inl, inr, ℕ, ◌+◌, ◌<◌, ◌≤
 use Rattle.std.specs.Prelude.{IfErr, IfOk, IsOk, MatchResult, OnOk}
 use Rattle.std.specs.Io.KnownBytes.{Appends, Consumes}
 use Rattle.zvt_apdu.specs.Message.{Message}
-use Rattle.zvt_stream.specs.Apdus.{UnfinishedIn}
+use Rattle.zvt_stream.specs.LineReading.{UnfinishedBy}
 use Rattle.zvt_stream.specs.Answered.{Answered}
 use Rattle.zvt_stream.specs.EndState.{EndState, NoneFails, OneFails}
 use Rattle.zvt_stream.specs.LineRun.{Breaks, Broken, Course, EndsAt, IsPieceFault, Pumped, Reported, failed_reads, failed_writes, reached, there_at_once}
@@ -72,7 +72,7 @@ module _ {S : Type 0} (hears : S → Message → Answered → S → Type 0) (res
     pub reads : now.reads ≡ before.reads + made
     pub none_fails : NoneFails before now
 
-  pub starts : (before : EndState) (old : S) → UnfinishedIn before.stream.reading before.stream.held → UnderWay 0 false before old before old
+  pub starts : (before : EndState) (old : S) → UnfinishedBy before.stream.reading before.stream.held → UnderWay 0 false before old before old
   starts before old u = record { pumped = pumped_starts hears before.stream old before.coming before.written u; waited = refl; reads = omega arith; none_fails = record { reads = refl; writes = refl } }
 
   one_more : (a b : Bool) (now after : EndState) (middle new : S) → TurnMade hears b now middle after new → Turned hears (line_after now middle a) (line_after after new (a || b))

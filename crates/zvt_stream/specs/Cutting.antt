@@ -2,7 +2,7 @@
 use Rattle.std.specs.Prelude.{◌≡◌, ℕ, List, [], ◌∷◌, ◌++◌, drop}
 use Rattle.std.specs.List.{concat}
 use Rattle.zvt_apdu.specs.Message.{Message}
-use Rattle.zvt_stream.specs.Apdus.{CutIn, IsRefusedIn}
+use Rattle.zvt_stream.specs.LineReading.{CutBy, IsRefusedBy}
 use Rattle.zvt_grammar.specs.declared.why.Why.{Why}
 use Rattle.zvt_stream.specs.StreamState.{StreamState, Holds}
 use Rattle.zvt_stream.specs.Feeds.{Feeds}
@@ -20,7 +20,7 @@ FedPieces old (piece ∷ pieces) messages new = (here : List Message) × (later 
 
 -- However a line is cut into pieces, its bytes decide its messages.
 abbrev pub AnyCutting : Type 0
-AnyCutting = (start : StreamState) (pieces : List (List ℕ)) (messages : List Message) (new : StreamState) → Holds [] start → FedPieces start pieces messages new → CutIn start.reading (concat pieces) messages new.held
+AnyCutting = (start : StreamState) (pieces : List (List ℕ)) (messages : List Message) (new : StreamState) → Holds [] start → FedPieces start pieces messages new → CutBy start.reading (concat pieces) messages new.held
 
 -- A piece is fed, and after each message the rest of it, until bytes are refused.
 abbrev pub FedRefused : StreamState → List ℕ → List Message → ℕ → Why → Type 0
@@ -29,4 +29,4 @@ FedRefused old piece (message ∷ messages) place why = (taken : ℕ) × (middle
 
 -- However a line is cut into pieces, the bytes after its last message are refused.
 abbrev pub AnyRefusal : Type 0
-AnyRefusal = (start : StreamState) (pieces : List (List ℕ)) (piece : List ℕ) (messages more : List Message) (new : StreamState) (place : ℕ) (why : Why) → Holds [] start → FedPieces start pieces messages new → FedRefused new piece more place why → (rest : List ℕ) × CutIn start.reading (concat pieces ++ piece) (messages ++ more) rest × IsRefusedIn start.reading rest place why
+AnyRefusal = (start : StreamState) (pieces : List (List ℕ)) (piece : List ℕ) (messages more : List Message) (new : StreamState) (place : ℕ) (why : Why) → Holds [] start → FedPieces start pieces messages new → FedRefused new piece more place why → (rest : List ℕ) × CutBy start.reading (concat pieces ++ piece) (messages ++ more) rest × IsRefusedBy start.reading rest place why

@@ -1,5 +1,5 @@
 -- The judge as its callers see it, and what it answers.
-use Rattle.std.specs.Prelude.{◌≡◌, Bool, true, false, ℕ, ◌+◌, ◌<◌, ◌≤◌, suc, zero, Option, Some, None, Result, Ok, Err, List, [], ◌∷◌, ◌++◌, length, min, take}
+use Rattle.std.specs.Prelude.{◌≡◌, ◌⊎◌, Bool, true, false, ℕ, ◌+◌, ◌<◌, ◌≤◌, suc, zero, Option, Some, None, Result, Ok, Err, List, [], ◌∷◌, ◌++◌, length, min, take}
 use Rattle.zvt_grammar.specs.declared.why.Why.{Why}
 use Rattle.zvt_grammar.specs.Reading.{Reading, shortest}
 use Rattle.zvt_apdu.specs.Message.{Message}
@@ -7,6 +7,7 @@ use Rattle.zvt_apdu.specs.Grammar.{Spells}
 use Rattle.zvt_tlv.specs.Judging.{Opener}
 use Rattle.zvt_apdu.specs.Judging.{Role, first_control, second_control, first_size, low_size, high_size, free, digit, in_fields, Position}
 use Rattle.zvt_stream.specs.Apdus.{UnfinishedIn, IsRefusedIn}
+use Rattle.zvt_stream.specs.LineReading.{LineReading, openly, strictly}
 use Rattle.zvt_stream.specs.DecoderState.{Where, IsFull, depth_of, role_of}
 use Rattle.zvt_stream.specs.Parts.{At}
 use Rattle.zvt_stream.specs.Parts as at
@@ -129,6 +130,11 @@ HasLevelsIn r bytes levels = (openers : List Opener) × (role : Role) × Positio
 
 abbrev pub HasLevels : (bytes : List ℕ) → ℕ → Type 0
 HasLevels = HasLevelsIn shortest
+
+-- Of a frame that is not read, the frame alone is open.
+abbrev pub HasLevelsBy : LineReading → (bytes : List ℕ) → ℕ → Type 0
+HasLevelsBy (strictly r) bytes levels = HasLevelsIn r bytes levels
+HasLevelsBy (openly r) bytes levels = HasLevelsIn r bytes levels ⊎ (((place : ℕ) × (why : Why) × IsRefusedIn r bytes place why) × (levels ≡ 1))
 
 -- The levels that still lack bytes, without the full ones.
 abbrev pub unfilled : (left : ℕ) → (outer : List ℕ) → Option (ℕ × List ℕ)

@@ -4,23 +4,26 @@ use mathlib.Core.HLevel.{Π_prop}
 use Rattle.std.proofs.Common.{refl}
 use Rattle.zvt_apdu.specs.Message.{Message}
 use Rattle.zvt_apdu.specs.Views.{MessageBytes, message_once}
+use Rattle.zvt_stream.specs.Head.{head_of}
+use Rattle.zvt_stream.specs.LineReading.{kind_named, stand_in}
 
 -- The stored bytes, and the capacity.
 pub record HeldState : Type 0 where
   pub bytes : List ℕ
   pub room : ℕ
 
--- Lent bytes spell a message.
-abbrev pub LentBytes : (has_message : Bool) → List ℕ → Type 0
-LentBytes has_message bytes = has_message ≡ true → MessageBytes bytes
+-- Lent bytes spell a message, unless they were refused.
+abbrev pub LentBytes : (has_message refused : Bool) → List ℕ → Type 0
+LentBytes has_message refused bytes = has_message ≡ true → refused ≡ false → MessageBytes bytes
 
-pub lent_once : (has_message : Bool) (bytes : List ℕ) → (a b : LentBytes has_message bytes) → a ≡ b
-lent_once has_message bytes = Π_prop (λ _. message_once bytes)
+pub lent_once : (has_message refused : Bool) (bytes : List ℕ) → (a b : LentBytes has_message refused bytes) → a ≡ b
+lent_once has_message refused bytes = Π_prop (λ _. Π_prop (λ _. message_once bytes))
 
--- The lent message.
-abbrev pub lent_of : (has_message : Bool) → (bytes : List ℕ) → LentBytes has_message bytes → Option Message
-lent_of true bytes spelled = Some (spelled refl).0
-lent_of false bytes spelled = None
+-- The lent message: that of the bytes, or the one that a refused frame counts as.
+abbrev pub lent_of : (has_message refused : Bool) → (bytes : List ℕ) → LentBytes has_message refused bytes → Option Message
+lent_of true false bytes spelled = Some (spelled refl refl).0
+lent_of true true bytes spelled = Some (stand_in (kind_named (head_of bytes)))
+lent_of false refused bytes spelled = None
 
 -- The held bytes of an unfinished message: none while a message is lent.
 abbrev pub held_of : (has_message : Bool) → List ℕ → List ℕ

@@ -1,9 +1,11 @@
 pub mod Apdus
+pub mod Head
+pub mod OpenReading
+pub mod LineReading
 pub mod StreamState
 pub mod Lending
 pub mod Feeds
 pub mod Cutting
-pub mod OpenReading
 pub mod Answered
 pub mod Hearing
 pub mod Replies
@@ -14,5 +16,5 @@ pub mod Pumping
 pub mod DecoderState
 pub mod Moves
 pub mod Parts
-pub mod Head
 pub mod Judge
+pub mod Passing

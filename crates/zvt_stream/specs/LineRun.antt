@@ -2,9 +2,8 @@
 use Rattle.std.specs.Prelude.{◌≡◌, ℕ, Bool, true, false, ◌||◌, List, [], ◌∷◌, ◌++◌, length, Option}
 use Rattle.std.specs.Io.KnownBytes.{Consumes, Appends, IsAtEnd}
 use Rattle.zvt_io.specs.Devices.{IsPrefix}
-use Rattle.zvt_grammar.specs.Reading.{Reading}
 use Rattle.zvt_apdu.specs.Message.{Message}
-use Rattle.zvt_stream.specs.Apdus.{SpelledIn, CutIn, IsRefusedIn}
+use Rattle.zvt_stream.specs.LineReading.{CutBy, IsRefusedBy, LineReading, SpelledBy}
 use Rattle.zvt_stream.specs.StreamState.{StreamState, HasRefused}
 use Rattle.zvt_stream.specs.Answered.{Answered, bytes_of}
 use Rattle.zvt_stream.specs.Hearing.{Hears, Heard}
@@ -16,21 +15,21 @@ use Rattle.zvt_stream.specs.declared.line.Until.TheVariants.{Rest, Sent}
 -- All messages of the bytes held before and the bytes read were heard and answered, and the rest is held.
 pub record Course {S : Type 0} (step : S → Message → Answered → S → Type 0) (before : StreamState) (read : List ℕ) (after : StreamState) (old new : S) (written : List ℕ) (sent : Bool) : Type 0 where
   pub heard : Heard before.reading step (before.held ++ read) old after.held new written sent
-  pub cut : CutIn before.reading (before.held ++ read) heard.messages after.held
+  pub cut : CutBy before.reading (before.held ++ read) heard.messages after.held
   pub same : after.stopped ≡ before.stopped
   pub reads_alike : after.reading ≡ before.reading
   -- on a stream that has refused nothing is heard
   pub still : before.stopped ≡ true → (old ≡ new) × (written ≡ [])
 
 -- The answers to the last message could not be written completely. All earlier answers were.
-pub record CutOff {S : Type 0} (r : Reading) (step : S → Message → Answered → S → Type 0) (bytes : List ℕ) (old new : S) (written : List ℕ) : Type 0 where
+pub record CutOff {S : Type 0} (l : LineReading) (step : S → Message → Answered → S → Type 0) (bytes : List ℕ) (old new : S) (written : List ℕ) : Type 0 where
   pub messages : List Message
   pub answers : List Answered
   pub last : Message
   pub answer : Answered
   pub part : List ℕ
   pub rest : List ℕ
-  pub spelled : SpelledIn r bytes (messages ++ last ∷ []) rest
+  pub spelled : SpelledBy l bytes (messages ++ last ∷ []) rest
   pub heard : Hears step old (messages ++ last ∷ []) (answers ++ answer ∷ []) new
   pub answered : written ≡ bytes_of answers ++ part
   pub some_part : IsPrefix part answer.bytes
@@ -40,7 +39,7 @@ abbrev pub Breaks : {S : Type 0} → (S → Message → Answered → S → Type 
 Breaks step Read before read after old new written = (sent : Bool) × Course step before read after old new written sent
 Breaks step (Ended have) before read after old new written = (sent : Bool) × Course step before read after old new written sent × (have ≡ length after.held)
 Breaks step Turns before read after old new written = (sent : Bool) × Course step before read after old new written sent
-Breaks step (Malformed place why) before read after old new written = (sent : Bool) × (rest : List ℕ) × Heard before.reading step (before.held ++ read) old rest new written sent × IsRefusedIn before.reading rest place why × HasRefused after
+Breaks step (Malformed place why) before read after old new written = (sent : Bool) × (rest : List ℕ) × Heard before.reading step (before.held ++ read) old rest new written sent × IsRefusedBy before.reading rest place why × HasRefused after
 Breaks step Memory before read after old new written = (sent : Bool) × (rest : List ℕ) × Heard before.reading step (before.held ++ read) old rest new written sent
 Breaks step Write before read after old new written = CutOff before.reading step (before.held ++ read) old new written
 Breaks step Stopped before read after old new written = (before.stopped ≡ true) × (old ≡ new) × (written ≡ [])

@@ -17,6 +17,10 @@ pub record IsFrame (high low : ℕ) (bytes : List ℕ) : Type 0 where
   pub are_bytes : (high < 256) × (low < 256)
   pub is_size : IsFrameLength padded (length content) size
 
+-- Some bytes are a frame.
+abbrev pub IsFramed : List ℕ → Type 0
+IsFramed bytes = (high : ℕ) × (low : ℕ) × IsFrame high low bytes
+
 -- A message, or a frame that holds none: its control bytes, its size, and where and why it is refused: the place of the
 -- fatal byte, the byte, and the reason.
 pub data OpenItem : Type 0 where

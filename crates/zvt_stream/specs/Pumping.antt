@@ -2,7 +2,7 @@
 -- machine before and after.
 use Rattle.std.specs.Prelude.{◌≡◌, ◌≢◌, ◌⊎◌, ℕ, ◌+◌, ◌<◌, ◌≤◌, length, Bool, true, false, Result, Ok, Err}
 use Rattle.zvt_apdu.specs.Message.{Message}
-use Rattle.zvt_stream.specs.Apdus.{UnfinishedIn}
+use Rattle.zvt_stream.specs.LineReading.{UnfinishedBy}
 use Rattle.zvt_stream.specs.Answered.{Answered}
 use Rattle.zvt_stream.specs.EndState.{EndState, NoneFails, OneFails}
 use Rattle.zvt_stream.specs.LineRun.{Broken, Pumped, Reported, reached, there_at_once}
@@ -72,7 +72,7 @@ module _ {S : Type 0} (hears : S → Message → Answered → S → Type 0) (res
     pub at_once : there_at_once until (resting old) ≡ true
     pub same_end : after ≡ before
     pub same_machine : new ≡ old
-    pub unfinished : UnfinishedIn before.stream.reading before.stream.held
+    pub unfinished : UnfinishedBy before.stream.reading before.stream.held
 
   -- The condition holds: at once, or after some turns.
   abbrev pub Comes : EndState → S → EndState → S → Type 0

@@ -5,17 +5,17 @@ use Rattle.std.specs.Coded.{Coded, code_by, coded×, coded_ℕ, coded_bool, code
 use Rattle.zvt_grammar.specs.Reading.{Reading, shortest, padded, reading}
 use Rattle.zvt_apdu.specs.Message.{Message}
 use Rattle.zvt_apdu.specs.MessageCode.{message_code}
-use Rattle.zvt_stream.specs.Apdus.{UnfinishedIn}
+use Rattle.zvt_stream.specs.LineReading.{LineReading, UnfinishedBy, is_open, lengths_of, line_reading, openly, strictly}
 
 -- The bytes of the unfinished message, whether bytes were refused, the lent message, the capacity of the buffer in bytes,
--- the number of bytes judged, the reading of lengths, and the first bytes of the refused message.
+-- the number of bytes judged, the reading, and the first bytes of the refused message.
 pub record StreamState : Type 0 where
   pub held : List ℕ
   pub stopped : Bool
   pub lent : Option Message
   pub room : ℕ
   pub judged : ℕ
-  pub reading : Reading
+  pub reading : LineReading
   pub opening : List ℕ
 
 -- Whether it takes each form of length.
@@ -23,24 +23,26 @@ abbrev pub is_padded : Reading → Bool
 is_padded shortest = false
 is_padded padded = true
 
-pub reading-back : (r : Reading) → reading (is_padded r) ≡ r
-reading-back shortest = refl
-reading-back padded = refl
+pub reading-back : (l : LineReading) → line_reading (is_open l) (reading (is_padded (lengths_of l))) ≡ l
+reading-back (strictly shortest) = refl
+reading-back (strictly padded) = refl
+reading-back (openly shortest) = refl
+reading-back (openly padded) = refl
 
 -- A state is stored as the tuple of its parts.
-abbrev pub state_parts : StreamState → List ℕ × (Bool × (Option Message × (ℕ × (ℕ × (Bool × List ℕ)))))
-state_parts s = (s.held, (s.stopped, (s.lent, (s.room, (s.judged, (is_padded s.reading, s.opening))))))
+abbrev pub state_parts : StreamState → List ℕ × (Bool × (Option Message × (ℕ × (ℕ × (Bool × (Bool × List ℕ))))))
+state_parts s = (s.held, (s.stopped, (s.lent, (s.room, (s.judged, (is_open s.reading, (is_padded (lengths_of s.reading), s.opening)))))))
 
-abbrev pub state_from : List ℕ × (Bool × (Option Message × (ℕ × (ℕ × (Bool × List ℕ))))) → StreamState
-state_from p = record { held = p.0; stopped = p.1.0; lent = p.1.1.0; room = p.1.1.1.0; judged = p.1.1.1.1.0; reading = reading p.1.1.1.1.1.0; opening = p.1.1.1.1.1.1 }
+abbrev pub state_from : List ℕ × (Bool × (Option Message × (ℕ × (ℕ × (Bool × (Bool × List ℕ)))))) → StreamState
+state_from p = record { held = p.0; stopped = p.1.0; lent = p.1.1.0; room = p.1.1.1.0; judged = p.1.1.1.1.0; reading = line_reading p.1.1.1.1.1.0 (reading p.1.1.1.1.1.1.0); opening = p.1.1.1.1.1.1.1 }
 
 pub state-back : (s : StreamState) → state_from (state_parts s) ≡ s
-state-back s = ap (λ (r : Reading). record { held = s.held; stopped = s.stopped; lent = s.lent; room = s.room; judged = s.judged; reading = r; opening = s.opening }) (reading-back s.reading)
+state-back s = ap (λ (r : LineReading). record { held = s.held; stopped = s.stopped; lent = s.lent; room = s.room; judged = s.judged; reading = r; opening = s.opening }) (reading-back s.reading)
 
 abbrev pub state_code : Coded StreamState
 state_code =
-    code_by (List ℕ × (Bool × (Option Message × (ℕ × (ℕ × (Bool × List ℕ))))))
-    (coded× (coded_list coded_ℕ) (coded× coded_bool (coded× (coded_option message_code) (coded× coded_ℕ (coded× coded_ℕ (coded× coded_bool (coded_list coded_ℕ)))))))
+    code_by (List ℕ × (Bool × (Option Message × (ℕ × (ℕ × (Bool × (Bool × List ℕ)))))))
+    (coded× (coded_list coded_ℕ) (coded× coded_bool (coded× (coded_option message_code) (coded× coded_ℕ (coded× coded_ℕ (coded× coded_bool (coded× coded_bool (coded_list coded_ℕ))))))))
     state_parts state_from state-back
 
 -- The first bytes of a message, which tell its control bytes and its size.
@@ -48,8 +50,12 @@ abbrev pub opening_of : List ℕ → List ℕ
 opening_of bytes = take 5 bytes
 
 -- A stream of this reading at the start of a line, without capacity.
+abbrev pub start_by : LineReading → StreamState
+start_by l = record { held = []; stopped = false; lent = None; room = 0; judged = 0; reading = l; opening = [] }
+
+-- The same of a strict one.
 abbrev pub start_in : Reading → StreamState
-start_in r = record { held = []; stopped = false; lent = None; room = 0; judged = 0; reading = r; opening = [] }
+start_in r = start_by (strictly r)
 
 -- The same with the shortest lengths.
 abbrev pub at_start : StreamState
@@ -72,6 +78,6 @@ abbrev pub IsReserved : StreamState → Type 0
 IsReserved s = 65540 ≤ s.room
 
 -- The held bytes are the start of a message, and a stream that has refused bytes holds none.
-pub record IsSound (r : Reading) (held : List ℕ) (stopped : Bool) : Type 0 where
-  pub unfinished : UnfinishedIn r held
+pub record IsSound (l : LineReading) (held : List ℕ) (stopped : Bool) : Type 0 where
+  pub unfinished : UnfinishedBy l held
   pub none_held : stopped ≡ true → held ≡ []

@@ -4,10 +4,18 @@
 //! since few feeds need more capacity.
 
 ghost use Rattle.std.specs.Prelude.{◌≡◌, ◌+◌, ◌<◌, ◌≤◌, [], ◌∷◌, ◌++◌, length, min, take, IfOk, IsOk, OnErr, OnOk};
+ghost use Rattle.zvt_grammar.specs.Reading.{Reading};
+ghost use Rattle.zvt_apdu.specs.Grammar.{Spells};
 ghost use Rattle.zvt_apdu.specs.Views.{MessageBytes};
+ghost use Rattle.zvt_stream.specs.Head.{head_of};
 ghost use Rattle.zvt_stream.specs.Judge.{StandsFor, Ran, kept_by, taken_by, judged_of};
+ghost use Rattle.zvt_stream.specs.LineReading.{kind_named, stand_in};
+ghost use Rattle.zvt_stream.specs.OpenReading.{IsFramed};
+ghost use Rattle.zvt_stream.specs.Passing.{NoFrame, Passes};
 
+use crate::head::Head;
 use crate::judge::{DecodeRun, Judge, Steps};
+use crate::unread::{kind_named, missing, note_bytes, stand_in};
 use std::alloc::{AllocError, Global};
 use std::marker::Model;
 
@@ -119,6 +127,62 @@ impl Held {
             DecodeRun::Refused { .. } => {}
         }
         ran
+    }
+
+    /// Takes the bytes of a frame from the piece, without judging them. Returns how many end it, or `None` if all of
+    /// the piece was taken and the frame goes on.
+    #[cold]
+    #[inline(never)]
+    pub(crate) fn pass(&mut self, piece: &[u8]) -> Option<usize>
+        requires begun { NoFrame self.old.bytes }
+        requires room { min (length self.old.bytes + length piece.now) 65540 ≤ self.old.room }
+        ensures passes { Passes self.old.bytes piece.now result self.new.bytes }
+        ensures room { self.new.room ≡ self.old.room }
+    {
+        let mut taken = 0;
+        'frame: loop {
+            let bytes = self.arrived();
+            note_bytes(bytes);
+            let lacking = missing(bytes);
+            let count = lacking.min(piece.len() - taken);
+            if lacking == 0 {
+                return Some(taken);
+            }
+            if count == 0 {
+                return None;
+            }
+            self.put(&piece[taken..taken + count]);
+            taken += count;
+        }
+    }
+
+    /// Returns the control bytes, as far as they have arrived.
+    pub(crate) fn head(&self) -> Head
+        ensures { result ≡ head_of self.now.bytes }
+    {
+        let head = Head::Empty.before(self.arrived());
+        head
+    }
+
+    /// Returns the bytes of a frame.
+    pub(crate) fn frame(&self) -> &[u8]
+        requires { IsFramed self.now.bytes }
+        ensures { result.now ≡ self.now.bytes }
+    {
+        self.arrived()
+    }
+
+    /// Returns the encoding of the message that is heard for a frame that is not read.
+    pub(crate) fn stand_in(&self) -> &[u8]
+        ensures { (r : Reading) → Spells r (stand_in (kind_named (head_of self.now.bytes))) result.now }
+    {
+        stand_in(kind_named(self.head()))
+    }
+
+    fn arrived(&self) -> &[u8]
+        ensures { result.now ≡ self.now.bytes }
+    {
+        &self.room[..self.size]
     }
 
     /// Appends bytes for which there is capacity.

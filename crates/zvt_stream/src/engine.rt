@@ -12,7 +12,7 @@ ghost use Rattle.zvt_stream.specs.Replies.{Replies, Unanswered};
 use crate::line::{LineFault, Machine, Until};
 use crate::stream::{FedView, FeedError, Stream};
 use std::alloc::Global;
-use zvt_apdu::{ApduView, view};
+use zvt_apdu::ApduView;
 use zvt_io::{Sink, Source};
 
 /// Writes all the bytes. The only possible fault is `Write`. No machine is notified of it; that is up to the caller.
@@ -55,14 +55,6 @@ fn answer<W: Sink, M: Machine>(
     }
 }
 
-// The message that the stream lends.
-fn borrowed_message(stream: &Stream) -> ApduView<'_>
-    requires { IsSome stream.now.lent }
-    ensures { Some result ≡ stream.now.lent }
-{
-    view(stream.held.spelled())
-}
-
 // Feeds a chunk: the machine hears each message that ends in it, and its answers are written before
 // the next one is heard. Returns whether any message was written.
 fn hear_piece<W: Sink, M: Machine>(
@@ -88,7 +80,7 @@ fn hear_piece<W: Sink, M: Machine>(
     'messages: loop {
         match stream.feed_view(rest) {
             Ok(FedView::Message { taken }) => {
-                sent |= answer(alloc, writer, machine, &borrowed_message(stream))?;
+                sent |= answer(alloc, writer, machine, &stream.message())?;
                 rest = &rest[taken..];
             }
             Ok(FedView::More) => return Ok(sent),

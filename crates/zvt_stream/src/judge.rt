@@ -5,9 +5,10 @@
 //! instructions for a byte.
 
 ghost use Rattle.std.specs.Prelude.{◌≡◌, ℕ, ◌+◌, ◌≤◌, List, [], ◌++◌, length, take};
-ghost use Rattle.zvt_grammar.specs.Reading.{padded, shortest};
+ghost use Rattle.zvt_grammar.specs.Reading.{AreBytes, padded, shortest};
 ghost use Rattle.zvt_grammar.specs.Lengths.{reading_of};
 ghost use Rattle.zvt_stream.specs.Head.{head_of};
+ghost use Rattle.zvt_stream.specs.Moves.{outer_of};
 ghost use Rattle.zvt_stream.specs.Judge.{start, beginning, Advances, IsJudge, StandsFor, HasLevelsIn, Stepped, Ran};
 ghost use Rattle.zvt_stream.specs.Judge.{HasRoomFor, kept_by, taken_by, judged_of, state_of};
 
@@ -106,14 +107,35 @@ impl Judge {
         Judge {
             lengths,
             goes: beginning(),
-            levels: Levels {
-                high: 0,
-                low: 0,
-                number: 0,
-                tag: TagAt::First,
-                length: LengthAt::First,
-                nests: false,
-                outer: ArrayVec::new(),
+            levels: no_levels(0, 0),
+        }
+    }
+
+    /// Creates a judge after the control bytes of a message, as far as they have arrived.
+    pub(crate) fn after(lengths: Lengths, head: Head) -> Judge
+        ensures stands { (bytes : List ℕ) → AreBytes bytes → head ≡ head_of bytes → StandsFor result (take 2 bytes) }
+        ensures reading { result.reading ≡ reading_of lengths }
+        ensures one_level { result.outer ≡ [] }
+    {
+        match head {
+            Head::Empty => Judge::of(lengths),
+            Head::One(high) => Judge {
+                lengths,
+                goes: Goes {
+                    part: Part::SecondControl,
+                    more: 0,
+                    left: 1,
+                },
+                levels: no_levels(high, 0),
+            },
+            Head::Two(high, low) => Judge {
+                lengths,
+                goes: Goes {
+                    part: Part::FirstSize,
+                    more: 0,
+                    left: 1,
+                },
+                levels: no_levels(high, low),
             },
         }
     }
@@ -150,6 +172,7 @@ impl Judge {
     /// Returns the number of open levels, including the frame: at most eight, since objects nest six deep.
     pub fn levels(&self) -> usize
         ensures levels { (bytes : List ℕ) → StandsFor self.now bytes → HasLevelsIn self.now.reading bytes result }
+        ensures one { self.now.outer ≡ [] → result ≡ 1 }
         ensures most { result ≤ 8 }
     {
         1 + self.levels.outer.len()
@@ -217,6 +240,23 @@ impl Judge {
             bytes,
             room,
         )
+    }
+}
+
+/// Returns the levels of a message of which no more than these control bytes have arrived.
+fn no_levels(high: u8, low: u8) -> Levels
+    ensures high { result.high ≡ high }
+    ensures low { result.low ≡ low }
+    ensures outer { outer_of result ≡ [] }
+{
+    Levels {
+        high,
+        low,
+        number: 0,
+        tag: TagAt::First,
+        length: LengthAt::First,
+        nests: false,
+        outer: ArrayVec::new(),
     }
 }
 

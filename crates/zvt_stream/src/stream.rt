@@ -8,16 +8,17 @@ ghost use Rattle.std.specs.Result.{IsErrOf};
 ghost use Rattle.zvt_grammar.specs.Reading.{padded, shortest};
 ghost use Rattle.zvt_grammar.specs.Lengths.{reading_of};
 ghost use Rattle.zvt_apdu.specs.Grammar.{Spells};
-ghost use Rattle.zvt_stream.specs.Apdus.{UnfinishedIn};
-ghost use Rattle.zvt_stream.specs.StreamState.{at_start, opening_of, start_in, Holds, Keeps, IsReserved};
+ghost use Rattle.zvt_stream.specs.LineReading.{Judges, Reads, UnfinishedBy, openly, reading_as, strictly};
+ghost use Rattle.zvt_stream.specs.StreamState.{at_start, opening_of, start_by, start_in, Holds, Keeps, IsReserved};
 ghost use Rattle.zvt_stream.specs.Lending.{LentBytes, lent_once};
 ghost use Rattle.zvt_stream.specs.Feeds.{Feeds, Lends, taken_by, taken_in_view};
 ghost use Rattle.zvt_stream.specs.Head.{head_of};
-ghost use Rattle.zvt_stream.specs.Judge.{HasLevelsIn, IsMessageIn, judged_of};
+ghost use Rattle.zvt_stream.specs.Judge.{HasLevelsBy, IsMessageIn, judged_of};
 
 use crate::buffer::Held;
 use crate::head::Head;
 use crate::judge::{DecodeRun, Judge, Steps};
+use crate::unread::{go_on, heard_frame, pass_frame, seen_frame};
 use arrayvec::ArrayVec;
 use std::alloc::{AllocError, Global};
 use std::marker::Model;
@@ -86,18 +87,23 @@ pub struct Truncated {
 pub struct Stream {
     pub(crate) held: Held,
     pub(crate) judge: Judge,
-    steps: Steps,
-    pub(crate) stopped: bool,
+    pub(crate) steps: Steps,
+    /// Whether it goes on after a frame that holds no message.
+    pub(crate) passes: bool,
+    /// Whether bytes were refused: it passes their frame, or takes no more.
+    pub(crate) refused: bool,
     pub(crate) has_message: bool,
-    opening: ArrayVec<u8, 5>,
-    ghost spelled: { LentBytes has_message held.bytes } by { lent_once has_message held.bytes },
+    pub(crate) opening: ArrayVec<u8, 5>,
+    ghost spelled: { LentBytes has_message refused held.bytes } by { lent_once has_message refused held.bytes },
 }
 
 impl Model for Stream {
     ghost use Rattle.zvt_stream.specs.StreamState.{StreamState, state_code, IsSound};
     ghost use Rattle.zvt_stream.specs.Lending.{held_of, lent_of};
     ghost use Rattle.std.specs.Prelude.{◌≡◌, true};
-    ghost use Rattle.zvt_stream.specs.Judge.{StandsFor, IsMessageIn, judged_of};
+    ghost use Rattle.zvt_stream.specs.Judge.{StandsFor, judged_of};
+    ghost use Rattle.zvt_stream.specs.LineReading.{line_reading};
+    ghost use Rattle.zvt_stream.specs.Passing.{Knows, judged_bytes, stops};
 
     ghost Value = { StreamState };
 
@@ -105,104 +111,44 @@ impl Model for Stream {
 
     ghost view = { λ s. record {
       held = held_of s.has_message s.held.bytes;
-      stopped = s.stopped;
-      lent = lent_of s.has_message s.held.bytes s.spelled;
+      stopped = stops s.refused s.passes;
+      lent = lent_of s.has_message s.refused s.held.bytes s.spelled;
       room = s.held.room;
       judged = judged_of s.steps;
-      reading = s.judge.reading;
+      reading = line_reading s.passes s.judge.reading;
       opening = s.opening.items;
     } };
 
-    ghost invariant = { λ s. IsSound s.judge.reading (held_of s.has_message s.held.bytes) s.stopped
-        × StandsFor s.judge (held_of s.has_message s.held.bytes)
-        × (s.has_message ≡ true → IsMessageIn s.judge.reading s.held.bytes) };
+    ghost invariant = { λ s. IsSound (line_reading s.passes s.judge.reading) (held_of s.has_message s.held.bytes)
+        (stops s.refused s.passes)
+        × StandsFor s.judge (judged_bytes s.refused (held_of s.has_message s.held.bytes))
+        × Knows s.passes s.refused s.has_message s.judge s.held.bytes };
 }
 
 impl Stream {
-    /// Creates a stream for a new connection that accepts only the shortest lengths.
-    pub fn new(alloc: Global) -> Stream
-        ensures { result ≡ at_start }
-    {
-        Stream::of(alloc, Lengths::Shortest)
-    }
-
-    /// Creates a stream for a new connection that also accepts padded lengths.
-    pub fn loose(alloc: Global) -> Stream
-        ensures { result ≡ start_in padded }
-    {
-        Stream::of(alloc, Lengths::Padded)
-    }
-
-    /// Creates a stream for a new connection that accepts the given forms of length.
-    pub fn of(alloc: Global, lengths: Lengths) -> Stream
-        ensures { result ≡ start_in (reading_of lengths) }
-    {
-        Stream {
-            held: Held::new(alloc),
-            judge: Judge::of(lengths),
-            steps: Steps::new(),
-            stopped: false,
-            has_message: false,
-            opening: ArrayVec::new(),
-        }
-    }
-
-    /// Creates a stream for a new connection and allocates room for the longest message in advance, so that
-    /// `feed_view` never fails for lack of memory.
-    pub fn reserved(alloc: Global) -> Result<Stream, AllocError>
-        ensures new { IfOk result (λ stream. Holds [] stream × (stream.lent ≡ None)) }
-        ensures reserved { IfOk result (λ stream. IsReserved stream) }
-        ensures count { IfOk result (λ stream. stream.judged ≡ 0) }
-        ensures reading { IfOk result (λ stream. stream.reading ≡ shortest) }
-    {
-        Stream::reserved_of(alloc, Lengths::Shortest)
-    }
-
-    /// Creates a stream as [`reserved`](Stream::reserved) does, which accepts the given forms of length.
-    pub fn reserved_of(alloc: Global, lengths: Lengths) -> Result<Stream, AllocError>
-        ensures new { IfOk result (λ stream. Holds [] stream × (stream.lent ≡ None)) }
-        ensures reserved { IfOk result (λ stream. IsReserved stream) }
-        ensures count { IfOk result (λ stream. stream.judged ≡ 0) }
-        ensures reading { IfOk result (λ stream. stream.reading ≡ reading_of lengths) }
-    {
-        let mut stream = Stream::of(alloc, lengths);
-        stream.held = Held::reserved(alloc)?;
-        Ok(stream)
-    }
-
     /// Returns the message found by the last feed, if that was a `feed_view`. The next feed ends the loan.
     pub fn lent(&self) -> Option<ApduView<'_>>
         ensures { result ≡ self.now.lent }
     {
         if self.has_message {
-            Some(view(self.held.spelled()))
+            Some(self.message())
         } else {
             None
         }
     }
 
-    /// Returns the bytes of the lent message.
+    /// Returns the bytes of the lent message. On an open line they may be those of a frame that was not read.
     pub fn lent_bytes(&self) -> Option<&[u8]>
-        ensures some { IfSome self.now.lent (λ m. IfSome result (λ bytes. Spells self.now.reading m bytes.now)
+        ensures some { IfSome self.now.lent (λ m. IfSome result (λ bytes. Reads self.now.reading m bytes.now)
             × IsSome result) }
         ensures none { self.now.lent ≡ None → IsNone result }
     {
-        if self.has_message {
-            Some(self.held.spelled())
-        } else {
+        if !self.has_message {
             None
-        }
-    }
-
-    // Gives up the message that is borrowed.
-    pub(crate) fn give_up(&mut self)
-        ensures keeps { Keeps self.old self.new }
-        ensures room { self.new.room ≡ self.old.room }
-        ensures count { self.new.judged ≡ self.old.judged }
-    {
-        if self.has_message {
-            self.has_message = false;
-            self.held.cut(0);
+        } else if self.refused {
+            Some(self.held.frame())
+        } else {
+            Some(self.held.spelled())
         }
     }
 
@@ -217,12 +163,15 @@ impl Stream {
         ensures err { OnErr result (Keeps self.old self.new) }
         ensures lent { self.new.lent ≡ None }
         ensures room { self.old.room ≤ self.new.room }
-        ensures count { MatchResult result (λ fed. self.new.judged ≡ self.old.judged + taken_by self.old piece.now fed)
+        ensures count { MatchResult result (λ fed. Judges self.old.reading self.old.held
+            (take (taken_by self.old piece.now fed) piece.now) self.old.judged self.new.judged)
             (λ _. self.new.judged ≤ self.old.judged + length piece.now) }
     {
         self.give_up();
-        if self.stopped {
-            return Err(FeedError::Stopped);
+        if self.refused {
+            let passed = go_on(&mut self.held, &mut self.judge, self.passes, piece)?;
+            self.refused = passed.is_none();
+            return Ok(heard_frame(alloc, &mut self.held, passed));
         }
         let lengths = self.judge.lengths();
         self.held.reserve_for(piece.len())?;
@@ -239,11 +188,16 @@ impl Stream {
                 Ok(Fed::Message { apdu, taken })
             }
             DecodeRun::Refused { at, why } => {
+                if self.passes {
+                    let passed = pass_frame(&mut self.held, &mut self.judge, piece);
+                    self.refused = passed.is_none();
+                    return Ok(heard_frame(alloc, &mut self.held, passed));
+                }
                 let place = self.held.len() + at;
                 self.opening = opening(self.held.bytes(), &piece[..at + 1]);
                 self.held.cut(0);
                 self.judge = judge;
-                self.stopped = true;
+                self.refused = true;
                 Ok(Fed::Refused { place, why })
             }
         }
@@ -259,12 +213,15 @@ impl Stream {
         ensures err { OnErr result (Keeps self.old self.new) }
         ensures room { self.old.room ≤ self.new.room }
         ensures frugal { IsReserved self.old → IsErrOf result FeedError.Memory → ⊥ }
-        ensures count { MatchResult result (λ fed. self.new.judged ≡ self.old.judged + taken_in_view self.old piece.now
-            fed) (λ _. self.new.judged ≡ self.old.judged) }
+        ensures count { MatchResult result (λ fed. Judges self.old.reading self.old.held
+            (take (taken_in_view self.old piece.now fed) piece.now) self.old.judged self.new.judged)
+            (λ _. self.new.judged ≡ self.old.judged) }
     {
         self.give_up();
-        if self.stopped {
-            return Err(FeedError::Stopped);
+        if self.refused {
+            let passed = go_on(&mut self.held, &mut self.judge, self.passes, piece)?;
+            self.has_message = passed.is_some();
+            return Ok(seen_frame(passed));
         }
         self.held.reserve_for(piece.len())?;
         match self.held.judge(&mut self.judge, &mut self.steps, piece) {
@@ -274,10 +231,16 @@ impl Stream {
                 Ok(FedView::Message { taken })
             }
             DecodeRun::Refused { at, why } => {
+                if self.passes {
+                    let passed = pass_frame(&mut self.held, &mut self.judge, piece);
+                    self.refused = true;
+                    self.has_message = passed.is_some();
+                    return Ok(seen_frame(passed));
+                }
                 let place = self.held.len() + at;
                 self.opening = opening(self.held.bytes(), &piece[..at + 1]);
                 self.held.cut(0);
-                self.stopped = true;
+                self.refused = true;
                 Ok(FedView::Refused { place, why })
             }
         }
@@ -307,7 +270,7 @@ impl Stream {
     /// message is lent.
     pub fn held(&self) -> usize
         ensures count { result ≡ length self.now.held }
-        ensures unfinished { UnfinishedIn self.now.reading self.now.held }
+        ensures unfinished { UnfinishedBy self.now.reading self.now.held }
         ensures few { result < 65540 }
         ensures none { self.now.stopped ≡ true → self.now.held ≡ [] }
     {
@@ -326,7 +289,7 @@ impl Stream {
     /// containers and objects.
     pub fn levels(&self) -> usize
         ensures none { self.now.held ≡ [] → result ≡ 0 }
-        ensures some { 0 < length self.now.held → HasLevelsIn self.now.reading self.now.held result }
+        ensures some { 0 < length self.now.held → HasLevelsBy self.now.reading self.now.held result }
         ensures most { result ≤ 8 }
     {
         if self.held() == 0 {

@@ -3,9 +3,10 @@ use Rattle.std.proofs.Common.{◌≡◌, ℕ, suc, Bool, true, false, cond, List
 use Rattle.std.proofs.lemmas.Bool.{false≢true}
 use Rattle.std.proofs.lemmas.List.{map-append, take-append-drop}
 use Rattle.zvt_apdu.specs.Message.{Message}
-use Rattle.zvt_grammar.specs.Reading.{Reading, shortest}
-use Rattle.zvt_apdu.specs.Grammar.{Spells}
-use Rattle.zvt_stream.specs.Apdus.{Alive, Spelled, Cut, UnfinishedIn, IsRefusedIn}
+use Rattle.zvt_grammar.specs.Reading.{shortest}
+use Rattle.zvt_stream.specs.Apdus.{Alive, Spelled, Cut}
+use Rattle.zvt_stream.specs.LineReading.{IsRefusedBy, LineReading, UnfinishedBy, strictly}
+use Rattle.zvt_stream.specs.LineReading as line
 use Rattle.zvt_stream.specs.StreamState.{StreamState, at_start}
 use Rattle.zvt_stream.specs.Feeds.{Feeds}
 use Rattle.zvt_stream.specs.declared.stream.Fed.TheVariants as fed
@@ -28,9 +29,9 @@ pub record Reads (log : List Happening) (held piece : List ℕ) (now : List Happ
   pub spelled : Spelled (held ++ piece) messages (stream.held ++ rest)
   pub heard : now ≡ log ++ map hears messages
   pub runs : stream.stopped ≡ false
-  pub strict : stream.reading ≡ shortest
+  pub strict : stream.reading ≡ strictly shortest
 
-pub reads-nothing : (log : List Happening) (stream : StreamState) (piece : List ℕ) → stream.stopped ≡ false → stream.reading ≡ shortest → Reads log stream.held piece log stream piece
+pub reads-nothing : (log : List Happening) (stream : StreamState) (piece : List ℕ) → stream.stopped ≡ false → stream.reading ≡ strictly shortest → Reads log stream.held piece log stream piece
 reads-nothing log stream piece runs strict = record { messages = []; spelled = refl; heard = sym (append-nil log); runs = runs; strict = strict }
 
 pub reads-message : (log now : List Happening) (held piece rest : List ℕ) (stream after : StreamState) (m : Message) (taken : ℕ) → Reads log held piece now stream rest → Feeds stream rest (fed.Message m taken) after
@@ -38,7 +39,7 @@ pub reads-message : (log now : List Happening) (held piece rest : List ℕ) (str
 reads-message log now held piece rest stream after m taken r f =
     let new : after.held ≡ [] = f.3.0 in
     let one : Spelled (stream.held ++ rest) (m ∷ []) (after.held ++ drop taken rest) =
-    (stream.held ++ take taken rest, drop taken rest, split stream.held rest taken, subst (λ (k : Reading). Spells k m (stream.held ++ take taken rest)) r.strict f.2, sym (ap (λ (s : List ℕ). s ++ drop taken rest) new)) in
+    (stream.held ++ take taken rest, drop taken rest, split stream.held rest taken, subst (λ (k : LineReading). line.Reads k m (stream.held ++ take taken rest)) r.strict f.2, sym (ap (λ (s : List ℕ). s ++ drop taken rest) new)) in
     record {
       messages = r.messages ++ m ∷ [];
       spelled = spelled_append r.messages (m ∷ []) (held ++ piece) (stream.held ++ rest) (after.held ++ drop taken rest) r.spelled one;
@@ -53,7 +54,7 @@ up-heard log m up = fold-snoc line_after false log (hears m) ∙ up
 
 pub reads-all : (log now : List Happening) (held piece rest : List ℕ) (stream after : StreamState) → Reads log held piece now stream rest → Feeds stream rest fed.More after → ReadsPiece log held piece now after
 reads-all log now held piece rest stream after r f =
-    let unfinished = subst (λ (k : Reading). UnfinishedIn k (stream.held ++ rest)) r.strict f.0 in
+    let unfinished = subst (λ (k : LineReading). UnfinishedBy k (stream.held ++ rest)) r.strict f.0 in
     record {
       messages = r.messages;
       rest = stream.held ++ rest;
@@ -69,7 +70,7 @@ pub reads-refused : (log now : List Happening) (held piece rest : List ℕ) (str
     → ReadsPiece log held piece (now ++ Malformed ∷ []) after
 reads-refused log now held piece rest stream after place why r f =
     let bytes = stream.held ++ rest in
-    let refused = subst (λ (k : Reading). IsRefusedIn k bytes place why) r.strict f.0 in
+    let refused = subst (λ (k : LineReading). IsRefusedBy k bytes place why) r.strict f.0 in
     record {
       messages = r.messages;
       rest = bytes;
@@ -107,7 +108,7 @@ piece-follows log next bytes piece stream after holds up r =
     record { earlier = before.0; more = r.messages; left = stream.held; rest = r.rest; end = r.end; cut_before = before.1; cut = whole; ends = r.ends; heard = refl } in
     (bytes ++ piece, follows-up log next bytes piece (line_up log) up (map hears r.messages ++ r.end) hears' r.heard, λ still. by_end whole still r.ends)
   where
-    by_end : (whole : Cut (bytes ++ piece) ((holds up).1.0 ++ r.messages) r.rest) → line_up next ≡ true → EndsLine r.rest r.end → (after.stopped ≡ false) × ((messages : List Message) × Cut (bytes ++ piece) messages after.held) × (after.reading ≡ shortest)
+    by_end : (whole : Cut (bytes ++ piece) ((holds up).1.0 ++ r.messages) r.rest) → line_up next ≡ true → EndsLine r.rest r.end → (after.stopped ≡ false) × ((messages : List Message) × Cut (bytes ++ piece) messages after.held) × (after.reading ≡ strictly shortest)
     by_end whole still (inl alive) =
         let same = r.goes_on alive.1 in
         (same.1, ((holds up).1.0 ++ r.messages, subst (λ (held : List ℕ). Cut (bytes ++ piece) ((holds up).1.0 ++ r.messages) held) (sym same.0) whole), r.strict)
@@ -121,17 +122,17 @@ pub piece-unread : (log : List Happening) (bytes piece : List ℕ) (stream : Str
 piece-unread log bytes piece stream holds down = (bytes, follows-down log bytes piece (line_up log) down, holds)
 
 line-begins : (log : List Happening) (bytes : List ℕ) (stream after : StreamState) (up : Bool) → line_up log ≡ up → after ≡ cond up stream at_start → HoldsLine log bytes stream
-    → (after.stopped ≡ false) × ((messages : List Message) × Cut (cond up bytes []) messages after.held) × (after.reading ≡ shortest)
+    → (after.stopped ≡ false) × ((messages : List Message) × Cut (cond up bytes []) messages after.held) × (after.reading ≡ strictly shortest)
 line-begins log bytes stream after true e same holds =
-    subst (λ s. (s.stopped ≡ false) × ((messages : List Message) × Cut bytes messages s.held) × (s.reading ≡ shortest)) (sym same) (holds e)
+    subst (λ s. (s.stopped ≡ false) × ((messages : List Message) × Cut bytes messages s.held) × (s.reading ≡ strictly shortest)) (sym same) (holds e)
 line-begins log bytes stream after false e same holds =
-    subst (λ s. (s.stopped ≡ false) × ((messages : List Message) × Cut [] messages s.held) × (s.reading ≡ shortest)) (sym same) (refl, ([], record { spelled = refl; none_whole = nothing_begun.none_whole }), refl)
+    subst (λ s. (s.stopped ≡ false) × ((messages : List Message) × Cut [] messages s.held) × (s.reading ≡ strictly shortest)) (sym same) (refl, ([], record { spelled = refl; none_whole = nothing_begun.none_whole }), refl)
 
 pub connected-follows : (log next : List Happening) (bytes : List ℕ) (stream after : StreamState) (up : Bool) → up ≡ line_up log → after ≡ cond up stream at_start → next ≡ log ++ Connected ∷ [] → HoldsLine log bytes stream
     → (later : List ℕ) × ((next ≡ log ++ Connected ∷ []) × (later ≡ cond (line_up log) bytes [])) × HoldsLine next later after
 connected-follows log next bytes stream after up e same n holds =
     let whole = line-begins log bytes stream after up (sym e) same holds in
-    (cond (line_up log) bytes [], (n, refl), λ still. subst (λ b. (after.stopped ≡ false) × ((messages : List Message) × Cut (cond b bytes []) messages after.held) × (after.reading ≡ shortest)) e whole)
+    (cond (line_up log) bytes [], (n, refl), λ still. subst (λ b. (after.stopped ≡ false) × ((messages : List Message) × Cut (cond b bytes []) messages after.held) × (after.reading ≡ strictly shortest)) e whole)
 
 pub lost-follows : (log next : List Happening) (bytes : List ℕ) (stream : StreamState) → next ≡ log ++ Lost ∷ []
     → (later : List ℕ) × ((next ≡ log ++ Lost ∷ []) × (later ≡ bytes)) × HoldsLine next later stream

@@ -1,7 +1,7 @@
 -- What orders on a line do to the log of the till that has it.
 use Rattle.std.proofs.Common.{◌≡◌, ℕ, Bool, true, false, cond, List, [], ◌∷◌, ◌++◌, Option, Some, None, map, refl, sym, ap, subst, ◌∙◌, append_assoc, append-nil}
 use Rattle.zvt_apdu.specs.Message.{Message}
-use Rattle.zvt_stream.specs.Apdus.{SpelledIn}
+use Rattle.zvt_stream.specs.LineReading.{SpelledBy}
 use Rattle.zvt_stream.specs.StreamState.{StreamState}
 use Rattle.zvt_stream.specs.Answered.{Answered}
 use Rattle.zvt_stream.specs.Hearing.{Hears}
@@ -75,7 +75,7 @@ record Before (before : StreamState) (read : List ℕ) (old new : TillValue) : T
   messages : List Message
   answers : List Answered
   rest : List ℕ
-  spelled : SpelledIn before.reading (before.held ++ read) messages rest
+  spelled : SpelledBy before.reading (before.held ++ read) messages rest
   heard : Hears till_hears old messages answers new
 
 heard-before : (fault : LineFault) (before after : StreamState) (read written : List ℕ) (old new : TillValue) → Breaks till_hears fault before read after old new written → Before before read old new

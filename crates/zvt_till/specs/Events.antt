@@ -4,6 +4,7 @@ use Rattle.zvt_grammar.specs.Reading.{shortest}
 use Rattle.zvt_apdu.specs.Message.{Message}
 use Rattle.zvt_apdu.specs.Briefs.{message_of_brief}
 use Rattle.zvt_stream.specs.Apdus.{Alive, Cut, Spelled}
+use Rattle.zvt_stream.specs.LineReading.{strictly}
 use Rattle.zvt_stream.specs.StreamState.{StreamState, Holds}
 use Rattle.zvt_till.specs.declared.happenings.Happening.{Happening}
 use Rattle.zvt_till.specs.declared.happenings.Happening.TheVariants.{Connected, Sent as SentOut, Heard as HeardIn, Malformed, Lost}
@@ -97,7 +98,7 @@ pub record IsTied (log : List Happening) (state : TillState) (sent : List ℕ) :
 
 -- while the line is up, the stream holds the incomplete message at the end of its bytes, read with the shortest lengths
 abbrev pub HoldsLine : List Happening → List ℕ → StreamState → Type 0
-HoldsLine log bytes stream = line_up log ≡ true → (stream.stopped ≡ false) × ((messages : List Message) × Cut bytes messages stream.held) × (stream.reading ≡ shortest)
+HoldsLine log bytes stream = line_up log ≡ true → (stream.stopped ≡ false) × ((messages : List Message) × Cut bytes messages stream.held) × (stream.reading ≡ strictly shortest)
 
 -- A piece after the bytes that the stream of a line holds: its messages, and how the line ends. If the line continues,
 -- the stream holds the rest.
@@ -109,4 +110,4 @@ pub record ReadsPiece (log : List Happening) (held piece : List ℕ) (next : Lis
   pub ends : EndsLine rest end
   pub heard : next ≡ log ++ (map hears messages ++ end)
   pub goes_on : end ≡ [] → Holds rest stream
-  pub strict : stream.reading ≡ shortest
+  pub strict : stream.reading ≡ strictly shortest

@@ -1,7 +1,7 @@
 -- The effect of orders on a line on the till's log.
 use Rattle.std.specs.Prelude.{◌≡◌, ◌⊎◌, ℕ, List, [], ◌∷◌, ◌++◌, Option, map, Result, Ok, Err, MatchResult}
 use Rattle.zvt_apdu.specs.Message.{Message}
-use Rattle.zvt_stream.specs.Apdus.{SpelledIn}
+use Rattle.zvt_stream.specs.LineReading.{SpelledBy}
 use Rattle.zvt_stream.specs.StreamState.{StreamState}
 use Rattle.zvt_stream.specs.declared.line.LineFault.{LineFault}
 use Rattle.zvt_stream.specs.declared.line.LineFault.TheVariants as faults
@@ -48,7 +48,7 @@ FaultsAreLogged =
     (settings : Settings) (log : List Happening) (fault : LineFault) (order : Order) (before after : StreamState) (old new : TillValue) (coming left first last : Option (List ℕ)) (turns reads_before reads_after : ℕ)
     → Stands settings log old.state
     → (breaks : BreaksOffAlone fault order before after old new coming left first last turns reads_before reads_after)
-    → (messages : List Message) × (rest : List ℕ) × SpelledIn before.reading (before.held ++ breaks.broken.read) messages rest
+    → (messages : List Message) × (rest : List ℕ) × SpelledBy before.reading (before.held ++ breaks.broken.read) messages rest
     × Stands settings (log ++ SentOut (sent_as settings.currency order) ∷ (map hears messages ++ reported_as fault ∷ [])) new.state
 
 -- an accepted order whose message could not be written is in the log as sent, and then the connection was lost

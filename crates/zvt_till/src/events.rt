@@ -3,6 +3,7 @@ ghost use Rattle.std.specs.Prelude.{◌≡◌, ◌++◌, ◌∷◌, [], ℕ, Lis
 ghost use Rattle.zvt_apdu.specs.Message.{Message};
 ghost use Rattle.zvt_apdu.specs.Briefs.{message_of_brief};
 ghost use Rattle.zvt_stream.specs.Apdus.{Spelled};
+ghost use Rattle.zvt_stream.specs.LineReading.{strictly};
 ghost use Rattle.zvt_stream.specs.StreamState.{at_start};
 ghost use Rattle.zvt_till.specs.Refusals.{refusal, sent_as};
 ghost use Rattle.zvt_till.specs.Till.{facts_of, new_till, state_after};
@@ -171,7 +172,7 @@ impl Run {
         requires tied { IsTied self.old.log.items self.old.till.state self.old.sent.items }
         requires up { line_up self.old.log.items ≡ true }
         requires runs { stream.old.stopped ≡ false }
-        requires strict { stream.old.reading ≡ shortest }
+        requires strict { stream.old.reading ≡ strictly shortest }
         ensures tied { OnOk result (IsTied self.new.log.items self.new.till.state self.new.sent.items) }
         ensures read { OnOk result (ReadsPiece self.old.log.items stream.old.held piece.now self.new.log.items
             stream.new) }
@@ -202,7 +203,7 @@ impl Run {
     fn event(&mut self, alloc: Global, stream: &mut Stream, event: &Event) -> Result<(), AllocError>
         requires tied { IsTied self.old.log.items self.old.till.state self.old.sent.items }
         requires runs { line_up self.old.log.items ≡ true → stream.old.stopped ≡ false }
-        requires strict { line_up self.old.log.items ≡ true → stream.old.reading ≡ shortest }
+        requires strict { line_up self.old.log.items ≡ true → stream.old.reading ≡ strictly shortest }
         ensures tied { OnOk result (IsTied self.new.log.items self.new.till.state self.new.sent.items) }
         ensures follows { OnOk result ((bytes : List ℕ) → HoldsLine self.old.log.items bytes stream.old
             → (later : List ℕ) × Follows self.old.log.items bytes event.now self.new.log.items later

@@ -4,6 +4,7 @@ use Rattle.std.specs.Global.{Global}
 use Rattle.std.specs.Io.KnownBytes.{Keeps}
 use Rattle.zvt_grammar.specs.Reading.{Reading}
 use Rattle.zvt_grammar.specs.Lengths.{reading_of}
+use Rattle.zvt_stream.specs.LineReading.{strictly}
 use Rattle.zvt_audit.specs.Audited.{AnswersAuditBy}
 use Rattle.zvt_text.specs.declared.form.Form.TheVariants.{Text}
 use Rattle.zvt_show.specs.Written.{AnswersTraceBy}
@@ -82,4 +83,4 @@ MakesWords ends words old new Runs result = (planned : Result (Vec Planned Globa
 
 -- the result of a terminal that serves one till
 abbrev pub ServesOne : (loose : Bool) → (tid : ℕ) → Verdict → Result Unit ToolFault → Type 0
-ServesOne loose tid verdict result = (answer : Result Unit EndFault) × AnswersService (reading_of (lengths_by loose)) 1 tid verdict no_extras answer × (result ≡ in_run answer)
+ServesOne loose tid verdict result = (answer : Result Unit EndFault) × AnswersService (strictly (reading_of (lengths_by loose))) 1 tid verdict no_extras answer × (result ≡ in_run answer)

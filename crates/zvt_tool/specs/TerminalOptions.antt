@@ -19,6 +19,7 @@ terminal_app = command_app (codes "terminal") (
     flag_rule (codes "intermediate") ∷
     option_rule (codes "trace") ∷
     flag_rule (codes "loose") ∷
+    flag_rule (codes "open") ∷
     flag_rule (codes "json") ∷
     [])
 
@@ -35,4 +36,5 @@ pub record AreTerminalOptionsOf (rows : List Row) (options : TerminalOptions) : 
   pub intermediate : IsFlagOf (codes "intermediate") rows options.intermediate
   pub trace : IsTextOf (codes "trace") rows options.trace
   pub loose : IsFlagOf (codes "loose") rows options.loose
+  pub reads_on : IsFlagOf (codes "open") rows options.reads_on
   pub json : IsFlagOf (codes "json") rows options.json

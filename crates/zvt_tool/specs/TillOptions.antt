@@ -20,6 +20,7 @@ till_app = command_app (codes "till") (
     flag_rule (codes "show") ∷
     flag_rule (codes "close-by-completion") ∷
     flag_rule (codes "loose") ∷
+    flag_rule (codes "open") ∷
     flag_rule (codes "json") ∷
     several_rule (codes "step") ∷
     [])
@@ -38,5 +39,6 @@ pub record AreTillOptionsOf (rows : List Row) (options : TillOptions) : Type 0 w
   pub show : IsFlagOf (codes "show") rows options.show
   pub close_by_completion : IsFlagOf (codes "close-by-completion") rows options.close_by_completion
   pub loose : IsFlagOf (codes "loose") rows options.loose
+  pub reads_on : IsFlagOf (codes "open") rows options.reads_on
   pub json : IsFlagOf (codes "json") rows options.json
   pub steps : map (λ step. step.now) options.steps.items ≡ words_of (codes "step") rows

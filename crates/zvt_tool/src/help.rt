@@ -62,6 +62,12 @@ pub const OPEN_AUDIT: &str =
     "Read on after a refused message, at the end that its length announces, and count it by its control bytes: for \
         terminals that send more than the payment profile";
 
+pub const OPEN_TILL: &str =
+    "Go on after an invalid message, at the end that its length announces; an invalid status makes its payment unclear";
+
+pub const OPEN_TERMINAL: &str =
+    "Go on after an invalid message, at the end that its length announces, and reject it";
+
 pub const JSON: &str = "Print one JSON object per line";
 
 pub const FOLLOW: &str = "Read FILE as it grows, of any size, and print each line's text at once";

@@ -1,6 +1,7 @@
 //! Runs of the steps that words name, over TCP.
 ghost use Rattle.std.specs.Prelude.{◌≡◌, ◌<◌, ◌≤◌, Err, map, None};
 ghost use Rattle.zvt_grammar.specs.Lengths.{reading_of};
+ghost use Rattle.zvt_stream.specs.LineReading.{reading_as, strictly};
 ghost use Rattle.zvt_runs.specs.BothEnds.{BeginsHere, MakesHereAlone};
 ghost use Rattle.zvt_runs.specs.Reporting.{ReportsNothing, ReportsRun};
 ghost use Rattle.zvt_runs.specs.TillEnd.{BeginsThere, MakesThereAlone};
@@ -17,6 +18,7 @@ use std::net::{Net, TcpListener, TcpStream};
 use zvt_io::{Failed, Sink};
 use zvt_runs::tcp::{LoopRun, PATIENCE_SECONDS, TerminalRun, TillRun};
 use zvt_runs::{EndFault, Ends, NoNotes, StepOptions, plan};
+use zvt_stream::LineForm;
 use zvt_term::{Extras, Verdict};
 use zvt_text::Form;
 
@@ -94,9 +96,9 @@ where
     R: Net<Listener = TcpListener, Stream = TcpStream>,
     W: Sink,
     ensures run { MakesWords Till (map (λ word. word.now) steps.now) (W.written writer.old) (W.written writer.new)
-        (λ plan answer. AnswersRun MakesThereAlone (BeginsThere (reading_of (lengths_by loose))) run_settings plain plan
-        (W.written writer.old) (W.written writer.new) (ReportsRun None None 0 0) (ReportsNothing None None 0 0)
-        answer) result }
+        (λ plan answer. AnswersRun MakesThereAlone (BeginsThere (strictly (reading_of (lengths_by loose))))
+        run_settings plain plan (W.written writer.old) (W.written writer.new) (ReportsRun None None 0 0)
+        (ReportsNothing None None 0 0) answer) result }
     ensures write { result ≡ Err ToolFault.Write → W.failures writer.old < W.failures writer.new }
 {
     let planned = match plan(alloc, Ends::Till, steps) {
@@ -107,7 +109,10 @@ where
         host,
         port,
         seconds: PATIENCE_SECONDS,
-        lengths: lengths_by(loose),
+        line: LineForm {
+            lengths: lengths_by(loose),
+            passes: false,
+        },
         trace: None,
         show: None,
         plan: planned.as_slice(),
@@ -145,7 +150,7 @@ fn till_alone<R, W>(
 where
     R: Net<Listener = TcpListener, Stream = TcpStream>,
     W: Sink,
-    ensures run { AnswersRun MakesThereAlone (BeginsThere (reading_of run.now.lengths)) run_settings run.now.options
+    ensures run { AnswersRun MakesThereAlone (BeginsThere (reading_as run.now.line)) run_settings run.now.options
         run.now.plan.now (W.written writer.old) (W.written writer.new)
         (ReportsRun None None 0 0) (ReportsNothing None None 0 0) result }
     ensures write { result ≡ Err EndFault.Write → W.failures writer.old < W.failures writer.new }
@@ -175,7 +180,10 @@ where
         tid,
         verdict,
         extras: Extras::none(),
-        lengths: lengths_by(loose),
+        line: LineForm {
+            lengths: lengths_by(loose),
+            passes: false,
+        },
         connections: 1,
         trace: None,
         form: Form::Text,

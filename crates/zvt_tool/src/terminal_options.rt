@@ -36,6 +36,8 @@ pub struct TerminalOptions<'a> {
     pub trace: Option<&'a str>,
     /// Whether lengths are accepted in any form.
     pub loose: bool,
+    /// Whether the terminal goes on after an invalid message.
+    pub reads_on: bool,
     /// Whether the reports are JSON, on standard output.
     pub json: bool,
 }
@@ -89,6 +91,7 @@ pub fn terminal_row() -> CommandRow<'static>
             ),
             CommandOption::Value("trace", "FILE", help::TRACE),
             CommandOption::Flag("loose", "Accept padded lengths, as some tills send them"),
+            CommandOption::Flag("open", help::OPEN_TERMINAL),
             CommandOption::Flag(
                 "json",
                 "Print one JSON object per line on standard output, instead of the reports on standard error",
@@ -117,6 +120,7 @@ pub fn read_terminal<'a>(inner: &ArgMatches<'a>) -> Option<Choice<'a>>
         intermediate: flag(inner, "intermediate"),
         trace: text(inner, "trace"),
         loose: flag(inner, "loose"),
+        reads_on: flag(inner, "open"),
         json: flag(inner, "json"),
     }))
 }

@@ -33,6 +33,8 @@ pub struct TillOptions<'a> {
     pub close_by_completion: bool,
     /// Whether lengths are accepted in any form.
     pub loose: bool,
+    /// Whether the till goes on after an invalid message.
+    pub reads_on: bool,
     /// Whether the output is JSON.
     pub json: bool,
     pub steps: Vec<&'a str>,
@@ -78,6 +80,7 @@ const OPTIONS: [CommandOption<'static>; 14] = [
         "loose",
         "Accept padded lengths. Use this only for terminals known to send them.",
     ),
+    CommandOption::Flag("open", help::OPEN_TILL),
     CommandOption::Flag("json", help::JSON),
     CommandOption::Several(
         "step",
@@ -134,6 +137,7 @@ pub fn read_till<'a>(
         show: flag(inner, "show"),
         close_by_completion: flag(inner, "close-by-completion"),
         loose: flag(inner, "loose"),
+        reads_on: flag(inner, "open"),
         json: flag(inner, "json"),
         steps,
     })))

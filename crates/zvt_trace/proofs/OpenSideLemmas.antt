@@ -20,12 +20,12 @@ use Rattle.zvt_apdu.specs.Judging.{InData, can_fill, layout_of, Position, Role, 
 use Rattle.zvt_apdu.proofs.OneMessage.{messages_end_themselves}
 use Rattle.zvt_stream.specs.Apdus.{AliveIn, CutIn, IsRefusedIn, SpelledIn}
 use Rattle.zvt_stream.specs.Head.{head_of}
-use Rattle.zvt_stream.specs.OpenReading.{OpenItem, OpenSpells, read, unread}
+use Rattle.zvt_stream.specs.OpenReading.{IsFramed, OpenItem, OpenSpells, read, unread}
 use Rattle.zvt_stream.specs.declared.head.Head.{Head}
 use Rattle.zvt_stream.specs.declared.head.Head.TheVariants.{Two}
 use Rattle.zvt_stream.proofs.Beginnings.{nothing_in}
 use Rattle.zvt_stream.proofs.FeedLemmas.{refused_more}
-use Rattle.zvt_stream.proofs.OpenLemmas.{Framed, alive_none, bytes_apart, bytes_joined, none_yet, spelled_open, zero_bytes, zeros, zeros_many}
+use Rattle.zvt_stream.proofs.OpenLemmas.{alive_none, bytes_apart, bytes_joined, none_yet, spelled_open, zero_bytes, zeros, zeros_many}
 use Rattle.zvt_trace.specs.Emitting.{EndsWithin, PartEmits, PartsEmit, PieceEmits, ending_events, messages_emitted, side_after, told}
 use Rattle.zvt_trace.specs.OpenSides.{HearsCut, Piece, OpenSidesHearCuts, PiecesEmit, begun, bytes_in, facts_of, item_facts, refused, with_fact}
 use Rattle.zvt_trace.specs.Resuming.{IsWithin, announced, long_size, refused_size, resuming_events, side_refused, side_skipping, size_by, skipping_events}
@@ -68,20 +68,20 @@ not_long s lt = elim (eqb_tells s 255) [
 ]
 
 -- bytes of the announced size are a frame
-framed_sized : (b : List ℕ) → AreBytes b → announced b ≡ Some (length b) → Framed b
+framed_sized : (b : List ℕ) → AreBytes b → announced b ≡ Some (length b) → IsFramed b
 framed_sized [] are e = nothing_some 0 e
 framed_sized (h ∷ []) are e = nothing_some 1 e
 framed_sized (h ∷ l ∷ []) are e = nothing_some 2 e
 framed_sized (h ∷ l ∷ s ∷ more) are e = by_flag (eqb_tells s 255)
   where
-    long : (content : List ℕ) → s ≡ 255 → more ≡ content → AreBytes content → long_size content ≡ Some (suc (suc (suc (length content)))) → Framed (h ∷ l ∷ s ∷ content)
+    long : (content : List ℕ) → s ≡ 255 → more ≡ content → AreBytes content → long_size content ≡ Some (suc (suc (suc (length content)))) → IsFramed (h ∷ l ∷ s ∷ content)
     long [] same is bytes f = nothing_some 3 f
     long (low ∷ []) same is bytes f = nothing_some 4 f
     long (low ∷ high ∷ content) same is bytes f =
         let many : 5 + low + 256 * high ≡ suc (suc (suc (length (low ∷ high ∷ content)))) = some_same _ _ f in
         (h, l, record { size = s ∷ low ∷ high ∷ []; content = content; whole = refl; are_bytes = (are.0, are.1.0); is_size = (same, omega arith, bytes.0, bytes.1.0, omega (arith, many)) })
 
-    by_flag : ((s == 255) ≡ true × s ≡ 255) ⊎ ((s == 255) ≡ false × s ≢ 255) → Framed (h ∷ l ∷ s ∷ more)
+    by_flag : ((s == 255) ≡ true × s ≡ 255) ⊎ ((s == 255) ≡ false × s ≢ 255) → IsFramed (h ∷ l ∷ s ∷ more)
     by_flag (inl same) = long more same.1 refl are.1.1.1 (subst (λ (f : Bool). (if f then long_size more else Some (3 + s)) ≡ Some (suc (suc (suc (length more))))) same.0 e)
     by_flag (inr other) =
         let many : 3 + s ≡ suc (suc (suc (length more))) = some_same _ _ (subst (λ (f : Bool). (if f then long_size more else Some (3 + s)) ≡ Some (suc (suc (suc (length more))))) other.0 e) in
@@ -226,7 +226,7 @@ Stands r from bytes facts (skipping size left) = Skipping r from bytes facts siz
 Stands r from bytes facts stopped = ⊥
 
 -- a refused message has come so far: all of it, or not
-frame_of_part : (part : List ℕ) (f : Framed part) → head_of part ≡ Two f.0 f.1
+frame_of_part : (part : List ℕ) (f : IsFramed part) → head_of part ≡ Two f.0 f.1
 frame_of_part part (high, low, f) = ap head_of f.whole
 
 closes : (r : Reading) (line : ℕ) (from : Direction) (bytes : List ℕ) (facts : List TraceEvent) (items : List OpenItem) (part : List ℕ) (place byte : ℕ) (why : Why) (size left : ℕ)

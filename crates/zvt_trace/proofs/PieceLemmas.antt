@@ -12,6 +12,7 @@ use Rattle.zvt_apdu.specs.Message.{Message}
 use Rattle.zvt_grammar.specs.declared.why.Why.{Why}
 use Rattle.zvt_apdu.proofs.ViewLemmas.{message_loosened}
 use Rattle.zvt_stream.specs.Apdus.{AliveIn, UnfinishedIn, IsRefusedIn}
+use Rattle.zvt_stream.specs.LineReading.{IsRefusedBy, LineReading, Reads, UnfinishedBy, strictly}
 use Rattle.zvt_stream.specs.StreamState.{StreamState, Holds}
 use Rattle.zvt_stream.specs.Feeds.{Lends}
 use Rattle.zvt_stream.specs.declared.stream.FedView.{FedView}
@@ -58,14 +59,14 @@ pub fed_as : (old new : StreamState) (piece : List ℕ) (answer fed : FedView) �
 fed_as old new piece answer fed is feeds = subst (λ (f : FedView). Lends old piece f new) is feeds
 
 -- what a stream of some reading says is said by that reading
-pub spells_by : (k r : Reading) (m : Message) (bytes : List ℕ) → k ≡ r → Spells k m bytes → Spells r m bytes
-spells_by k r m bytes e = subst (λ (x : Reading). Spells x m bytes) e
+pub spells_by : (k : LineReading) (r : Reading) (m : Message) (bytes : List ℕ) → k ≡ strictly r → Reads k m bytes → Spells r m bytes
+spells_by k r m bytes e = subst (λ (x : LineReading). Reads x m bytes) e
 
-pub unfinished_by : (k r : Reading) (bytes : List ℕ) → k ≡ r → UnfinishedIn k bytes → UnfinishedIn r bytes
-unfinished_by k r bytes e = subst (λ (x : Reading). UnfinishedIn x bytes) e
+pub unfinished_by : (k : LineReading) (r : Reading) (bytes : List ℕ) → k ≡ strictly r → UnfinishedBy k bytes → UnfinishedIn r bytes
+unfinished_by k r bytes e = subst (λ (x : LineReading). UnfinishedBy x bytes) e
 
-pub refused_by : (k r : Reading) (bytes : List ℕ) (place : ℕ) (why : Why) → k ≡ r → IsRefusedIn k bytes place why → IsRefusedIn r bytes place why
-refused_by k r bytes place why e = subst (λ (x : Reading). IsRefusedIn x bytes place why) e
+pub refused_by : (k : LineReading) (r : Reading) (bytes : List ℕ) (place : ℕ) (why : Why) → k ≡ strictly r → IsRefusedBy k bytes place why → IsRefusedIn r bytes place why
+refused_by k r bytes place why e = subst (λ (x : LineReading). IsRefusedBy x bytes place why) e
 
 -- ---- the bytes up to the fatal one
 
@@ -114,11 +115,11 @@ fatal_cut r held bytes part place count why fatal past is cut =
 -- ---- what is borrowed
 
 -- the bytes that are borrowed are a spelling of the message that is
-pub lent_spelling : {A : Type 0} (k r : Reading) → k ≡ r → (now : A → List ℕ) (shown : Option A) (bytes : A) (lent : Option Message) (m : Message) → lent ≡ Some m
-    → IfSome lent (λ n. IfSome shown (λ b. Spells k n (now b)) × IsSome shown) → shown ≡ Some bytes → Spells r m (now bytes)
+pub lent_spelling : {A : Type 0} (k : LineReading) (r : Reading) → k ≡ strictly r → (now : A → List ℕ) (shown : Option A) (bytes : A) (lent : Option Message) (m : Message) → lent ≡ Some m
+    → IfSome lent (λ n. IfSome shown (λ b. Reads k n (now b)) × IsSome shown) → shown ≡ Some bytes → Spells r m (now bytes)
 lent_spelling k r same now shown bytes lent m is trace_event found =
-    let here = subst (λ l. IfSome l (λ n. IfSome shown (λ b. Spells k n (now b)) × IsSome shown)) is trace_event in
-    spells_by k r m (now bytes) same (subst (λ s. IfSome s (λ b. Spells k m (now b))) found here.0)
+    let here = subst (λ l. IfSome l (λ n. IfSome shown (λ b. Reads k n (now b)) × IsSome shown)) is trace_event in
+    spells_by k r m (now bytes) same (subst (λ s. IfSome s (λ b. Reads k m (now b))) found here.0)
 
 -- and a padded spelling of it, as each spelling is
 pub loosened : (r : Reading) (m : Message) (bytes : List ℕ) → Spells r m bytes → Spells padded m bytes

@@ -7,6 +7,7 @@ use Rattle.zvt_grammar.specs.Cuts.{Cut}
 use Rattle.zvt_grammar.specs.Reading.{Reading}
 use Rattle.zvt_apdu.specs.Grammar.{Spells}
 use Rattle.zvt_apdu.specs.Message.{Message}
+use Rattle.zvt_stream.specs.LineReading.{strictly}
 use Rattle.zvt_stream.specs.StreamState.{StreamState, HasRefused}
 use Rattle.zvt_trace.specs.Trace.{Side, running, skipping, stopped}
 use Rattle.zvt_trace.specs.declared.side.SideReader.{SideReader}
@@ -41,7 +42,7 @@ HasLeft Everything = ⊤
 
 -- the reader takes lengths by that reading
 abbrev pub ReadsBy : Reading → SideReader → Type 0
-ReadsBy r reader = (reader.stream.reading ≡ r) × HasLeft reader.skipped
+ReadsBy r reader = (reader.stream.reading ≡ strictly r) × HasLeft reader.skipped
 
 abbrev pub is_nothing : Skipped → Bool
 is_nothing Nothing = true

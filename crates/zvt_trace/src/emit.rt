@@ -5,6 +5,7 @@ ghost use Rattle.zvt_grammar.specs.Reading.{Reading};
 ghost use Rattle.zvt_grammar.specs.Lengths.{reading_of};
 ghost use Rattle.zvt_apdu.specs.Message.{Message};
 ghost use Rattle.zvt_stream.specs.Head.{head_of};
+ghost use Rattle.zvt_stream.specs.LineReading.{strictly};
 ghost use Rattle.zvt_stream.specs.StreamState.{opening_of};
 ghost use Rattle.zvt_trace.specs.TraceEvent.{on};
 ghost use Rattle.zvt_trace.specs.TraceEvent as trace_event;
@@ -40,7 +41,7 @@ pub(crate) fn emit_message<L: Listener>(
     stream: &Stream,
 ) -> Result<(), ListenerError>
     requires lent { (message : Message) × (stream.now.lent ≡ Some message) }
-    requires reading { stream.now.reading ≡ reading_of options.now.lengths }
+    requires reading { stream.now.reading ≡ strictly (reading_of options.now.lengths) }
     ensures { (message : Message) → stream.now.lent ≡ Some message → MatchResult result
         (λ _. L.hears listener.old (on line (trace_event.message from message)) listener.new)
         (λ failure. L.fails listener.old (on line (trace_event.message from message)) failure listener.new) }
@@ -114,7 +115,7 @@ pub(crate) fn emit_resumed<L: Listener>(
     from: Direction,
     reader: &mut SideReader,
 ) -> Result<bool, ListenerError>
-    requires reading { reader.old.stream.reading ≡ reading_of options.now.lengths }
+    requires reading { reader.old.stream.reading ≡ strictly (reading_of options.now.lengths) }
     ensures reading { OnOk result (ReadsBy (reading_of options.now.lengths) reader.new) }
     ensures rest { (size left : ℕ) → SkipsTo reader.old size left → EmitsRest (reading_of options.now.lengths) L.hears
         L.fails line from size left reader.new listener.old listener.new result }

@@ -1,7 +1,8 @@
 //! The ends of a line over TCP, whose traffic goes to a trace.
 ghost use Rattle.std.specs.Prelude.{◌≡◌, ◌||◌, true, false, IfOk};
 ghost use Rattle.zvt_grammar.specs.Lengths.{reading_of};
-ghost use Rattle.zvt_stream.specs.StreamState.{at_start, start_in};
+ghost use Rattle.zvt_stream.specs.LineReading.{reading_as};
+ghost use Rattle.zvt_stream.specs.StreamState.{at_start, start_by, start_in};
 ghost use Rattle.zvt_term.specs.Terminal.{new_terminal};
 
 use crate::BothEnds;
@@ -14,7 +15,7 @@ use std::net::TcpStream;
 use zvt_grammar::Lengths;
 use zvt_io::Over;
 use zvt_show::Shown;
-use zvt_stream::{Endpoint, Stream};
+use zvt_stream::{Endpoint, LineForm, Stream};
 use zvt_term::{DEFAULT_TID, Served, Terminal, Verdict};
 use zvt_trace::{Both, Direction, Observed, Tally, ends_lacking};
 
@@ -84,11 +85,11 @@ pub(crate) fn till_end_of<'a>(
 pub(crate) fn till_line_of<'a>(
     alloc: Global,
     connection: &'a TcpStream,
-    lengths: Lengths,
+    line: LineForm,
     trace: Option<&'a File>,
     shown: Option<Shown<Over<Stderr>, Tally>>,
 ) -> Result<TillLine<'a>, AllocError>
-    ensures start { IfOk result (λ end. end.stream ≡ start_in (reading_of lengths)) }
+    ensures start { IfOk result (λ end. end.stream ≡ start_by (reading_as line)) }
     ensures sides { IfOk result (λ end. (end.reader.from ≡ Direction.FromTerminal)
         × (end.writer.from ≡ Direction.FromTill)) }
     ensures shown { IfOk result (λ end. end.reader.observer.second ≡ shown) }
@@ -101,7 +102,7 @@ pub(crate) fn till_line_of<'a>(
     Ok(Endpoint {
         reader: Observed::new(Direction::FromTerminal, socket, observer),
         writer: tcp_device(alloc, Direction::FromTill, connection, trace)?,
-        stream: Stream::of(alloc, lengths),
+        stream: Stream::reading(alloc, line),
     })
 }
 
@@ -109,17 +110,17 @@ pub(crate) fn till_line_of<'a>(
 pub(crate) fn terminal_end_of<'a>(
     alloc: Global,
     connection: &'a TcpStream,
-    lengths: Lengths,
+    line: LineForm,
     trace: Option<&'a File>,
 ) -> Result<TcpEnd<'a>, AllocError>
-    ensures start { IfOk result (λ end. end.stream ≡ start_in (reading_of lengths)) }
+    ensures start { IfOk result (λ end. end.stream ≡ start_by (reading_as line)) }
     ensures sides { IfOk result (λ end. (end.reader.from ≡ Direction.FromTill)
         × (end.writer.from ≡ Direction.FromTerminal)) }
 {
     Ok(Endpoint {
         reader: tcp_device(alloc, Direction::FromTill, connection, trace)?,
         writer: tcp_device(alloc, Direction::FromTerminal, connection, trace)?,
-        stream: Stream::of(alloc, lengths),
+        stream: Stream::reading(alloc, line),
     })
 }
 

@@ -2,7 +2,7 @@
 use crate::{Planned, StepOptions};
 use std::fs::File;
 use std::io::Stderr;
-use zvt_grammar::Lengths;
+use zvt_stream::LineForm;
 use zvt_term::{Extras, Verdict};
 use zvt_text::Form;
 
@@ -16,8 +16,8 @@ pub struct TillRun<'a, 'f> {
     pub port: u16,
     /// The timeout in seconds, for connecting, for each read and for each write.
     pub seconds: u16,
-    /// The length encodings that the till accepts.
-    pub lengths: Lengths,
+    /// How the till reads the line.
+    pub line: LineForm,
     /// The file for the trace, if one is to be written.
     pub trace: Option<&'f File>,
     /// Shows the terminal's messages on standard error, if it is given.
@@ -54,8 +54,8 @@ pub struct TerminalRun<'a, 'f> {
     pub verdict: Verdict,
     /// What the terminal does beyond the profile.
     pub extras: Extras,
-    /// The length encodings that the terminal accepts.
-    pub lengths: Lengths,
+    /// How the terminal reads its lines.
+    pub line: LineForm,
     /// The number of connections to serve, one after another.
     pub connections: u64,
     /// The file for the trace, if one is to be written.

@@ -1,6 +1,6 @@
 //! Runs of a till over TCP, and of both ends.
 ghost use Rattle.std.specs.Prelude.{◌≡◌, ◌<◌, Err};
-ghost use Rattle.zvt_grammar.specs.Lengths.{reading_of};
+ghost use Rattle.zvt_stream.specs.LineReading.{reading_as};
 ghost use Rattle.zvt_runs.specs.BothEnds.{BeginsHere, MakesHere};
 ghost use Rattle.zvt_runs.specs.Reporting.{ReportsNothing, ReportsRun};
 ghost use Rattle.zvt_runs.specs.Runs.{noting};
@@ -81,7 +81,7 @@ where
     E: Sink,
     ensures run { AnswersOverTcp K.connects K.failed K.till
         (noting N.noted (MakesThere K.orders K.hears K.is_resting K.failed K.till K.loses K.malforms))
-        (BeginsThere (reading_of run.now.lengths)) run.now.options run.now.plan.now till.old till.new
+        (BeginsThere (reading_as run.now.line)) run.now.options run.now.plan.now till.old till.new
         (W.written writer.old) (W.written writer.new)
         (ReportsRun (E.written report.old) (E.written report.new) (E.failures report.old) (E.failures report.new))
         (ReportsNothing (E.written report.old) (E.written report.new) (E.failures report.old)
@@ -93,8 +93,8 @@ where
         options: run.options,
     };
     let end = connect(rt, run.host, run.port, run.seconds).map_err(EndFault::Net)?;
-    let shown = shown_by(alloc, run.options.form, run.lengths, run.show);
-    let mut line = till_line_of(alloc, &end, run.lengths, run.trace, shown)?;
+    let shown = shown_by(alloc, run.options.form, run.line, run.show);
+    let mut line = till_line_of(alloc, &end, run.line, run.trace, shown)?;
     let answer = run_till_end(alloc, &mut line, till, notes, &steps, writer, report);
     let answer = by_trace(is_broken(&line, run.trace), answer);
     by_silence(waited(&line, run.seconds), answer)

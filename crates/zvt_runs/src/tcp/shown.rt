@@ -3,42 +3,36 @@ ghost use Rattle.std.specs.Prelude.{◌≡◌, [], is_some};
 ghost use Rattle.zvt_grammar.specs.Lengths.{reading_of};
 ghost use Rattle.zvt_show.specs.Beside.{showing_of};
 ghost use Rattle.zvt_show.specs.Shown.{HasShown};
-ghost use Rattle.zvt_trace.specs.declared.listener.Scope.TheVariants.{OneSide};
-ghost use Rattle.zvt_runs.specs.Showing.{style_of};
+ghost use Rattle.zvt_runs.specs.Showing.{scope_of, style_of};
 
 use std::alloc::Global;
 use std::io::Stderr;
-use zvt_grammar::Lengths;
 use zvt_io::{Over, Sink};
 use zvt_show::{Shown, Style};
+use zvt_stream::LineForm;
 use zvt_text::{Form, TextOptions};
 use zvt_trace::{Scope, Tally};
 
-/// Returns a listener that shows a line on this output in this form, if an output is given. `lengths` says how the
+/// Returns a listener that shows a line on this output in this form, if an output is given. `line` says how the
 /// messages are read.
 pub(crate) fn shown_by(
     alloc: Global,
     form: Form,
-    lengths: Lengths,
+    line: LineForm,
     output: Option<Stderr>,
 ) -> Option<Shown<Over<Stderr>, Tally>>
     ensures { is_some result ≡ is_some output }
 {
     match output {
-        Some(output) => Some(shown_on(alloc, form, lengths, Over::new(output))),
+        Some(output) => Some(shown_on(alloc, form, line, Over::new(output))),
         None => None,
     }
 }
 
-/// Returns a listener that shows a line on this output in this form. It has shown nothing yet. `lengths` says how the
+/// Returns a listener that shows a line on this output in this form. It has shown nothing yet. `line` says how the
 /// messages are read.
-fn shown_on<W: Sink + Drop>(
-    alloc: Global,
-    form: Form,
-    lengths: Lengths,
-    output: W,
-) -> Shown<W, Tally>
-    ensures { HasShown W.written (reading_of lengths) OneSide (style_of form) [] (W.written output)
+fn shown_on<W: Sink + Drop>(alloc: Global, form: Form, line: LineForm, output: W) -> Shown<W, Tally>
+    ensures { HasShown W.written (reading_of line.lengths) (scope_of line.passes) (style_of form) [] (W.written output)
         (showing_of result) }
 {
     let count = Tally {
@@ -48,11 +42,22 @@ fn shown_on<W: Sink + Drop>(
     Shown::new(
         alloc,
         style_of(form),
-        Scope::OneSide,
-        lengths,
+        scope_of(line.passes),
+        line.lengths,
         output,
         count,
     )
+}
+
+/// Returns what a refusal leaves unread.
+fn scope_of(passes: bool) -> Scope
+    ensures { result ≡ scope_of passes }
+{
+    if passes {
+        Scope::OneMessage
+    } else {
+        Scope::OneSide
+    }
 }
 
 /// Returns the style that shows a line in this form.

@@ -1,6 +1,6 @@
 //! A simulated terminal over TCP, which serves tills one after another.
 ghost use Rattle.std.specs.Prelude.{◌≤◌};
-ghost use Rattle.zvt_grammar.specs.Lengths.{reading_of};
+ghost use Rattle.zvt_stream.specs.LineReading.{reading_as};
 ghost use Rattle.zvt_runs.specs.Connecting.{given_by};
 ghost use Rattle.zvt_runs.specs.Tills.{AnswersService, AnswersTill, AnswersTills, IsOffline, TakesTills};
 
@@ -12,9 +12,8 @@ use crate::{EndFault, serve};
 use std::alloc::Global;
 use std::fs::File;
 use std::net::{Net, TcpListener, TcpStream};
-use zvt_grammar::Lengths;
 use zvt_io::Sink;
-use zvt_stream::LineFault;
+use zvt_stream::{LineFault, LineForm};
 use zvt_term::Extended;
 
 /// Listens, and serves tills one after another with one terminal, waiting for each without limit. The terminal's ledger
@@ -39,7 +38,7 @@ where
     R: Net<Listener = TcpListener, Stream = TcpStream>,
     W: Sink,
     requires { run.now.tid ≤ 99999999 }
-    ensures { AnswersService (reading_of run.now.lengths) run.now.connections run.now.tid run.now.verdict run.now.extras
+    ensures { AnswersService (reading_as run.now.line) run.now.connections run.now.tid run.now.verdict run.now.extras
         result }
 {
     let mut door = match listen(rt, run.host, run.port) {
@@ -60,14 +59,14 @@ fn serve_tills<W: Sink>(
     report: &mut W,
 ) -> Result<(), EndFault>
     requires { IsOffline served.old.served.terminal }
-    ensures served { AnswersTills (reading_of run.now.lengths) run.now.connections served.old served.new result }
+    ensures served { AnswersTills (reading_as run.now.line) run.now.connections served.old served.new result }
     ensures taken { TakesTills run.now.connections (given_by door.old) (given_by door.new) result }
 {
     let mut first = None;
     'tills: for gone in 0..run.connections {
         let connection = door.next().map_err(EndFault::Net)?;
         let rows_before = served.served.terminal.ledger().len();
-        let broke = serve_till(alloc, &connection, run.lengths, served, run.trace)?;
+        let broke = serve_till(alloc, &connection, run.line, served, run.trace)?;
         let till = GoneTill {
             number: gone + 1,
             broke,
@@ -89,14 +88,14 @@ fn serve_tills<W: Sink>(
 fn serve_till(
     alloc: Global,
     connection: &TcpStream,
-    lengths: Lengths,
+    line: LineForm,
     served: &mut Extended,
     trace: Option<&File>,
 ) -> Result<Option<LineFault>, EndFault>
     requires { IsOffline served.old.served.terminal }
-    ensures { AnswersTill (reading_of lengths) served.old served.new result }
+    ensures { AnswersTill (reading_as line) served.old served.new result }
 {
-    let mut end = terminal_end_of(alloc, connection, lengths, trace)?;
+    let mut end = terminal_end_of(alloc, connection, line, trace)?;
     let broke = serve(alloc, &mut end, served).err();
     if is_broken(&end, trace) {
         return Err(EndFault::Trace);

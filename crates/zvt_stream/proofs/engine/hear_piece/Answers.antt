@@ -14,17 +14,17 @@ returns-in_err-sent-in-Ok-Message-clause-err g c =
     let p = err_from_is_err_and c.from_residual.result c.from_residual.ensures.1 in
     let e = c.in_err-sent-in-Ok-Message.ensures in
     let has_message = rw c.in-Ok-Message.field-0-is at c.in-Ok-Message.ensures.fed in
-    let fed = feeds_shown c.messages.stream c.feed_view.new.self _ c.in-Ok-Message.taken (Some c.borrowed_message.result) c.borrowed_message.result has_message c.borrowed_message.ensures refl in
-    rw (p.1, p.2) (going_unanswered c.borrowed_message.result c.in-Ok-Message.taken _ _ _ _ c.messages.invariant.going fed e.err)
+    let fed = feeds_shown c.messages.stream c.feed_view.new.self _ c.in-Ok-Message.taken (Some c.message.result) c.message.result has_message c.message.ensures refl in
+    rw (p.1, p.2) (going_unanswered c.message.result c.in-Ok-Message.taken _ _ _ _ c.messages.invariant.going fed e.err)
 
 pub messages-preserved : goal.messages-preserved
 messages-preserved g c =
     let reply = c.in_ok-sent-in-Ok-Message.ensures in
     let told = c.in-Ok-Message.ensures in
     let has_message = rw c.in-Ok-Message.field-0-is at told.fed in
-    let fed = feeds_shown c.messages.stream c.feed_view.new.self _ c.in-Ok-Message.taken (Some c.borrowed_message.result) c.borrowed_message.result has_message c.borrowed_message.ensures refl in
+    let fed = feeds_shown c.messages.stream c.feed_view.new.self _ c.in-Ok-Message.taken (Some c.message.result) c.message.result has_message c.message.ensures refl in
     let runs : c.messages.stream.stopped ≡ false = not_stopped c.messages.stream.stopped (λ e. let h = told.stopped e in cc) in
-    let more = going_message c.borrowed_message.result c.in-Ok-Message.taken _ _ _ c.in_ok-sent-in-Ok-Message.field-0 c.messages.invariant.going fed runs reply.ok in
+    let more = going_message c.message.result c.in-Ok-Message.taken _ _ _ c.in_ok-sent-in-Ok-Message.field-0 c.messages.invariant.going fed runs reply.ok in
     let P : List ℕ → Type 0 = λ r. Going g.M.Machine.hears c.args.stream.now c.args.piece.now c.feed_view.new.self r c.args.machine.now c.answer.new.machine (g.W.Sink.written c.args.writer.now) (g.W.Sink.written c.answer.new.writer) (c.messages.sent || c.in_ok-sent-in-Ok-Message.field-0) in
     record { going = subst P (sym (rest_of c.in-Ok-Message.taken c.messages.rest.now)) more; failures = reply.failures ∙ c.messages.invariant.failures; room = omega (arith, told.room, c.messages.invariant.room) }
 

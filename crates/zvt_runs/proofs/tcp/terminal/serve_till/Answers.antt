@@ -1,9 +1,9 @@
-use Rattle.zvt_grammar.specs.Lengths.{reading_of}
+use Rattle.zvt_stream.specs.LineReading.{reading_as}
 use Rattle.zvt_runs.proofs.ManyTills.{served_line}
 use Rattle.zvt_runs.proofs.tcp.terminal.serve_till.Goals as goal
 
 pub returns-then-is_broken : goal.returns-then-is_broken
-returns-then-is_broken c = (_, served_line (reading_of c.args.lengths) c.serve.result _ _ c.args.served.now c.serve.new.served c.in_ok-end.ensures.start c.requires c.serve.ensures)
+returns-then-is_broken c = (_, served_line (reading_as c.args.line) c.serve.result _ _ c.args.served.now c.serve.new.served c.in_ok-end.ensures.start c.requires c.serve.ensures)
 
 pub returns : goal.returns
-returns c = rw c.err-broke.ensures.value (served_line (reading_of c.args.lengths) c.serve.result _ _ c.args.served.now c.serve.new.served c.in_ok-end.ensures.start c.requires c.serve.ensures)
+returns c = rw c.err-broke.ensures.value (served_line (reading_as c.args.line) c.serve.result _ _ c.args.served.now c.serve.new.served c.in_ok-end.ensures.start c.requires c.serve.ensures)

@@ -1,20 +1,23 @@
-use Rattle.std.proofs.Common.{ℕ, ◌+◌, List, [], length, take, None, arith, sym, ◌∙◌, ap, subst, refl, length-append}
+use Rattle.std.proofs.Common.{[], ◌≡◌, refl, ℕ, ◌+◌, List, length, take, None, arith, sym, ◌∙◌, ap, subst, length-append}
 use Rattle.zvt_grammar.specs.Reading.{Reading}
+use Rattle.zvt_stream.specs.Passing.{NoFrame, Passes, Rests}
+use Rattle.zvt_stream.specs.StreamState.{StreamState}
+use Rattle.zvt_apdu.specs.Grammar.{Spells}
+use Rattle.zvt_stream.proofs.UnreadLemmas.{counts_heard, dead_before, dead_now, feeds_by, heard_kept, no_frame, none_is}
 use Rattle.zvt_stream.specs.Judge.{JudgeState, IsMessageIn, Ran, StandsFor}
-use Rattle.zvt_stream.proofs.Beginnings.{few_in}
 use Rattle.zvt_stream.proofs.JudgedFeeds.{place_few}
-use Rattle.zvt_stream.proofs.LentLemmas.{ran_in, idle, emptied, feeds_more, feeds_refused, grown, kept_all, kept_first, kept_none, opens_by}
+use Rattle.zvt_stream.proofs.LentLemmas.{feeds_message, ran_in, idle, emptied, refused_all, feeds_more, feeds_refused, grown, kept_all, kept_first, kept_none, opens_by}
 use Rattle.zvt_stream.proofs.stream.Stream.feed.Goals as goal
 
 pub reserve_for-requires : goal.reserve_for-requires
 reserve_for-requires c =
-    let i = idle _ _ _ _ _ _ _ _ c.args.self.now c.give_up.new.self c.self.view_is c.give_up.ensures.keeps c.self.invariant in
-    omega (arith, few_in _ _ i.unfinished)
+    let i = idle _ _ _ _ _ _ _ _ _ c.args.self.now c.give_up.new.self c.self.view_is c.give_up.ensures.keeps c.self.invariant in
+    omega (arith, i.few)
 
 pub judge-requires-clause-stands : goal.judge-requires-clause-stands
 judge-requires-clause-stands c =
-    let i = idle _ _ _ _ _ _ _ _ c.args.self.now c.give_up.new.self c.self.view_is c.give_up.ensures.keeps c.self.invariant in
-    let stands = subst (λ (j : JudgeState). StandsFor j c.self.inside.held.bytes) (sym c.again-judge.ensures) i.stands in
+    let i = idle _ _ _ _ _ _ _ _ _ c.args.self.now c.give_up.new.self c.self.view_is c.give_up.ensures.keeps c.self.invariant in
+    let stands = subst (λ (j : JudgeState). StandsFor j c.self.inside.held.bytes) (sym c.again-judge.ensures) (i.stands c.if-self.false) in
     subst (StandsFor c.again-judge.result) (sym c.reserve_for.ensures.bytes) stands
 
 pub judge-requires-clause-room : goal.judge-requires-clause-room
@@ -22,11 +25,11 @@ judge-requires-clause-room c = omega (arith, c.in_ok-reserve_for.ensures.ok, ap 
 
 pub message-requires-clause-whole : goal.message-requires-clause-whole
 message-requires-clause-whole c =
-    let i = idle _ _ _ _ _ _ _ _ c.args.self.now c.give_up.new.self c.self.view_is c.give_up.ensures.keeps c.self.invariant in
+    let i = idle _ _ _ _ _ _ _ _ _ c.args.self.now c.give_up.new.self c.self.view_is c.give_up.ensures.keeps c.self.invariant in
     let ran = subst (λ (b : List ℕ). Ran c.again-judge.result.reading b c.args.piece.now c.judge.result c.judge.new.judge) c.reserve_for.ensures.bytes c.judge.ensures.judged in
-    let told = rw c.in-Ended.is at (ran_in c.args.self.now.reading c.again-judge.result c.self.inside.held.bytes c.args.piece.now c.judge.result c.judge.new.judge (ap (λ (j : JudgeState). j.reading) c.again-judge.ensures ∙ i.alike) ran) in
+    let told = rw c.in-Ended.is at (ran_in c.self.inside.judge.reading c.again-judge.result c.self.inside.held.bytes c.args.piece.now c.judge.result c.judge.new.judge (ap (λ (j : JudgeState). j.reading) c.again-judge.ensures) ran) in
     let whole = kept_first c.self.inside.held.bytes c.args.piece.now _ _ c.in-Ended.taken (rw c.in-Ended.is at c.judge.ensures.bytes) c.reserve_for.ensures.bytes in
-    subst (λ (r : Reading). IsMessageIn r c.judge.new.self.bytes) (sym (c.lengths-lengths.ensures ∙ i.alike)) (subst (IsMessageIn c.args.self.now.reading) (sym whole) told.2)
+    subst (λ (r : Reading). IsMessageIn r c.judge.new.self.bytes) (sym c.lengths-lengths.ensures) (subst (IsMessageIn c.self.inside.judge.reading) (sym whole) told.2)
 
 pub message-requires-clause-before : goal.message-requires-clause-before
 message-requires-clause-before c =
@@ -35,45 +38,132 @@ message-requires-clause-before c =
 
 pub invariant_of-self-in-Open : goal.invariant_of-self-in-Open
 invariant_of-self-in-Open c =
-    let i = idle _ _ _ _ _ _ _ _ c.args.self.now c.give_up.new.self c.self.view_is c.give_up.ensures.keeps c.self.invariant in
+    let i = idle _ _ _ _ _ _ _ _ _ c.args.self.now c.give_up.new.self c.self.view_is c.give_up.ensures.keeps c.self.invariant in
     let ran = subst (λ (b : List ℕ). Ran c.again-judge.result.reading b c.args.piece.now c.judge.result c.judge.new.judge) c.reserve_for.ensures.bytes c.judge.ensures.judged in
-    let told = rw c.in-Open.is at (ran_in c.args.self.now.reading c.again-judge.result c.self.inside.held.bytes c.args.piece.now c.judge.result c.judge.new.judge (ap (λ (j : JudgeState). j.reading) c.again-judge.ensures ∙ i.alike) ran) in
+    let told = rw c.in-Open.is at (ran_in c.self.inside.judge.reading c.again-judge.result c.self.inside.held.bytes c.args.piece.now c.judge.result c.judge.new.judge (ap (λ (j : JudgeState). j.reading) c.again-judge.ensures) ran) in
     let after = kept_all c.self.inside.held.bytes c.args.piece.now _ _ (rw c.in-Open.is at c.judge.ensures.bytes) c.reserve_for.ensures.bytes in
-    grown _ _ _ _ i.idle c.if-self.false (subst (StandsFor c.judge.new.judge) (sym after) told.0)
+    grown _ _ _ _ _ c.if-self.false i.idle (subst (StandsFor c.judge.new.judge) (sym after) told.0)
 
 pub returns-in-Open-clause-fed : goal.returns-in-Open-clause-fed
 returns-in-Open-clause-fed c =
-    let i = idle _ _ _ _ _ _ _ _ c.args.self.now c.give_up.new.self c.self.view_is c.give_up.ensures.keeps c.self.invariant in
+    let i = idle _ _ _ _ _ _ _ _ _ c.args.self.now c.give_up.new.self c.self.view_is c.give_up.ensures.keeps c.self.invariant in
     let ran = subst (λ (b : List ℕ). Ran c.again-judge.result.reading b c.args.piece.now c.judge.result c.judge.new.judge) c.reserve_for.ensures.bytes c.judge.ensures.judged in
-    let told = rw c.in-Open.is at (ran_in c.args.self.now.reading c.again-judge.result c.self.inside.held.bytes c.args.piece.now c.judge.result c.judge.new.judge (ap (λ (j : JudgeState). j.reading) c.again-judge.ensures ∙ i.alike) ran) in
+    let told = rw c.in-Open.is at (ran_in c.self.inside.judge.reading c.again-judge.result c.self.inside.held.bytes c.args.piece.now c.judge.result c.judge.new.judge (ap (λ (j : JudgeState). j.reading) c.again-judge.ensures) ran) in
     let after = kept_all c.self.inside.held.bytes c.args.piece.now _ _ (rw c.in-Open.is at c.judge.ensures.bytes) c.reserve_for.ensures.bytes in
-    feeds_more _ _ _ _ _ None 0 0 _ _ [] _ i told after c.if-self.false
+    feeds_more _ _ _ _ _ _ None 0 0 [] _ _ _ i told after c.if-self.false
 
 pub invariant_of-self-in-Ended : goal.invariant_of-self-in-Ended
 invariant_of-self-in-Ended c =
-    let i = idle _ _ _ _ _ _ _ _ c.args.self.now c.give_up.new.self c.self.view_is c.give_up.ensures.keeps c.self.invariant in
+    let i = idle _ _ _ _ _ _ _ _ _ c.args.self.now c.give_up.new.self c.self.view_is c.give_up.ensures.keeps c.self.invariant in
     let ran = subst (λ (b : List ℕ). Ran c.again-judge.result.reading b c.args.piece.now c.judge.result c.judge.new.judge) c.reserve_for.ensures.bytes c.judge.ensures.judged in
-    let told = rw c.in-Ended.is at (ran_in c.args.self.now.reading c.again-judge.result c.self.inside.held.bytes c.args.piece.now c.judge.result c.judge.new.judge (ap (λ (j : JudgeState). j.reading) c.again-judge.ensures ∙ i.alike) ran) in
-    emptied _ _ _ _ _ i.idle told.3 (c.in_ok-apdu-in-Ended.ensures.ok.1)
+    let told = rw c.in-Ended.is at (ran_in c.self.inside.judge.reading c.again-judge.result c.self.inside.held.bytes c.args.piece.now c.judge.result c.judge.new.judge (ap (λ (j : JudgeState). j.reading) c.again-judge.ensures) ran) in
+    emptied _ _ _ _ _ _ c.if-self.false i.idle told.3 (c.in_ok-apdu-in-Ended.ensures.ok.1)
 
 pub overflow_add-place : goal.overflow_add-place
 overflow_add-place c =
-    let i = idle _ _ _ _ _ _ _ _ c.args.self.now c.give_up.new.self c.self.view_is c.give_up.ensures.keeps c.self.invariant in
+    let i = idle _ _ _ _ _ _ _ _ _ c.args.self.now c.give_up.new.self c.self.view_is c.give_up.ensures.keeps c.self.invariant in
     let ran = subst (λ (b : List ℕ). Ran c.again-judge.result.reading b c.args.piece.now c.judge.result c.judge.new.judge) c.reserve_for.ensures.bytes c.judge.ensures.judged in
-    let told = rw c.in-Refused.is at (ran_in c.args.self.now.reading c.again-judge.result c.self.inside.held.bytes c.args.piece.now c.judge.result c.judge.new.judge (ap (λ (j : JudgeState). j.reading) c.again-judge.ensures ∙ i.alike) ran) in
+    let told = rw c.in-Refused.is at (ran_in c.self.inside.judge.reading c.again-judge.result c.self.inside.held.bytes c.args.piece.now c.judge.result c.judge.new.judge (ap (λ (j : JudgeState). j.reading) c.again-judge.ensures) ran) in
     let few = place_few _ _ _ _ told.1 in
     omega (arith, few, c.len.ensures, ap length (kept_none c.self.inside.held.bytes c.args.piece.now _ _ (rw c.in-Refused.is at c.judge.ensures.bytes) c.reserve_for.ensures.bytes))
 
 pub invariant_of-self-in-Refused : goal.invariant_of-self-in-Refused
 invariant_of-self-in-Refused c =
-    let i = idle _ _ _ _ _ _ _ _ c.args.self.now c.give_up.new.self c.self.view_is c.give_up.ensures.keeps c.self.invariant in
+    let i = idle _ _ _ _ _ _ _ _ _ c.args.self.now c.give_up.new.self c.self.view_is c.give_up.ensures.keeps c.self.invariant in
     let ran = subst (λ (b : List ℕ). Ran c.again-judge.result.reading b c.args.piece.now c.judge.result c.judge.new.judge) c.reserve_for.ensures.bytes c.judge.ensures.judged in
-    let told = rw c.in-Refused.is at (ran_in c.args.self.now.reading c.again-judge.result c.self.inside.held.bytes c.args.piece.now c.judge.result c.judge.new.judge (ap (λ (j : JudgeState). j.reading) c.again-judge.ensures ∙ i.alike) ran) in
-    emptied _ _ _ _ _ i.idle told.2 (ap (λ h. h.bytes) c.cut.ensures)
+    let told = rw c.in-Refused.is at (ran_in c.self.inside.judge.reading c.again-judge.result c.self.inside.held.bytes c.args.piece.now c.judge.result c.judge.new.judge (ap (λ (j : JudgeState). j.reading) c.again-judge.ensures) ran) in
+    refused_all _ _ _ _ _ c.if-self-2.false i.idle told.2 (ap (λ h. h.bytes) c.cut.ensures)
 
-pub returns-in-Refused-clause-fed : goal.returns-in-Refused-clause-fed
-returns-in-Refused-clause-fed c =
-    let i = idle _ _ _ _ _ _ _ _ c.args.self.now c.give_up.new.self c.self.view_is c.give_up.ensures.keeps c.self.invariant in
+pub returns-else-self-2-clause-fed : goal.returns-else-self-2-clause-fed
+returns-else-self-2-clause-fed c =
+    let i = idle _ _ _ _ _ _ _ _ _ c.args.self.now c.give_up.new.self c.self.view_is c.give_up.ensures.keeps c.self.invariant in
     let ran = subst (λ (b : List ℕ). Ran c.again-judge.result.reading b c.args.piece.now c.judge.result c.judge.new.judge) c.reserve_for.ensures.bytes c.judge.ensures.judged in
-    let told = rw c.in-Refused.is at (ran_in c.args.self.now.reading c.again-judge.result c.self.inside.held.bytes c.args.piece.now c.judge.result c.judge.new.judge (ap (λ (j : JudgeState). j.reading) c.again-judge.ensures ∙ i.alike) ran) in
-    feeds_refused _ _ _ _ None 0 0 c.in-Refused.at _ c.in-Refused.why _ _ _ _ i told (ap (λ n. n + c.in-Refused.at) (c.len.ensures ∙ ap length (kept_none c.self.inside.held.bytes c.args.piece.now _ _ (rw c.in-Refused.is at c.judge.ensures.bytes) c.reserve_for.ensures.bytes))) (ap (λ h. h.bytes) c.cut.ensures) (opens_by _ c.args.piece.now c.bytes.result.now (take (c.in-Refused.at + 1) c.args.piece.now) _ c.in-Refused.at c.opening-self-inside.ensures (c.bytes.ensures ∙ kept_none c.self.inside.held.bytes c.args.piece.now _ _ (rw c.in-Refused.is at c.judge.ensures.bytes) c.reserve_for.ensures.bytes) refl)
+    let told = rw c.in-Refused.is at (ran_in c.self.inside.judge.reading c.again-judge.result c.self.inside.held.bytes c.args.piece.now c.judge.result c.judge.new.judge (ap (λ (j : JudgeState). j.reading) c.again-judge.ensures) ran) in
+    feeds_refused _ _ _ _ _ _ None _ 0 0 c.in-Refused.at _ c.in-Refused.why _ _ _ i c.if-self.false c.if-self-2.false told (ap (λ n. n + c.in-Refused.at) (c.len.ensures ∙ ap length (kept_none c.self.inside.held.bytes c.args.piece.now _ _ (rw c.in-Refused.is at c.judge.ensures.bytes) c.reserve_for.ensures.bytes))) (ap (λ h. h.bytes) c.cut.ensures) (opens_by _ c.args.piece.now c.bytes.result.now (take (c.in-Refused.at + 1) c.args.piece.now) _ c.in-Refused.at c.opening-self-inside.ensures (c.bytes.ensures ∙ kept_none c.self.inside.held.bytes c.args.piece.now _ _ (rw c.in-Refused.is at c.judge.ensures.bytes) c.reserve_for.ensures.bytes) refl)
+
+pub go_on-requires-clause-few : goal.go_on-requires-clause-few
+go_on-requires-clause-few c =
+    let i = idle _ _ _ _ _ _ _ _ _ c.args.self.now c.give_up.new.self c.self.view_is c.give_up.ensures.keeps c.self.invariant in
+    omega (arith, i.few)
+
+pub invariant_of-self-then-self : goal.invariant_of-self-then-self
+invariant_of-self-then-self c =
+    let i = idle _ _ _ _ _ _ _ _ _ c.args.self.now c.give_up.new.self c.self.view_is c.give_up.ensures.keeps c.self.invariant in
+    let r = c.self.inside.judge.reading in
+    let ok = c.in_ok-passed.ensures.ok in
+    let part = i.passing c.if-self.true ok.0 in
+    let dead = dead_before r c.self.inside.held.bytes c.args.piece.now part.place part.why part.refused in
+    heard_kept _ r _ _ _ _ _ _ _ c.in_ok-passed.passed _ _ _ ok.0 i.idle dead ok.1 ok.2 (none_is c.in_ok-passed.passed c.is_none-self-inside.result c.is_none-self-inside.ensures) c.heard_frame.ensures.hears
+
+pub returns-then-self-clause-fed : goal.returns-then-self-clause-fed
+returns-then-self-clause-fed c =
+    let i = idle _ _ _ _ _ _ _ _ _ c.args.self.now c.give_up.new.self c.self.view_is c.give_up.ensures.keeps c.self.invariant in
+    let r = c.self.inside.judge.reading in
+    let ok = c.in_ok-passed.ensures.ok in
+    let part = i.passing c.if-self.true ok.0 in
+    let dead = dead_before r c.self.inside.held.bytes c.args.piece.now part.place part.why part.refused in
+    feeds_by _ r _ _ _ _ _ _ _ c.in_ok-passed.passed _ _ _ _ _ _ _ c.args.self.now ok.0 i.idle dead part.none_whole ok.1 ok.2 c.heard_frame.ensures.hears i.is_held i.alike
+
+pub pass_frame-passed-requires-clause-begun : goal.pass_frame-passed-requires-clause-begun
+pass_frame-passed-requires-clause-begun c =
+    let i = idle _ _ _ _ _ _ _ _ _ c.args.self.now c.give_up.new.self c.self.view_is c.give_up.ensures.keeps c.self.invariant in
+    let r = c.self.inside.judge.reading in
+    let bytes = c.self.inside.held.bytes in
+    let ran = subst (λ (b : List ℕ). Ran c.again-judge.result.reading b c.args.piece.now c.judge.result c.judge.new.judge) c.reserve_for.ensures.bytes c.judge.ensures.judged in
+    let told = rw c.in-Refused.is at (ran_in r c.again-judge.result bytes c.args.piece.now c.judge.result c.judge.new.judge (ap (λ (j : JudgeState). j.reading) c.again-judge.ensures) ran) in
+    let kept = kept_none bytes c.args.piece.now _ _ (rw c.in-Refused.is at c.judge.ensures.bytes) c.reserve_for.ensures.bytes in
+    let none = no_frame r bytes (i.stands c.if-self.false).unfinished in
+    subst NoFrame (sym kept) none
+
+pub invariant_of-self-then-self-2 : goal.invariant_of-self-then-self-2
+invariant_of-self-then-self-2 c =
+    let i = idle _ _ _ _ _ _ _ _ _ c.args.self.now c.give_up.new.self c.self.view_is c.give_up.ensures.keeps c.self.invariant in
+    let r = c.self.inside.judge.reading in
+    let bytes = c.self.inside.held.bytes in
+    let ran = subst (λ (b : List ℕ). Ran c.again-judge.result.reading b c.args.piece.now c.judge.result c.judge.new.judge) c.reserve_for.ensures.bytes c.judge.ensures.judged in
+    let told = rw c.in-Refused.is at (ran_in r c.again-judge.result bytes c.args.piece.now c.judge.result c.judge.new.judge (ap (λ (j : JudgeState). j.reading) c.again-judge.ensures) ran) in
+    let kept = kept_none bytes c.args.piece.now _ _ (rw c.in-Refused.is at c.judge.ensures.bytes) c.reserve_for.ensures.bytes in
+    let dead = dead_now r bytes c.args.piece.now c.in-Refused.at c.in-Refused.why told.0 told.1 in
+    let none = no_frame r bytes (i.stands c.if-self.false).unfinished in
+    let passes = subst (λ (b : List ℕ). Passes b c.args.piece.now c.pass_frame-passed.result c.pass_frame-passed.new.held.bytes) kept c.pass_frame-passed.ensures.passes in
+    let alike : c.self.inside.judge.reading ≡ r = refl in
+    let rests = subst (λ (k : Reading). Rests k c.pass_frame-passed.new.held.bytes c.pass_frame-passed.result c.pass_frame-passed.new.judge) alike c.pass_frame-passed.ensures.rests in
+    heard_kept _ r _ _ _ _ _ _ _ c.pass_frame-passed.result _ _ _ c.if-self-2.true i.idle dead passes rests (none_is c.pass_frame-passed.result c.is_none-self-inside-then-self-2.result c.is_none-self-inside-then-self-2.ensures) c.heard_frame-then-self-2.ensures.hears
+
+pub returns-then-self-2-clause-fed : goal.returns-then-self-2-clause-fed
+returns-then-self-2-clause-fed c =
+    let i = idle _ _ _ _ _ _ _ _ _ c.args.self.now c.give_up.new.self c.self.view_is c.give_up.ensures.keeps c.self.invariant in
+    let r = c.self.inside.judge.reading in
+    let bytes = c.self.inside.held.bytes in
+    let ran = subst (λ (b : List ℕ). Ran c.again-judge.result.reading b c.args.piece.now c.judge.result c.judge.new.judge) c.reserve_for.ensures.bytes c.judge.ensures.judged in
+    let told = rw c.in-Refused.is at (ran_in r c.again-judge.result bytes c.args.piece.now c.judge.result c.judge.new.judge (ap (λ (j : JudgeState). j.reading) c.again-judge.ensures) ran) in
+    let kept = kept_none bytes c.args.piece.now _ _ (rw c.in-Refused.is at c.judge.ensures.bytes) c.reserve_for.ensures.bytes in
+    let dead = dead_now r bytes c.args.piece.now c.in-Refused.at c.in-Refused.why told.0 told.1 in
+    let none = no_frame r bytes (i.stands c.if-self.false).unfinished in
+    let passes = subst (λ (b : List ℕ). Passes b c.args.piece.now c.pass_frame-passed.result c.pass_frame-passed.new.held.bytes) kept c.pass_frame-passed.ensures.passes in
+    let alike : c.self.inside.judge.reading ≡ r = refl in
+    let rests = subst (λ (k : Reading). Rests k c.pass_frame-passed.new.held.bytes c.pass_frame-passed.result c.pass_frame-passed.new.judge) alike c.pass_frame-passed.ensures.rests in
+    feeds_by _ r _ _ _ _ _ _ _ c.pass_frame-passed.result _ _ _ _ _ _ _ c.args.self.now c.if-self-2.true i.idle dead none passes rests c.heard_frame-then-self-2.ensures.hears i.is_held i.alike
+
+pub returns-then-self-2-clause-count : goal.returns-then-self-2-clause-count
+returns-then-self-2-clause-count c =
+    let i = idle _ _ _ _ _ _ _ _ _ c.args.self.now c.give_up.new.self c.self.view_is c.give_up.ensures.keeps c.self.invariant in
+    let r = c.self.inside.judge.reading in
+    let bytes = c.self.inside.held.bytes in
+    let ran = subst (λ (b : List ℕ). Ran c.again-judge.result.reading b c.args.piece.now c.judge.result c.judge.new.judge) c.reserve_for.ensures.bytes c.judge.ensures.judged in
+    let told = rw c.in-Refused.is at (ran_in r c.again-judge.result bytes c.args.piece.now c.judge.result c.judge.new.judge (ap (λ (j : JudgeState). j.reading) c.again-judge.ensures) ran) in
+    let kept = kept_none bytes c.args.piece.now _ _ (rw c.in-Refused.is at c.judge.ensures.bytes) c.reserve_for.ensures.bytes in
+    let dead = dead_now r bytes c.args.piece.now c.in-Refused.at c.in-Refused.why told.0 told.1 in
+    let passes = subst (λ (b : List ℕ). Passes b c.args.piece.now c.pass_frame-passed.result c.pass_frame-passed.new.held.bytes) kept c.pass_frame-passed.ensures.passes in
+    let before = ap (λ (t : StreamState). t.judged) c.self.view_is ∙ c.give_up.ensures.count in
+    counts_heard _ r bytes _ _ _ _ _ c.pass_frame-passed.result _ c.args.self.now _ _ c.if-self-2.true dead passes told.0 i.alike c.heard_frame-then-self-2.ensures.hears (omega (arith, before, c.in-Refused.ensures.count))
+
+pub returns-in_ok-apdu-in-Ended-clause-fed : goal.returns-in_ok-apdu-in-Ended-clause-fed
+returns-in_ok-apdu-in-Ended-clause-fed c =
+    let i = idle _ _ _ _ _ _ _ _ _ c.args.self.now c.give_up.new.self c.self.view_is c.give_up.ensures.keeps c.self.invariant in
+    let ran = subst (λ (b : List ℕ). Ran c.again-judge.result.reading b c.args.piece.now c.judge.result c.judge.new.judge) c.reserve_for.ensures.bytes c.judge.ensures.judged in
+    let told = rw c.in-Ended.is at (ran_in c.self.inside.judge.reading c.again-judge.result c.self.inside.held.bytes c.args.piece.now c.judge.result c.judge.new.judge (ap (λ (j : JudgeState). j.reading) c.again-judge.ensures) ran) in
+    let whole = kept_first c.self.inside.held.bytes c.args.piece.now _ _ c.in-Ended.taken (rw c.in-Ended.is at c.judge.ensures.bytes) c.reserve_for.ensures.bytes in
+    let ok = c.in_ok-apdu-in-Ended.ensures.ok in
+    let spells = subst (λ (b : List ℕ). Spells c.self.inside.judge.reading c.in_ok-apdu-in-Ended.apdu b) whole (subst (λ (r : Reading). Spells r c.in_ok-apdu-in-Ended.apdu c.judge.new.self.bytes) c.lengths-lengths.ensures ok.0) in
+    feeds_message _ _ _ _ _ _ _ None [] 0 0 _ _ _ _ i told spells ok.1 c.if-self.false
