@@ -14,6 +14,31 @@ use clap::ArgMatches;
 
 const LARGEST_TID: u32 = 99_999_999;
 
+// The help of the options.
+
+const PORT: &str = "TCP port to listen on; 0 picks a free one and prints it";
+
+const CONNECTIONS: &str =
+    "Serve N tills one after another, then exit; 0 for no end. Other tills wait meanwhile. The ledger \
+     is kept between tills.";
+
+const DECLINE: &str = "Decline every payment with this code: two hexadecimal digits, not 00";
+
+const EXTENDED: &str =
+    "Also accept status enquiry, diagnosis, initialisation, log-off, repeat receipt, \
+    refund, date and time, and language";
+
+const CARD: &str = "Show this card in the status of each transaction: girocard or visa";
+
+const RECEIPT: &str = "How receipts are sent: lines (the default), blocks or none";
+
+const INTERMEDIATE: &str = "Send an intermediate status before the first status of an order";
+
+const LOOSE: &str = "Accept padded lengths, as some tills send them";
+
+const JSON: &str =
+    "Print one JSON object per line on standard output, instead of the reports on standard error";
+
 /// The options of `terminal`.
 #[derive(Clone, Copy)]
 pub struct TerminalOptions<'a> {
@@ -52,50 +77,19 @@ pub fn terminal_row() -> CommandRow<'static>
         more: "Example:
   zvt terminal --port 20007 --decline 6C",
         options: &[
-            CommandOption::NeededPort(
-                "port",
-                "TCP port to listen on; 0 picks a free one and prints it",
-            ),
+            CommandOption::NeededPort("port", PORT),
             CommandOption::Host("Address to listen on"),
             CommandOption::Tid("Terminal number, at most 99999999"),
-            CommandOption::Number(
-                "connections",
-                "N",
-                "1",
-                "Serve N tills one after another, then exit; 0 for no end. Other tills wait meanwhile. The \
-                    ledger is kept between tills.",
-            ),
-            CommandOption::Value(
-                "decline",
-                "XX",
-                "Decline every payment with this code: two hexadecimal digits, not 00",
-            ),
-            CommandOption::Flag(
-                "extended",
-                "Also accept status enquiry, diagnosis, initialisation, log-off, repeat receipt, refund, date and \
-                    time, and language",
-            ),
-            CommandOption::Value(
-                "card",
-                "CARD",
-                "Show this card in the status of each transaction: girocard or visa",
-            ),
-            CommandOption::Value(
-                "receipt",
-                "FORM",
-                "How receipts are sent: lines (the default), blocks or none",
-            ),
-            CommandOption::Flag(
-                "intermediate",
-                "Send an intermediate status before the first status of an order",
-            ),
+            CommandOption::Number("connections", "N", "1", CONNECTIONS),
+            CommandOption::Value("decline", "XX", DECLINE),
+            CommandOption::Flag("extended", EXTENDED),
+            CommandOption::Value("card", "CARD", CARD),
+            CommandOption::Value("receipt", "FORM", RECEIPT),
+            CommandOption::Flag("intermediate", INTERMEDIATE),
             CommandOption::Value("trace", "FILE", help::TRACE),
-            CommandOption::Flag("loose", "Accept padded lengths, as some tills send them"),
+            CommandOption::Flag("loose", LOOSE),
             CommandOption::Flag("open", help::OPEN_TERMINAL),
-            CommandOption::Flag(
-                "json",
-                "Print one JSON object per line on standard output, instead of the reports on standard error",
-            ),
+            CommandOption::Flag("json", JSON),
         ],
     }
 }
