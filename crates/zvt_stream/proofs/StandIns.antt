@@ -1,5 +1,5 @@
 -- The messages that are heard for unread frames.
-use Rattle.std.proofs.Common.{[], ◌∷◌, refl, arith}
+use Rattle.std.proofs.Common.{[], ◌∷◌, ◌≢◌, refl, arith}
 use Rattle.zvt_grammar.specs.Reading.{Reading, shortest}
 use Rattle.zvt_apdu.specs.Grammar.{Spells, form_of}
 use Rattle.zvt_apdu.specs.Message.{abort, completion, other, status}
@@ -39,3 +39,20 @@ has_spelling kind.Intermediate = strange
 has_spelling kind.PrintLine = strange
 has_spelling kind.TextBlock = strange
 has_spelling kind.Other = strange
+
+-- every other kind
+pub a_strange_kind : (k : Kind) → k ≢ kind.Status → k ≢ kind.Completion → k ≢ kind.Abort → (r : Reading) → Spells r (stand_in k) (0xFF ∷ 0xFF ∷ 0x00 ∷ [])
+a_strange_kind kind.Status no_status no_completion no_abort r = absurd (no_status refl)
+a_strange_kind kind.Completion no_status no_completion no_abort r = absurd (no_completion refl)
+a_strange_kind kind.Abort no_status no_completion no_abort r = absurd (no_abort refl)
+a_strange_kind kind.Ack no_status no_completion no_abort r = a_stranger r
+a_strange_kind kind.Nack no_status no_completion no_abort r = a_stranger r
+a_strange_kind kind.Registration no_status no_completion no_abort r = a_stranger r
+a_strange_kind kind.Authorisation no_status no_completion no_abort r = a_stranger r
+a_strange_kind kind.Reversal no_status no_completion no_abort r = a_stranger r
+a_strange_kind kind.EndOfDay no_status no_completion no_abort r = a_stranger r
+a_strange_kind kind.AbortOrder no_status no_completion no_abort r = a_stranger r
+a_strange_kind kind.Intermediate no_status no_completion no_abort r = a_stranger r
+a_strange_kind kind.PrintLine no_status no_completion no_abort r = a_stranger r
+a_strange_kind kind.TextBlock no_status no_completion no_abort r = a_stranger r
+a_strange_kind kind.Other no_status no_completion no_abort r = a_stranger r

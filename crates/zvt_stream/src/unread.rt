@@ -50,7 +50,6 @@ pub(crate) fn kind_named(head: Head) -> Kind
 }
 
 /// Returns the encoding of the message that is heard for an unread frame of this kind.
-#[tactic(auto, using(crate::proofs::StandIns::a_completion, crate::proofs::StandIns::a_status, crate::proofs::StandIns::a_stranger, crate::proofs::StandIns::an_abort))]
 pub(crate) fn stand_in(kind: Kind) -> &'static [u8]
     ensures { (r : Reading) → Spells r (stand_in kind) result.now }
 {
