@@ -41,7 +41,7 @@ pub struct TillOptions<'a> {
 }
 
 /// The options of `till`, in the order of its help.
-const OPTIONS: [CommandOption<'static>; 14] = [
+const OPTIONS: [CommandOption<'static>; 15] = [
     CommandOption::NeededPort("port", "TCP port of the terminal"),
     CommandOption::Host("Host name or address of the terminal"),
     CommandOption::Value(
