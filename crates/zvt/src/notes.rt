@@ -47,13 +47,7 @@ pub fn report_notes(
                 b"zvt: only '<' sent orders: the directions of the trace may be swapped\n",
             )?;
         }
-        for order in found.unfollowed.iter() {
-            let note = OrderNote::of(order);
-            writeln!(errors, "zvt: {note}")?;
-        }
-        if !found.unfollowed.is_empty() {
-            writeln!(errors, "zvt: {UNFOLLOWED}")?;
-        }
+        write_unfollowed(&mut errors, found.unfollowed.as_slice())?;
     }
     Ok(true)
 }
@@ -99,18 +93,19 @@ pub fn report_counts(
     } else if found.tally.messages == 0 {
         report(rt, "the trace contains no message")?;
     }
-    report_unfollowed(rt, found.unfollowed.as_slice())
+    write_unfollowed(&mut rt.stderr(), found.unfollowed.as_slice())
 }
 
-/// Reports the orders that an audit does not follow.
-pub fn report_unfollowed(rt: &HostRuntime, orders: &[UnfollowedOrder]) -> io::Result<()> {
+/// Writes a line for each order that an audit does not follow, and then what to do about them.
+pub fn write_unfollowed<W: Write>(errors: &mut W, orders: &[UnfollowedOrder]) -> io::Result<()> {
     if orders.is_empty() {
         return Ok(());
     }
     for order in orders {
-        report(rt, OrderNote::of(order))?;
+        let note = OrderNote::of(order);
+        writeln!(errors, "zvt: {note}")?;
     }
-    report(rt, UNFOLLOWED)
+    writeln!(errors, "zvt: {UNFOLLOWED}")
 }
 
 /// Returns the line of the trace, counted from 1, that cannot be read, if that is why the command ended.

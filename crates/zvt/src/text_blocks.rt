@@ -72,7 +72,7 @@ pub fn report_text_blocks(
 
 const HINT: &str = "the receipts of this trace are in text blocks: print them with --text-blocks";
 
-/// Returns whether the output has receipts, without those of text blocks.
+/// Returns whether the output has receipts and leaves out text blocks.
 fn skips_text_blocks(work: TraceWork) -> bool {
     match work {
         TraceWork::Render(Style::Receipts(ReceiptOptions { text_blocks, .. }))
