@@ -167,7 +167,7 @@ uint32_t zvt_till_feed(zvt_till *till, const uint8_t *piece, size_t length, uint
 uint32_t zvt_till_feed_all(zvt_till *till, const uint8_t *piece, size_t length, uint8_t *out, size_t out_length,
                            uint8_t *line, size_t line_length, zvt_step *step);
 /* Writes the line at this index, from 0, of the message that the last feed ended with: a print line has one, and a text block
- * those of its receipt. If the room is too small, nothing is written; `line->size` is the size of the line. With a code page
+ * has the lines of its receipt. If the room is too small, nothing is written; `line->size` is the size of the line. With a code page
  * the line is written in UTF-8, in which control characters, and bytes that are no character, are \x and two hexadecimal
  * digits. The status is ZVT_OK, ZVT_NO_MEMORY, ZVT_CLOSED, or ZVT_ARGUMENT if there is no such line; unless it is ZVT_OK,
  * `line` is cleared. */

@@ -45,7 +45,7 @@ class Line(bytes):
 
 
 class TextLine(str):
-    """A line to print, decoded. `copy` is that of a Line."""
+    """A line to print, decoded. `copy` says which receipt it belongs to, as in Line."""
     copy = None
 
 

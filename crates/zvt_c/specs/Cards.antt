@@ -56,7 +56,7 @@ no_card = ([], [])
 abbrev pub card_of : List Field → List ℕ × List ℕ
 card_of fields = (before_zero (content_in 0x8B fields), masked (digits_in (content_in 0x22 fields)))
 
--- The card after a message: that of the last status information while an order is running.
+-- The card after a message: the last status information of a running order names it.
 abbrev pub heard_card : (running : Bool) → Message → List ℕ × List ℕ → List ℕ × List ℕ
 heard_card running (status fields) card = cond running (card_of fields) card
 heard_card running _ card = card

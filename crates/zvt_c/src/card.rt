@@ -80,7 +80,7 @@ impl Card {
     }
 }
 
-/// Replaces the card by that of a status information, if an order is running.
+/// Takes the card that a status information names, if an order is running.
 pub(crate) fn hear_card(card: &mut Card, running: bool, apdu: &ApduView<'_>)
     ensures { card.new ≡ heard_card running apdu.now card.old }
 {

@@ -19,7 +19,7 @@ LentBytes has_message refused bytes = has_message ≡ true → refused ≡ false
 pub lent_once : (has_message refused : Bool) (bytes : List ℕ) → (a b : LentBytes has_message refused bytes) → a ≡ b
 lent_once has_message refused bytes = Π_prop (λ _. Π_prop (λ _. message_once bytes))
 
--- The lent message: that of the bytes, or the one that a refused frame counts as.
+-- The lent message: the one that the bytes spell, or the stand-in of a refused frame.
 abbrev pub lent_of : (has_message refused : Bool) → (bytes : List ℕ) → LentBytes has_message refused bytes → Option Message
 lent_of true false bytes spelled = Some (spelled refl refl).0
 lent_of true true bytes spelled = Some (stand_in (kind_named (head_of bytes)))

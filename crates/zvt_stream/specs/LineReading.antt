@@ -78,7 +78,7 @@ IsRefusedBy (openly r) bytes place why = ⊥
 abbrev pub SpelledBy : LineReading → List ℕ → List Message → (rest : List ℕ) → Type 0
 SpelledBy l = cuts.Spelled (Reads l)
 
--- The messages of the bytes, and the rest, of which no message is a prefix.
+-- The messages of the bytes, and the rest, which begins with no message.
 abbrev pub CutBy : LineReading → List ℕ → List Message → (rest : List ℕ) → Type 0
 CutBy l = cuts.Cut (Reads l)
 

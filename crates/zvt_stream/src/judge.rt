@@ -243,7 +243,7 @@ impl Judge {
     }
 }
 
-/// Returns the levels of a message of which no more than these control bytes have arrived.
+/// Returns the levels of a message after its control bytes.
 fn no_levels(high: u8, low: u8) -> Levels
     ensures high { result.high ≡ high }
     ensures low { result.low ≡ low }

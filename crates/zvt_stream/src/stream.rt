@@ -137,7 +137,7 @@ impl Stream {
         }
     }
 
-    /// Returns the bytes of the lent message. On an open line they may be those of a frame that was not read.
+    /// Returns the bytes of the lent message. On an open line they may be a frame that was not read.
     pub fn lent_bytes(&self) -> Option<&[u8]>
         ensures some { IfSome self.now.lent (λ m. IfSome result (λ bytes. Reads self.now.reading m bytes.now)
             × IsSome result) }

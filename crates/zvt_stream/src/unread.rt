@@ -159,7 +159,7 @@ pub(crate) fn heard_frame(alloc: Global, held: &mut Held, passed: Option<usize>)
 }
 
 impl Stream {
-    /// The message that is lent: that of the bytes, or the stand-in of a frame that was not read.
+    /// Returns the lent message: the one that the bytes spell, or the stand-in of an unread frame.
     #[inline(always)]
     pub(crate) fn message(&self) -> ApduView<'_>
         requires { IsSome self.now.lent }

@@ -6,7 +6,7 @@ use Rattle.zvt_c.specs.Saving.{Written}
 use Rattle.zvt_c.proofs.lines.give_line.Goals as goal
 use Rattle.zvt_c.proofs.lines.give_line.Goals.{in-None, in-Some-page_of+in-Some-put_decoded}
 
--- a number with a code page is not that of the bytes as they were sent
+-- a number that names a code page is not 0
 paged : (n : ℕ) (page : Codepage) → page_of n ≡ Some page → 0 < n
 paged zero page e = absurd (cc (e))
 paged (suc n) page e = omega arith
