@@ -6,6 +6,8 @@ use Rattle.std.specs.Str.{chars, is_utf8}
 use Rattle.zvt_text.specs.Bytes.{escaped, escaped_text}
 use Rattle.zvt_text.specs.declared.codepages.Codepage.{Codepage}
 use Rattle.zvt_text.specs.declared.codepages.Codepage.TheVariants.{Cp437, Cp850, Latin1, Utf8}
+use Rattle.zvt_text.specs.declared.codepages.Quotes.{Quotes}
+use Rattle.zvt_text.specs.declared.codepages.Quotes.TheVariants.{Escaped, Plain}
 
 -- ---- the characters of the bytes from 80 to FF
 
@@ -56,52 +58,45 @@ characters_latin1 =
 
 -- ---- the text
 
--- Bytes below 80 are as without a code page, and control characters stay escapes.
-abbrev pub decoded_byte : (characters : List ℕ) → ℕ → List ℕ
-decoded_byte characters byte =
-    if nat_lt byte 0x80 then escaped byte
-    else if is_control (slice_index characters (byte - 0x80)) then escaped byte
-    else encode_utf8 (slice_index characters (byte - 0x80))
-
-abbrev pub decoded_by : (characters : List ℕ) → List ℕ → List ℕ
-decoded_by characters bytes = flat_map (decoded_byte characters) bytes
-
--- a character of UTF-8, in the same way
-abbrev pub decoded_character : ℕ → List ℕ
-decoded_character c = if nat_lt c 0x80 then escaped c else if is_control c then escaped_text (encode_utf8 c) else encode_utf8 c
-
--- bytes that are not UTF-8 are as without a code page
-abbrev pub decoded_utf8 : List ℕ → List ℕ
-decoded_utf8 bytes = if is_utf8 bytes then flat_map decoded_character (chars bytes) else escaped_text bytes
-
--- the text of bytes in this code page; without one, escapes
-abbrev pub decoded_text : Option Codepage → List ℕ → List ℕ
-decoded_text None bytes = escaped_text bytes
-decoded_text (Some Cp437) bytes = decoded_by characters_437 bytes
-decoded_text (Some Cp850) bytes = decoded_by characters_850 bytes
-decoded_text (Some Latin1) bytes = decoded_by characters_latin1 bytes
-decoded_text (Some Utf8) bytes = decoded_utf8 bytes
-
--- ---- the text of a line to print, in which each printing character of ASCII is as it is
-
 abbrev pub is_printing : ℕ → Bool
 is_printing byte = nat_le 0x20 byte && nat_le byte 0x7E
 
-abbrev pub printed_byte : (characters : List ℕ) → ℕ → List ℕ
-printed_byte characters byte = if is_printing byte then byte ∷ [] else decoded_byte characters byte
+-- a character of ASCII: as without a code page, or each printing one as it is
+abbrev pub ascii : Quotes → ℕ → List ℕ
+ascii Escaped c = escaped c
+ascii Plain c = if is_printing c then c ∷ [] else escaped c
 
-abbrev pub printed_by : (characters : List ℕ) → List ℕ → List ℕ
-printed_by characters bytes = flat_map (printed_byte characters) bytes
+-- Control characters stay escapes.
+abbrev pub decoded_byte : (characters : List ℕ) → Quotes → ℕ → List ℕ
+decoded_byte characters quotes byte =
+    if nat_lt byte 0x80 then ascii quotes byte
+    else if is_control (slice_index characters (byte - 0x80)) then escaped byte
+    else encode_utf8 (slice_index characters (byte - 0x80))
 
-abbrev pub printed_character : ℕ → List ℕ
-printed_character c = if is_printing c then c ∷ [] else decoded_character c
+abbrev pub decoded_by : (characters : List ℕ) → Quotes → List ℕ → List ℕ
+decoded_by characters quotes bytes = flat_map (decoded_byte characters quotes) bytes
+
+-- a character of UTF-8, in the same way
+abbrev pub decoded_character : Quotes → ℕ → List ℕ
+decoded_character quotes c =
+    if nat_lt c 0x80 then ascii quotes c else if is_control c then escaped_text (encode_utf8 c) else encode_utf8 c
 
 -- bytes that are not UTF-8 are as without a code page
-abbrev pub printed_utf8 : List ℕ → List ℕ
-printed_utf8 bytes = if is_utf8 bytes then flat_map printed_character (chars bytes) else escaped_text bytes
+abbrev pub decoded_utf8 : Quotes → List ℕ → List ℕ
+decoded_utf8 quotes bytes = if is_utf8 bytes then flat_map (decoded_character quotes) (chars bytes) else escaped_text bytes
 
+-- the text of bytes in this code page
+abbrev pub text_by : Quotes → Codepage → List ℕ → List ℕ
+text_by quotes Cp437 bytes = decoded_by characters_437 quotes bytes
+text_by quotes Cp850 bytes = decoded_by characters_850 quotes bytes
+text_by quotes Latin1 bytes = decoded_by characters_latin1 quotes bytes
+text_by quotes Utf8 bytes = decoded_utf8 quotes bytes
+
+-- the text of a receipt's line: escapes alone without a code page
+abbrev pub decoded_text : Option Codepage → List ℕ → List ℕ
+decoded_text None bytes = escaped_text bytes
+decoded_text (Some codepage) bytes = text_by Escaped codepage bytes
+
+-- the text of a line to print, in which each printing character of ASCII is as it is
 abbrev pub printed_text : Codepage → List ℕ → List ℕ
-printed_text Cp437 bytes = printed_by characters_437 bytes
-printed_text Cp850 bytes = printed_by characters_850 bytes
-printed_text Latin1 bytes = printed_by characters_latin1 bytes
-printed_text Utf8 bytes = printed_utf8 bytes
+printed_text codepage bytes = text_by Plain codepage bytes

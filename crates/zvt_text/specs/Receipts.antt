@@ -40,7 +40,9 @@ AsciiStays = (codepage : Option Codepage) (bytes : List ℕ) → IsAscii bytes �
 
 -- the text is UTF-8, whatever the bytes are
 abbrev pub TextsAreUtf8 : Type 0
-TextsAreUtf8 = (codepage : Option Codepage) (bytes : List ℕ) → IsUtf8 (decoded_text codepage bytes)
+TextsAreUtf8 =
+    ((codepage : Option Codepage) (bytes : List ℕ) → IsUtf8 (decoded_text codepage bytes)) ×
+    ((codepage : Codepage) (bytes : List ℕ) → IsUtf8 (printed_text codepage bytes))
 
 -- ---- worked rows
 

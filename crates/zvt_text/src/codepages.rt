@@ -1,8 +1,7 @@
 //! The text of a receipt, by its code page.
 ghost use Rattle.std.specs.Prelude.{◌≡◌, ◌≤◌, length};
 ghost use Rattle.std.specs.Char.{encode_utf8};
-ghost use Rattle.zvt_text.specs.Codepages.{decoded_by, decoded_byte, decoded_character, decoded_text, decoded_utf8};
-ghost use Rattle.zvt_text.specs.Codepages.{printed_by, printed_byte, printed_character, printed_text, printed_utf8};
+ghost use Rattle.zvt_text.specs.Codepages.{ascii, decoded_by, decoded_byte, decoded_character, decoded_utf8, text_by};
 ghost use Rattle.zvt_text.specs.Writing.{Puts};
 
 use crate::bytes::{escape, escape_all};
@@ -22,22 +21,31 @@ pub enum Codepage {
     Utf8,
 }
 
-/// Writes a text in UTF-8. Without a code page, all bytes that are not ASCII become escapes.
+/// How quotation marks and backslashes are written.
+#[derive(Clone, Copy, Debug, PartialEq, Eq)]
+pub(crate) enum Quotes {
+    /// As escapes.
+    Escaped,
+    /// As they are.
+    Plain,
+}
+
+/// Writes a text in UTF-8 by its code page.
 pub(crate) fn decode(
     buffer: &mut [u8],
     at: usize,
-    codepage: Option<Codepage>,
+    codepage: Codepage,
+    quotes: Quotes,
     bytes: &[u8],
 ) -> Result<usize, Full>
     requires { at ≤ length buffer.old }
-    ensures { Puts result at buffer.old buffer.new (decoded_text codepage bytes.now) }
+    ensures { Puts result at buffer.old buffer.new (text_by quotes codepage bytes.now) }
 {
     match codepage {
-        None => escape_all(buffer, at, bytes),
-        Some(Codepage::Cp437) => decode_by(buffer, at, &CP437, bytes),
-        Some(Codepage::Cp850) => decode_by(buffer, at, &CP850, bytes),
-        Some(Codepage::Latin1) => decode_by(buffer, at, &LATIN1, bytes),
-        Some(Codepage::Utf8) => decode_utf8(buffer, at, bytes),
+        Codepage::Cp437 => decode_by(buffer, at, &CP437, quotes, bytes),
+        Codepage::Cp850 => decode_by(buffer, at, &CP850, quotes, bytes),
+        Codepage::Latin1 => decode_by(buffer, at, &LATIN1, quotes, bytes),
+        Codepage::Utf8 => decode_utf8(buffer, at, quotes, bytes),
     }
 }
 
@@ -46,14 +54,15 @@ fn decode_by(
     buffer: &mut [u8],
     at: usize,
     characters: &[char; 128],
+    quotes: Quotes,
     bytes: &[u8],
 ) -> Result<usize, Full>
     requires { at ≤ length buffer.old }
-    ensures { Puts result at buffer.old buffer.new (decoded_by characters.now bytes.now) }
+    ensures { Puts result at buffer.old buffer.new (decoded_by characters.now quotes bytes.now) }
 {
     let mut end = at;
     for byte in bytes {
-        end = decode_byte(buffer, end, characters, *byte)?;
+        end = decode_byte(buffer, end, characters, quotes, *byte)?;
     }
     Ok(end)
 }
@@ -62,13 +71,14 @@ fn decode_byte(
     buffer: &mut [u8],
     at: usize,
     characters: &[char; 128],
+    quotes: Quotes,
     byte: u8,
 ) -> Result<usize, Full>
     requires { at ≤ length buffer.old }
-    ensures { Puts result at buffer.old buffer.new (decoded_byte characters.now byte) }
+    ensures { Puts result at buffer.old buffer.new (decoded_byte characters.now quotes byte) }
 {
     if byte < 0x80 {
-        return escape(buffer, at, byte);
+        return ascii(buffer, at, quotes, byte);
     }
     let character = characters[byte as usize - 0x80];
     if character.is_control() {
@@ -78,26 +88,31 @@ fn decode_byte(
 }
 
 /// Writes a text of UTF-8. Bytes that are not UTF-8 get escapes.
-fn decode_utf8(buffer: &mut [u8], at: usize, bytes: &[u8]) -> Result<usize, Full>
+fn decode_utf8(buffer: &mut [u8], at: usize, quotes: Quotes, bytes: &[u8]) -> Result<usize, Full>
     requires { at ≤ length buffer.old }
-    ensures { Puts result at buffer.old buffer.new (decoded_utf8 bytes.now) }
+    ensures { Puts result at buffer.old buffer.new (decoded_utf8 quotes bytes.now) }
 {
     let Ok(text) = str::from_utf8(bytes) else {
         return escape_all(buffer, at, bytes);
     };
     let mut end = at;
     for character in text.chars() {
-        end = decode_character(buffer, end, character)?;
+        end = decode_character(buffer, end, quotes, character)?;
     }
     Ok(end)
 }
 
-fn decode_character(buffer: &mut [u8], at: usize, character: char) -> Result<usize, Full>
+fn decode_character(
+    buffer: &mut [u8],
+    at: usize,
+    quotes: Quotes,
+    character: char,
+) -> Result<usize, Full>
     requires { at ≤ length buffer.old }
-    ensures { Puts result at buffer.old buffer.new (decoded_character character) }
+    ensures { Puts result at buffer.old buffer.new (decoded_character quotes character) }
 {
     if character.is_ascii() {
-        return escape(buffer, at, character as u8);
+        return ascii(buffer, at, quotes, character as u8);
     }
     if character.is_control() {
         return escape_all(buffer, at, character.encode_utf8(&mut [0; 4]).as_bytes());
@@ -105,77 +120,15 @@ fn decode_character(buffer: &mut [u8], at: usize, character: char) -> Result<usi
     encode(buffer, at, character)
 }
 
-/// Writes a line to print in UTF-8. Each printing character of ASCII is as it is; the others are as in [`decode`].
-pub(crate) fn print(
-    buffer: &mut [u8],
-    at: usize,
-    codepage: Codepage,
-    bytes: &[u8],
-) -> Result<usize, Full>
+/// Writes a character of ASCII.
+fn ascii(buffer: &mut [u8], at: usize, quotes: Quotes, character: u8) -> Result<usize, Full>
     requires { at ≤ length buffer.old }
-    ensures { Puts result at buffer.old buffer.new (printed_text codepage bytes.now) }
+    ensures { Puts result at buffer.old buffer.new (ascii quotes character) }
 {
-    match codepage {
-        Codepage::Cp437 => print_by(buffer, at, &CP437, bytes),
-        Codepage::Cp850 => print_by(buffer, at, &CP850, bytes),
-        Codepage::Latin1 => print_by(buffer, at, &LATIN1, bytes),
-        Codepage::Utf8 => print_utf8(buffer, at, bytes),
+    if quotes == Quotes::Plain && character >= 0x20 && character <= 0x7E {
+        return push(buffer, at, character);
     }
-}
-
-fn print_by(
-    buffer: &mut [u8],
-    at: usize,
-    characters: &[char; 128],
-    bytes: &[u8],
-) -> Result<usize, Full>
-    requires { at ≤ length buffer.old }
-    ensures { Puts result at buffer.old buffer.new (printed_by characters.now bytes.now) }
-{
-    let mut end = at;
-    for byte in bytes {
-        end = print_byte(buffer, end, characters, *byte)?;
-    }
-    Ok(end)
-}
-
-fn print_byte(
-    buffer: &mut [u8],
-    at: usize,
-    characters: &[char; 128],
-    byte: u8,
-) -> Result<usize, Full>
-    requires { at ≤ length buffer.old }
-    ensures { Puts result at buffer.old buffer.new (printed_byte characters.now byte) }
-{
-    if byte >= 0x20 && byte <= 0x7E {
-        return push(buffer, at, byte);
-    }
-    decode_byte(buffer, at, characters, byte)
-}
-
-fn print_utf8(buffer: &mut [u8], at: usize, bytes: &[u8]) -> Result<usize, Full>
-    requires { at ≤ length buffer.old }
-    ensures { Puts result at buffer.old buffer.new (printed_utf8 bytes.now) }
-{
-    let Ok(text) = str::from_utf8(bytes) else {
-        return escape_all(buffer, at, bytes);
-    };
-    let mut end = at;
-    for character in text.chars() {
-        end = print_character(buffer, end, character)?;
-    }
-    Ok(end)
-}
-
-fn print_character(buffer: &mut [u8], at: usize, character: char) -> Result<usize, Full>
-    requires { at ≤ length buffer.old }
-    ensures { Puts result at buffer.old buffer.new (printed_character character) }
-{
-    if character >= ' ' && character <= '~' {
-        return push(buffer, at, character as u8);
-    }
-    decode_character(buffer, at, character)
+    escape(buffer, at, character)
 }
 
 /// Writes a character in UTF-8.

@@ -17,7 +17,7 @@ pub fn safe_texts_agree()
     ensures { SafeTextsAgree }
 {}
 
-/// The text of a receipt is UTF-8 in every code page, and a code page does not change the text of ASCII.
+/// The text of a receipt and a line to print are UTF-8 in every code page, and a code page does not change ASCII.
 pub fn receipts_are_text()
     ensures utf8 { TextsAreUtf8 }
     ensures ascii { AsciiStays }

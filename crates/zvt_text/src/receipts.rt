@@ -5,7 +5,8 @@ ghost use Rattle.zvt_text.specs.Codepages.{printed_text};
 ghost use Rattle.zvt_text.specs.Receipts.{heading, receipt_line, receipt_text, type_name};
 ghost use Rattle.zvt_text.specs.Writing.{Adds, Puts};
 
-use crate::codepages::{Codepage, decode, print};
+use crate::bytes::escape_all;
+use crate::codepages::{Codepage, Quotes, decode};
 use crate::cursor::{Full, byte, fixed, push};
 use crate::text::{Says, Text};
 use crate::text_blocks::{ReceiptType, TextBlock};
@@ -60,7 +61,7 @@ impl Says for PrintedLine<'_> {
     ghost said = { λ l. printed_text l.codepage l.line.now };
 
     fn put(&self, buffer: &mut [u8]) -> Result<usize, Full> {
-        print(buffer, 0, self.codepage, self.line)
+        decode(buffer, 0, self.codepage, Quotes::Plain, self.line)
     }
 }
 
@@ -161,6 +162,9 @@ fn put_line(
     requires { at ≤ length buffer.old }
     ensures { Puts result at buffer.old buffer.new (receipt_line codepage line.now) }
 {
-    let at = decode(buffer, at, codepage, line)?;
+    let at = match codepage {
+        None => escape_all(buffer, at, line)?,
+        Some(codepage) => decode(buffer, at, codepage, Quotes::Escaped, line)?,
+    };
     push(buffer, at, b'\n')
 }

@@ -7,5 +7,5 @@ abbrev pub invariant-loop-character : goal.invariant-loop-character
 invariant-loop-character l = record {
   inside : l.end ≤ length l.buffer;
   utf8 : IsUtf8 l.character-iterator.rest.now;
-  written : take l.end l.buffer ++ flat_map decoded_character (chars l.character-iterator.rest.now) ≡ take l.at l.initial.buffer ++ flat_map decoded_character (chars l.bytes);
+  written : take l.end l.buffer ++ flat_map (decoded_character l.quotes) (chars l.character-iterator.rest.now) ≡ take l.at l.initial.buffer ++ flat_map (decoded_character l.quotes) (chars l.bytes);
 }
