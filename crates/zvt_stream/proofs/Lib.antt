@@ -24,4 +24,5 @@ pub mod OpenLineLemmas
 pub mod PassingLemmas
 pub mod StandIns
 pub mod UnreadLemmas
+pub mod CountLemmas
 pub mod OpenRows

@@ -172,31 +172,10 @@ feeds_passed r bytes piece after final place why judge (Some taken) found lent r
 feeds_passed r bytes piece after final place why judge None found lent room judged opening old dead none p rests h is_held alike =
     rw h.0 (feeds_part r bytes piece after old (record { held = final; stopped = false; lent = lent; room = room; judged = judged; reading = openly judge.reading; opening = opening }) p is_held alike (h.1, refl) (ap openly (reading_after r after None judge rests)))
 
--- ---- how many bytes were judged
-
-pub counts_now : (r : Reading) (bytes piece after : List ℕ) (at : ℕ) (why : Why) (passed : Option ℕ) (old : StreamState) (before now : ℕ) → Dead r bytes piece (length bytes + at) why → Passes bytes piece passed after → at < length piece → openly r ≡ old.reading → now ≡ before + suc at
-    → Judges old.reading old.held (take (taken_in_view old piece (seen_as passed)) piece) before now
-counts_now r bytes piece after at why (Some taken) old before now dead p few alike is =
-    let is_framed : IsFramed (bytes ++ take taken piece) = subst IsFramed p.1 p.2 in
-    let present = (dead.framed taken p.0 is_framed).1.present in
-    let size = length-take-le taken piece p.0 in
-    subst (λ (l : LineReading). Judges l old.held (take taken piece) before now) alike (omega (arith, is), omega (arith, is, present, size, length-append bytes (take taken piece)))
-counts_now r bytes piece after at why None old before now dead p few alike is =
-    let size = length-take-le (length piece) piece (omega arith) in
-    subst (λ (l : LineReading). Judges l old.held (take (length piece) piece) before now) alike (omega (arith, is), omega (arith, is, few, size))
-
-pub counts_none : (r : Reading) (old : StreamState) (taken : List ℕ) (before now : ℕ) → openly r ≡ old.reading → now ≡ before → Judges old.reading old.held taken before now
-counts_none r old taken before now alike is = subst (λ (l : LineReading). Judges l old.held taken before now) alike (omega (arith, is), omega (arith, is))
-
 -- as many bytes are taken where the stand-in is taken out
 pub same_taken : (old : StreamState) (piece after final : List ℕ) (passed : Option ℕ) (found : Fed) → HearsFrame after passed found final → taken_by old piece found ≡ taken_in_view old piece (seen_as passed)
 same_taken old piece after final (Some taken) found h = ap (taken_by old piece) h.0
 same_taken old piece after final None found h = ap (taken_by old piece) h.0
-
--- an ordinary feed
-pub counts_all : (o : Bool) (r : Reading) (l : LineReading) (held taken : List ℕ) (before now : ℕ) → line_reading o r ≡ l → now ≡ before + length taken → Judges l held taken before now
-counts_all false r l held taken before now alike is = subst (λ (k : LineReading). Judges k held taken before now) alike is
-counts_all true r l held taken before now alike is = subst (λ (k : LineReading). Judges k held taken before now) alike (omega (arith, is), omega (arith, is))
 
 -- ---- the same of the flags of a stream
 
@@ -238,13 +217,3 @@ feeds_by true r bytes piece after final place why judge passed found true false 
 feeds_by true r bytes piece after final place why judge passed found false false lent room judged opening old e f dead none p rests h is_held alike = feeds_passed r bytes piece after final place why judge passed found lent room judged opening old dead none p rests h is_held alike
 feeds_by false r bytes piece after final place why judge passed found refused has_message lent room judged opening old e f dead none p rests h is_held alike = absurd (cc (e))
 feeds_by true r bytes piece after final place why judge passed found refused true lent room judged opening old e f dead none p rests h is_held alike = absurd (cc (f))
-
-pub counts_seen : (o : Bool) (r : Reading) (bytes piece after : List ℕ) (at : ℕ) (why : Why) (passed : Option ℕ) (found : FedView) (old : StreamState) (before now : ℕ) → o ≡ true → Dead r bytes piece (length bytes + at) why → Passes bytes piece passed after → at < length piece → line_reading o r ≡ old.reading → found ≡ seen_as passed → now ≡ before + suc at
-    → Judges old.reading old.held (take (taken_in_view old piece found) piece) before now
-counts_seen true r bytes piece after at why passed found old before now e dead p few alike is count = rw is (counts_now r bytes piece after at why passed old before now dead p few alike count)
-counts_seen false r bytes piece after at why passed found old before now e dead p few alike is count = absurd (cc (e))
-
-pub counts_heard : (o : Bool) (r : Reading) (bytes piece after final : List ℕ) (at : ℕ) (why : Why) (passed : Option ℕ) (found : Fed) (old : StreamState) (before now : ℕ) → o ≡ true → Dead r bytes piece (length bytes + at) why → Passes bytes piece passed after → at < length piece → line_reading o r ≡ old.reading → HearsFrame after passed found final → now ≡ before + suc at
-    → Judges old.reading old.held (take (taken_by old piece found) piece) before now
-counts_heard true r bytes piece after final at why passed found old before now e dead p few alike h count = rw (same_taken old piece after final passed found h) (counts_now r bytes piece after at why passed old before now dead p few alike count)
-counts_heard false r bytes piece after final at why passed found old before now e dead p few alike h count = absurd (cc (e))

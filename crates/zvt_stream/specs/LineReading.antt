@@ -1,5 +1,5 @@
 -- How the bytes of a line are read: a frame whose data is no message breaks the line, or counts as a message.
-use Rattle.std.specs.Prelude.{◌≡◌, ℕ, ◌+◌, ◌≤◌, Bool, true, false, List, [], length, map}
+use Rattle.std.specs.Prelude.{◌≡◌, ◌⊎◌, ℕ, ◌+◌, suc, Bool, true, false, List, [], ◌++◌, length, map}
 use Rattle.zvt_grammar.specs.Beginnings as beginnings
 use Rattle.zvt_grammar.specs.Cuts as cuts
 use Rattle.zvt_grammar.specs.Laws.{CutsAreOne, PrefixesOfCut, Growth}
@@ -12,7 +12,7 @@ use Rattle.zvt_apdu.specs.declared.kinds.Kind.TheVariants as kind
 use Rattle.zvt_apdu.specs.Message.{Message, abort, completion, other, status}
 use Rattle.zvt_apdu.specs.Grammar as grammar
 use Rattle.zvt_stream.specs.declared.form.LineForm.{LineForm}
-use Rattle.zvt_stream.specs.Apdus.{CutIn, AliveIn, IsRefusedIn}
+use Rattle.zvt_stream.specs.Apdus.{CutIn, AliveIn, IsRefusedIn, PlaceIn}
 use Rattle.zvt_stream.specs.declared.head.Head.{Head}
 use Rattle.zvt_stream.specs.declared.head.Head.TheVariants.{Empty, One, Two}
 use Rattle.zvt_stream.specs.OpenReading.{OpenCutIn, OpenItem, OpenSpells, read, unread}
@@ -86,10 +86,14 @@ CutBy l = cuts.Cut (Reads l)
 abbrev pub reading_as : LineForm → LineReading
 reading_as form = line_reading form.passes (reading_of form.lengths)
 
--- How many bytes were judged of those taken after the held ones: each once, up to the one that is refused.
+-- The bytes of one message, or of its beginning, are judged up to the first after which no message can follow.
+abbrev pub JudgedOf : Reading → (bytes : List ℕ) → (count : ℕ) → Type 0
+JudgedOf r bytes count = (AliveIn r bytes × (count ≡ length bytes)) ⊎ ((place : ℕ) × PlaceIn r bytes place × (count ≡ suc place))
+
+-- How many bytes were judged of those taken after the held ones: each once, and none after the one that is refused.
 abbrev pub Judges : LineReading → (held taken : List ℕ) → (old new : ℕ) → Type 0
 Judges (strictly r) held taken old new = new ≡ old + length taken
-Judges (openly r) held taken old new = (old ≤ new) × (new ≤ old + length taken)
+Judges (openly r) held taken old new = (before all : ℕ) × JudgedOf r held before × JudgedOf r (held ++ taken) all × (new + before ≡ old + all)
 
 -- ---- laws
 
@@ -102,6 +106,10 @@ pub record LineCutsAreOne (l : LineReading) : Type 0 where
 -- The messages of an open line are those that its items count as.
 abbrev pub OpenLinesAreHeard : Reading → Type 0
 OpenLinesAreHeard r = (bytes : List ℕ) (items : List OpenItem) (rest : List ℕ) → OpenCutIn r bytes items rest → CutBy (openly r) bytes (map heard_of items) rest
+
+-- Of the same bytes, the same number is judged.
+abbrev pub JudgedOnce : Reading → Type 0
+JudgedOnce r = (bytes : List ℕ) (m n : ℕ) → JudgedOf r bytes m → JudgedOf r bytes n → m ≡ n
 
 -- Each open line has a cut, and its rest can always be completed.
 abbrev pub EachOpenLineIsHeard : Reading → Type 0

@@ -5,7 +5,7 @@ ghost use Rattle.zvt_grammar.specs.Reading.{Reading};
 ghost use Rattle.zvt_stream.specs.Judge.{JudgesStand};
 ghost use Rattle.zvt_stream.specs.OpenReading.{EachLineIsCut, OpenCutsAreOne, OpenIsStrict};
 ghost use Rattle.zvt_stream.specs.LineReading.{EachOpenLineIsHeard, LineCutsAreOne, LineReading, OpenHearsStrict};
-ghost use Rattle.zvt_stream.specs.LineReading.{OpenLinesAreHeard};
+ghost use Rattle.zvt_stream.specs.LineReading.{JudgedOnce, OpenLinesAreHeard};
 
 /// However the input is cut into chunks, the stream finds the messages of the whole input, and holds the bytes after
 /// them.
@@ -60,4 +60,9 @@ pub fn each_open_line_is_heard()
 /// An open line has the messages of a strict one, wherever the strict one refuses nothing.
 pub fn open_hears_strict()
     ensures { (r : Reading) → OpenHearsStrict r }
+{}
+
+/// Of the same bytes of a message, the same number is judged.
+pub fn judged_once()
+    ensures { (r : Reading) → JudgedOnce r }
 {}

@@ -1,9 +1,12 @@
 use Rattle.std.proofs.Common.{[], ◌≡◌, refl, ℕ, ◌+◌, List, length, take, None, arith, sym, ◌∙◌, ap, subst, length-append}
 use Rattle.zvt_grammar.specs.Reading.{Reading}
+use Rattle.std.proofs.lemmas.List.{length-take-le}
+use Rattle.std.proofs.Math.Seq.{take-length}
 use Rattle.zvt_stream.specs.Passing.{NoFrame, Passes, Rests}
 use Rattle.zvt_stream.specs.StreamState.{StreamState}
 use Rattle.zvt_apdu.specs.Grammar.{Spells}
-use Rattle.zvt_stream.proofs.UnreadLemmas.{counts_heard, dead_before, dead_now, feeds_by, heard_kept, no_frame, none_is}
+use Rattle.zvt_stream.proofs.CountLemmas.{alive_all, counts_alive, counts_heard, counts_passing, whole_alive}
+use Rattle.zvt_stream.proofs.UnreadLemmas.{dead_before, dead_now, feeds_by, heard_kept, no_frame, none_is}
 use Rattle.zvt_stream.specs.Judge.{JudgeState, IsMessageIn, Ran, StandsFor}
 use Rattle.zvt_stream.proofs.JudgedFeeds.{place_few}
 use Rattle.zvt_stream.proofs.LentLemmas.{feeds_message, ran_in, idle, emptied, refused_all, feeds_more, feeds_refused, grown, kept_all, kept_first, kept_none, opens_by}
@@ -156,7 +159,7 @@ returns-then-self-2-clause-count c =
     let dead = dead_now r bytes c.args.piece.now c.in-Refused.at c.in-Refused.why told.0 told.1 in
     let passes = subst (λ (b : List ℕ). Passes b c.args.piece.now c.pass_frame-passed.result c.pass_frame-passed.new.held.bytes) kept c.pass_frame-passed.ensures.passes in
     let before = ap (λ (t : StreamState). t.judged) c.self.view_is ∙ c.give_up.ensures.count in
-    counts_heard _ r bytes _ _ _ _ _ c.pass_frame-passed.result _ c.args.self.now _ _ c.if-self-2.true dead passes told.0 i.alike c.heard_frame-then-self-2.ensures.hears (omega (arith, before, c.in-Refused.ensures.count))
+    counts_heard _ r bytes _ _ _ _ _ c.pass_frame-passed.result _ c.args.self.now _ _ c.if-self-2.true dead passes i.alike i.is_held c.heard_frame-then-self-2.ensures.hears (omega (arith, before, c.in-Refused.ensures.count))
 
 pub returns-in_ok-apdu-in-Ended-clause-fed : goal.returns-in_ok-apdu-in-Ended-clause-fed
 returns-in_ok-apdu-in-Ended-clause-fed c =
@@ -167,3 +170,35 @@ returns-in_ok-apdu-in-Ended-clause-fed c =
     let ok = c.in_ok-apdu-in-Ended.ensures.ok in
     let spells = subst (λ (b : List ℕ). Spells c.self.inside.judge.reading c.in_ok-apdu-in-Ended.apdu b) whole (subst (λ (r : Reading). Spells r c.in_ok-apdu-in-Ended.apdu c.judge.new.self.bytes) c.lengths-lengths.ensures ok.0) in
     feeds_message _ _ _ _ _ _ _ None [] 0 0 _ _ _ _ i told spells ok.1 c.if-self.false
+
+pub returns-in-Open-clause-count : goal.returns-in-Open-clause-count
+returns-in-Open-clause-count c =
+    let i = idle _ _ _ _ _ _ _ _ _ c.args.self.now c.give_up.new.self c.self.view_is c.give_up.ensures.keeps c.self.invariant in
+    let r = c.self.inside.judge.reading in
+    let bytes = c.self.inside.held.bytes in
+    let ran = subst (λ (b : List ℕ). Ran c.again-judge.result.reading b c.args.piece.now c.judge.result c.judge.new.judge) c.reserve_for.ensures.bytes c.judge.ensures.judged in
+    let told = rw c.in-Open.is at (ran_in r c.again-judge.result bytes c.args.piece.now c.judge.result c.judge.new.judge (ap (λ (j : JudgeState). j.reading) c.again-judge.ensures) ran) in
+    let before = ap (λ (t : StreamState). t.judged) c.self.view_is ∙ c.give_up.ensures.count in
+    let all = take-length c.args.piece.now in
+    counts_alive _ r c.args.self.now bytes _ _ _ i.alike i.is_held (alive_all r _ bytes c.args.piece.now told.1 told.0.unfinished.alive) (omega (arith, before, c.in-Open.ensures.count, ap length all))
+
+pub returns-in_ok-apdu-in-Ended-clause-count : goal.returns-in_ok-apdu-in-Ended-clause-count
+returns-in_ok-apdu-in-Ended-clause-count c =
+    let i = idle _ _ _ _ _ _ _ _ _ c.args.self.now c.give_up.new.self c.self.view_is c.give_up.ensures.keeps c.self.invariant in
+    let r = c.self.inside.judge.reading in
+    let bytes = c.self.inside.held.bytes in
+    let ran = subst (λ (b : List ℕ). Ran c.again-judge.result.reading b c.args.piece.now c.judge.result c.judge.new.judge) c.reserve_for.ensures.bytes c.judge.ensures.judged in
+    let told = rw c.in-Ended.is at (ran_in r c.again-judge.result bytes c.args.piece.now c.judge.result c.judge.new.judge (ap (λ (j : JudgeState). j.reading) c.again-judge.ensures) ran) in
+    let before = ap (λ (t : StreamState). t.judged) c.self.view_is ∙ c.give_up.ensures.count in
+    let size = length-take-le c.in-Ended.taken c.args.piece.now told.1 in
+    counts_alive _ r c.args.self.now bytes _ _ _ i.alike i.is_held (whole_alive r _ told.2) (omega (arith, before, c.in-Ended.ensures.count, size))
+
+pub returns-then-self-clause-count : goal.returns-then-self-clause-count
+returns-then-self-clause-count c =
+    let i = idle _ _ _ _ _ _ _ _ _ c.args.self.now c.give_up.new.self c.self.view_is c.give_up.ensures.keeps c.self.invariant in
+    let r = c.self.inside.judge.reading in
+    let bytes = c.self.inside.held.bytes in
+    let ok = c.in_ok-passed.ensures.ok in
+    let part = i.passing c.if-self.true ok.0 in
+    let before = ap (λ (t : StreamState). t.judged) c.self.view_is ∙ c.give_up.ensures.count in
+    counts_passing _ r c.args.self.now bytes _ part.place part.why _ _ ok.0 i.alike i.is_held part.refused before

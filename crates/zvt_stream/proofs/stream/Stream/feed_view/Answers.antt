@@ -1,8 +1,11 @@
 use Rattle.std.proofs.Common.{take, [], ◌≡◌, true, None, refl, ℕ, ◌+◌, List, arith, length, sym, ◌∙◌, ap, subst}
 use Rattle.zvt_grammar.specs.Reading.{Reading}
+use Rattle.std.proofs.lemmas.List.{length-take-le}
+use Rattle.std.proofs.Math.Seq.{take-length}
 use Rattle.zvt_stream.specs.Passing.{NoFrame, Passes, Rests}
 use Rattle.zvt_stream.specs.StreamState.{StreamState}
-use Rattle.zvt_stream.proofs.UnreadLemmas.{counts_seen, dead_before, dead_now, lends_by, no_frame, view_kept}
+use Rattle.zvt_stream.proofs.CountLemmas.{alive_all, counts_alive, counts_passing, counts_seen, whole_alive}
+use Rattle.zvt_stream.proofs.UnreadLemmas.{dead_before, dead_now, lends_by, no_frame, view_kept}
 use Rattle.zvt_stream.specs.Judge.{IsMessageIn, JudgeState, Ran, StandsFor}
 use Rattle.zvt_stream.proofs.JudgedFeeds.{place_few}
 use Rattle.zvt_stream.proofs.LentLemmas.{ran_in, idle, refused_all, grown, none_lent, message_bytes, feeds_more, feeds_refused, lends_message, lending, kept_all, kept_first, kept_none, opens_by}
@@ -158,4 +161,36 @@ returns-then-self-2-clause-count c =
     let dead = dead_now r bytes c.args.piece.now c.in-Refused.at c.in-Refused.why told.0 told.1 in
     let passes = subst (λ (b : List ℕ). Passes b c.args.piece.now c.pass_frame-passed.result c.pass_frame-passed.new.held.bytes) kept c.pass_frame-passed.ensures.passes in
     let before = ap (λ (t : StreamState). t.judged) c.self.view_is ∙ c.give_up.ensures.count in
-    counts_seen _ r bytes _ _ _ _ c.pass_frame-passed.result _ c.args.self.now _ _ c.if-self-2.true dead passes told.0 i.alike c.seen_frame-then-self-2.ensures (omega (arith, before, c.in-Refused.ensures.count))
+    counts_seen _ r bytes _ _ _ _ c.pass_frame-passed.result _ c.args.self.now _ _ c.if-self-2.true dead passes i.alike i.is_held c.seen_frame-then-self-2.ensures (omega (arith, before, c.in-Refused.ensures.count))
+
+pub returns-in-Open-clause-count : goal.returns-in-Open-clause-count
+returns-in-Open-clause-count c =
+    let i = idle _ _ _ _ _ _ _ _ _ c.args.self.now c.give_up.new.self c.self.view_is c.give_up.ensures.keeps c.self.invariant in
+    let r = c.self.inside.judge.reading in
+    let bytes = c.self.inside.held.bytes in
+    let ran = subst (λ (b : List ℕ). Ran c.self.inside.judge.reading b c.args.piece.now c.judge.result c.judge.new.judge) c.reserve_for.ensures.bytes c.judge.ensures.judged in
+    let told = rw c.in-Open.is at (ran_in r c.self.inside.judge bytes c.args.piece.now c.judge.result c.judge.new.judge refl ran) in
+    let before = ap (λ (t : StreamState). t.judged) c.self.view_is ∙ c.give_up.ensures.count in
+    let all = take-length c.args.piece.now in
+    counts_alive _ r c.args.self.now bytes _ _ _ i.alike i.is_held (alive_all r _ bytes c.args.piece.now told.1 told.0.unfinished.alive) (omega (arith, before, c.in-Open.ensures.count, ap length all))
+
+pub returns-in-Ended-clause-count : goal.returns-in-Ended-clause-count
+returns-in-Ended-clause-count c =
+    let i = idle _ _ _ _ _ _ _ _ _ c.args.self.now c.give_up.new.self c.self.view_is c.give_up.ensures.keeps c.self.invariant in
+    let r = c.self.inside.judge.reading in
+    let bytes = c.self.inside.held.bytes in
+    let ran = subst (λ (b : List ℕ). Ran c.self.inside.judge.reading b c.args.piece.now c.judge.result c.judge.new.judge) c.reserve_for.ensures.bytes c.judge.ensures.judged in
+    let told = rw c.in-Ended.is at (ran_in r c.self.inside.judge bytes c.args.piece.now c.judge.result c.judge.new.judge refl ran) in
+    let before = ap (λ (t : StreamState). t.judged) c.self.view_is ∙ c.give_up.ensures.count in
+    let size = length-take-le c.in-Ended.taken c.args.piece.now told.1 in
+    counts_alive _ r c.args.self.now bytes _ _ _ i.alike i.is_held (whole_alive r _ told.2) (omega (arith, before, c.in-Ended.ensures.count, size))
+
+pub returns-then-self-clause-count : goal.returns-then-self-clause-count
+returns-then-self-clause-count c =
+    let i = idle _ _ _ _ _ _ _ _ _ c.args.self.now c.give_up.new.self c.self.view_is c.give_up.ensures.keeps c.self.invariant in
+    let r = c.self.inside.judge.reading in
+    let bytes = c.self.inside.held.bytes in
+    let ok = c.in_ok-passed.ensures.ok in
+    let part = i.passing c.if-self.true ok.0 in
+    let before = ap (λ (t : StreamState). t.judged) c.self.view_is ∙ c.give_up.ensures.count in
+    counts_passing _ r c.args.self.now bytes _ part.place part.why _ _ ok.0 i.alike i.is_held part.refused before
