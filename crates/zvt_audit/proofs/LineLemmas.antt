@@ -25,7 +25,8 @@ use Rattle.zvt_audit.specs.Audited.{AnswersBooks, AnswersReadBy, IsConnected, he
 use Rattle.zvt_audit.specs.ByControl.{HearsBy, at_by, event_for, passed_after, seen, shortest_of, taken_as}
 use Rattle.zvt_audit.specs.Currencies.{agreed}
 use Rattle.zvt_audit.specs.Ends.{Lines, lines_of}
-use Rattle.zvt_audit.specs.Line.{AnswersLine, IsNew, books_scope, hears_line, line_scope, with_tally}
+use Rattle.zvt_audit.specs.Line.{AnswersLine, IsNew, books_scope, hears_line, with_tally}
+use Rattle.zvt_trace.specs.Resuming.{side_scope}
 use Rattle.zvt_audit.specs.declared.auditor.Auditor.{Auditor}
 use Rattle.zvt_audit.specs.declared.line.LineAudit.{LineAudit}
 use Rattle.zvt_audit.specs.declared.line.LineBooks.{LineBooks}
@@ -121,7 +122,7 @@ Heard r reads_on trace start now =
     (events : List At) × WholeTrace r (books_scope reads_on) (lines trace) events × HearsAll hears start.auditor.listener.listener (seen (books_scope reads_on) events) now.auditor.listener.listener
     × (now.auditor.passed ≡ passed_after (books_scope reads_on) 0 events)
 
-heard_as_read : (r : Reading) (reads_on : Bool) (trace : List ℕ) (events : List At) (start now : LineAudit) → IsNew reads_on start → WholeTrace r (line_scope reads_on) (lines trace) events → HearsAll hears_line start events now → Heard r reads_on trace start now
+heard_as_read : (r : Reading) (reads_on : Bool) (trace : List ℕ) (events : List At) (start now : LineAudit) → IsNew reads_on start → WholeTrace r (side_scope reads_on) (lines trace) events → HearsAll hears_line start events now → Heard r reads_on trace start now
 heard_as_read r true trace events start now new whole heard =
     let all = all_seen (HearsUntil hears) OneMessage events start.auditor now.auditor new.2 (by_heard events start now heard) in
     (events, whole, all_heard_on events start.auditor.listener now.auditor.listener new.1 all.0, all.1 ∙ ap (λ (n : ℕ). passed_after OneMessage n events) new.3)
@@ -135,7 +136,7 @@ heard_as_read r false trace events start now new whole heard =
       all.1 ∙ none_passed_side start.auditor.passed events ∙ new.3 ∙ sym (none_passed 0 whole_line.0),
     )
 
-module _ (r : Reading) (reads_on : Bool) (trace : List ℕ) (events : List At) (start now : LineAudit) (new : IsNew reads_on start) (whole : WholeTrace r (line_scope reads_on) (lines trace) events) (heard : HearsAll hears_line start events now)
+module _ (r : Reading) (reads_on : Bool) (trace : List ℕ) (events : List At) (start now : LineAudit) (new : IsNew reads_on start) (whole : WholeTrace r (side_scope reads_on) (lines trace) events) (heard : HearsAll hears_line start events now)
     (tally : Tally) (before after : Option (List ℕ)) where
   all : Heard r reads_on trace start now
   all = heard_as_read r reads_on trace events start now new whole heard

@@ -4,21 +4,18 @@ use Rattle.zvt_grammar.specs.Reading.{Reading}
 use Rattle.zvt_text.specs.declared.form.Form.TheVariants.{Text}
 use Rattle.zvt_trace.specs.Apart.{HearsUntil}
 use Rattle.zvt_trace.specs.Listening.{Hears}
+use Rattle.zvt_trace.specs.Resuming.{side_scope}
 use Rattle.zvt_trace.specs.declared.fault.Tally.{Tally}
 use Rattle.zvt_trace.specs.declared.fault.TraceFault.{TraceFault}
 use Rattle.zvt_trace.specs.declared.listener.Scope.{Scope}
-use Rattle.zvt_trace.specs.declared.listener.Scope.TheVariants.{OneMessage, OneSide, WholeLine}
+use Rattle.zvt_trace.specs.declared.listener.Scope.TheVariants.{OneMessage, WholeLine}
 use Rattle.zvt_audit.specs.Audited.{AnswersReadBy, IsConnected, hears}
 use Rattle.zvt_audit.specs.ByControl.{HearsBy}
 use Rattle.zvt_audit.specs.declared.line.LineAudit.{LineAudit}
 use Rattle.zvt_audit.specs.declared.line.LineBooks.{LineBooks}
 use Rattle.zvt_audit.specs.declared.summary.AuditSummary.{AuditSummary}
 
--- where a line is read on after a refused message, or not: what its messages are heard in, and what its books are read in
-abbrev pub line_scope : (reads_on : Bool) → Scope
-line_scope false = OneSide
-line_scope true = OneMessage
-
+-- what the books of a line leave unread after a refused message
 abbrev pub books_scope : (reads_on : Bool) → Scope
 books_scope false = WholeLine
 books_scope true = OneMessage
@@ -26,7 +23,7 @@ books_scope true = OneMessage
 -- nothing was heard
 abbrev pub IsNew : (reads_on : Bool) → LineAudit → Type 0
 IsNew reads_on audit =
-    IsConnected audit.auditor.listener.listener × (audit.auditor.listener.is_refused ≡ false) × (audit.auditor.scope ≡ line_scope reads_on) × (audit.auditor.passed ≡ 0)
+    IsConnected audit.auditor.listener.listener × (audit.auditor.listener.is_refused ≡ false) × (audit.auditor.scope ≡ side_scope reads_on) × (audit.auditor.passed ≡ 0)
 
 -- an auditor hears a line until it is refused, and not read on
 abbrev pub hears_line : Hears LineAudit

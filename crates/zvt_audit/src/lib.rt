@@ -17,7 +17,7 @@ mod sum;
 mod summary;
 
 pub use follow::{Audit, follow_audit};
-pub use line::{LineAudit, LineBooks, line_scope};
+pub use line::{LineAudit, LineBooks};
 pub use orders::UnfollowedOrder;
 pub use sum::Sum;
 pub use summary::{AuditSummary, audit_trace};

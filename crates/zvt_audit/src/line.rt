@@ -4,8 +4,9 @@ ghost use Rattle.std.specs.Str.Lines.{lines};
 ghost use Rattle.zvt_grammar.specs.Reading.{Reading};
 ghost use Rattle.zvt_trace.specs.Emitting.{WholeTrace};
 ghost use Rattle.zvt_trace.specs.Listening.{HearsAll};
+ghost use Rattle.zvt_trace.specs.Resuming.{side_scope};
 ghost use Rattle.zvt_trace.specs.TraceEvent.{At};
-ghost use Rattle.zvt_audit.specs.Line.{AnswersLine, IsNew, hears_line, line_scope};
+ghost use Rattle.zvt_audit.specs.Line.{AnswersLine, IsNew, hears_line};
 
 use crate::auditor::Auditor;
 use crate::by_control::ByControl;
@@ -47,7 +48,7 @@ impl LineAudit {
     pub fn new(alloc: Global, reads_on: bool) -> Result<LineAudit, AllocError>
         ensures { IfOk result (IsNew reads_on) }
     {
-        let scope = line_scope(reads_on);
+        let scope = Scope::of_side(reads_on);
         let audit = connected(alloc, scope)?;
         Ok(LineAudit {
             auditor: ByControl {
@@ -64,7 +65,7 @@ impl LineAudit {
     /// Writes the books of a line that has ended.
     pub fn finish<W: Sink>(self, alloc: Global, writer: &mut W) -> Result<LineBooks, TraceFault>
         ensures { (r : Reading) (reads_on : Bool) (trace : List ℕ) (events : List At) (start : LineAudit)
-            → IsNew reads_on start → WholeTrace r (line_scope reads_on) (lines trace) events
+            → IsNew reads_on start → WholeTrace r (side_scope reads_on) (lines trace) events
             → HearsAll hears_line start events self
             → AnswersLine r reads_on trace (W.written writer.old) (W.written writer.new) result }
     {
@@ -91,18 +92,6 @@ impl LineAudit {
             unfollowed: found.unfollowed,
             passed: found.passed,
         })
-    }
-}
-
-/// Returns how much is not read after a refused message of a running line: the message if the line is read on, else
-/// its side.
-pub fn line_scope(reads_on: bool) -> Scope
-    ensures { result ≡ line_scope reads_on }
-{
-    if reads_on {
-        Scope::OneMessage
-    } else {
-        Scope::OneSide
     }
 }
 

@@ -1,7 +1,8 @@
 -- What the log of a line has observed, once more chunks have come.
 use Rattle.std.proofs.Common.{◌≡◌, ◌⊎◌, ◌<◌, ◌&&◌, inl, inr, Bool, true, false, ℕ, List, [], ◌∷◌, ◌++◌, Option, Result, Ok, Err, append-nil, append_assoc, codes, le_refl, le_trans, lt_of_le_of_lt, lt_of_lt_of_le, refl, subst, sym}
 use Rattle.zvt_grammar.specs.Reading.{Reading}
-use Rattle.zvt_audit.specs.Line.{AnswersLine, hears_line, line_scope}
+use Rattle.zvt_audit.specs.Line.{AnswersLine, hears_line}
+use Rattle.zvt_trace.specs.Resuming.{side_scope}
 use Rattle.zvt_audit.specs.declared.line.LineAudit.{LineAudit}
 use Rattle.zvt_audit.specs.declared.line.LineBooks.{LineBooks}
 use Rattle.zvt_show.specs.Beside.{Tells, Watching, showing_of}
@@ -104,7 +105,7 @@ module _ {T O : Type 0} (written : T → Option (List ℕ)) (failures : T → �
       let before = all_logged r reads_on [] first held chunks old middle all has in
       finds (trace_text chunks) (record {
         traced = subst (λ (t : List ℕ). HasTraced new.recorder.failed t first (traced_by written new.recorder.trace)) (append-nil (trace_text chunks)) (missed.0.traced (trace_text chunks) first before.traced);
-        shows = subst (λ (w : Watching O LineAudit). HasShown output r (line_scope reads_on) (Show safe_text) (trace_text chunks) held (showing_of w)) (sym missed.1) before.shows;
+        shows = subst (λ (w : Watching O LineAudit). HasShown output r (side_scope reads_on) (Show safe_text) (trace_text chunks) held (showing_of w)) (sym missed.1) before.shows;
         hears = subst (λ (w : Watching O LineAudit). HasHeard r reads_on (trace_text chunks) w) (sym missed.1) before.hears;
       })
   found_stopped r reads_on first held Found failed old new finds fails has Write chunks last (middle, all, missed) =

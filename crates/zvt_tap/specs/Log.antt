@@ -1,7 +1,7 @@
 -- What a tap has observed of a line: its trace, the text that is shown, and the audit.
 use Rattle.std.specs.Prelude.{◌≡◌, ◌++◌, ◌∷◌, [], codes, ℕ, Bool, true, List, Option, Result}
 use Rattle.zvt_grammar.specs.Reading.{Reading}
-use Rattle.zvt_audit.specs.Line.{line_scope}
+use Rattle.zvt_trace.specs.Resuming.{side_scope}
 use Rattle.zvt_audit.specs.declared.line.LineAudit.{LineAudit}
 use Rattle.zvt_audit.specs.declared.line.LineBooks.{LineBooks}
 use Rattle.zvt_show.specs.Beside.{Watching, showing_of}
@@ -20,14 +20,14 @@ use Rattle.zvt_tap.specs.declared.tracing.Tracing.{Tracing}
 -- All of this trace was observed, to a log whose devices had that first.
 pub record HasObserved {T O : Type 0} (written : T → Option (List ℕ)) (output : O → Option (List ℕ)) (r : Reading) (reads_on : Bool) (trace : List ℕ) (first_trace first_output : Option (List ℕ)) (tracing : Tracing T) (watching : Watching O LineAudit) : Type 0 where
   pub traced : HasTraced tracing.failed trace first_trace (traced_by written tracing.trace)
-  pub shows : HasShown output r (line_scope reads_on) (Show safe_text) trace first_output (showing_of watching)
+  pub shows : HasShown output r (side_scope reads_on) (Show safe_text) trace first_output (showing_of watching)
   pub hears : HasHeard r reads_on trace watching
 
 -- What a log of this whole trace found: the trace is on its device, then come the text that is shown and the books.
 pub record HasFound (r : Reading) (reads_on : Bool) (trace : List ℕ) (first_trace first_output : Option (List ℕ)) (failed : Bool) (trace_now output_now : Option (List ℕ)) (shown : Result Tally TraceFault) (audited : Result LineBooks TraceFault) : Type 0 where
   pub traced : HasTraced failed trace first_trace trace_now
   pub middle : Option (List ℕ)
-  pub shows : AnswersShown r (line_scope reads_on) (Show safe_text) trace first_output middle shown
+  pub shows : AnswersShown r (side_scope reads_on) (Show safe_text) trace first_output middle shown
   pub audits : AnswersHeard r reads_on trace middle output_now audited
 
 -- the trace of a line that has ended after these chunks

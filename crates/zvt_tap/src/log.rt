@@ -9,12 +9,12 @@ ghost use Rattle.zvt_tap.specs.Traced.{FailsOnlyIf, HasTraced, failures_by, trac
 use crate::tracing::Tracing;
 use crate::watched::Watched;
 use std::alloc::{AllocError, Global};
-use zvt_audit::{LineAudit, LineBooks, line_scope};
+use zvt_audit::{LineAudit, LineBooks};
 use zvt_grammar::Lengths;
 use zvt_io::Sink;
 use zvt_show::{Shown, ShownToEnd, Style};
 use zvt_text::TextOptions;
-use zvt_trace::{Tally, TraceFault};
+use zvt_trace::{Scope, Tally, TraceFault};
 
 /// The log of a line: a trace, and on an output the text that `show --safe` prints for the trace, followed by its
 /// audit. The bytes are decoded once, for the text and for the audit. Each of the three stops at its own failure, and
@@ -45,7 +45,7 @@ pub fn new_log<T: Sink + Drop, O: Sink + Drop>(
         reads_on [] first (O.written output) log.recorder log.watcher) }
     ensures tracing { IfOk result (λ log. log.recorder ≡ tracing) }
 {
-    let scope = line_scope(reads_on);
+    let scope = Scope::of_side(reads_on);
     let audit = LineAudit::new(alloc, reads_on)?;
     Ok(Watched {
         recorder: tracing,

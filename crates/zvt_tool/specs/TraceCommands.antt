@@ -11,8 +11,9 @@ use Rattle.zvt_show.specs.declared.render.Style.TheVariants.{Show, Join, Receipt
 use Rattle.zvt_text.specs.declared.codepages.Codepage.{Codepage}
 use Rattle.zvt_text.specs.declared.codepages.Codepage.TheVariants.{Cp437, Cp850, Latin1, Utf8}
 use Rattle.zvt_text.specs.declared.form.Form.TheVariants as form
+use Rattle.zvt_trace.specs.Resuming.{side_scope}
 use Rattle.zvt_trace.specs.declared.listener.Scope.{Scope}
-use Rattle.zvt_audit.specs.Line.{books_scope, line_scope}
+use Rattle.zvt_audit.specs.Line.{books_scope}
 use Rattle.zvt_tool.specs.Given.{IsByFlag, IsFlagOf, IsTextOf, words_of}
 use Rattle.zvt_tool.specs.Options.{command_app, flag_rule, form_by, lengths_by, option_rule, several_rule}
 use Rattle.zvt_tool.specs.declared.trace_command.TraceCommand.{TraceCommand}
@@ -37,9 +38,9 @@ is_json (Vectors form.Json) = true
 
 -- what is skipped after a refusal: the side, for an audit the whole line, and only the refused message if the line is read on
 abbrev pub work_scope : TraceWork → (reads_on : Bool) → Scope
-work_scope (Render style) reads_on = line_scope reads_on
+work_scope (Render style) reads_on = side_scope reads_on
 work_scope (Audit written) reads_on = books_scope reads_on
-work_scope (Vectors written) reads_on = line_scope reads_on
+work_scope (Vectors written) reads_on = side_scope reads_on
 
 -- ---- the options
 

@@ -1,11 +1,16 @@
 -- Where reading of a side resumes after a refusal.
-use Rattle.std.specs.Prelude.{⊤, ℕ, zero, suc, ◌+◌, ◌-◌, ◌*◌, ◌≤◌, ◌==◌, nat_lt, if◌then◌else◌, Option, None, Some, List, [], ◌∷◌, take}
+use Rattle.std.specs.Prelude.{⊤, ℕ, Bool, true, false, zero, suc, ◌+◌, ◌-◌, ◌*◌, ◌≤◌, ◌==◌, nat_lt, if◌then◌else◌, Option, None, Some, List, [], ◌∷◌, take}
 use Rattle.zvt_trace.specs.Trace.{Side, running, skipping, stopped}
 use Rattle.zvt_trace.specs.TraceEvent.{At, on}
 use Rattle.zvt_trace.specs.TraceEvent as trace_event
 use Rattle.zvt_trace.specs.declared.direction.Direction.{Direction}
 use Rattle.zvt_trace.specs.declared.listener.Scope.{Scope}
 use Rattle.zvt_trace.specs.declared.listener.Scope.TheVariants.{OneMessage, OneSide, WholeLine}
+
+-- what is not read after a refused message of a line whose sides are read apart
+abbrev pub side_scope : (reads_on : Bool) → Scope
+side_scope false = OneSide
+side_scope true = OneMessage
 
 -- ---- the size that a message announces
 

@@ -116,18 +116,22 @@ fn feed_parts<L: Listener>(
         → EmitsBytes (reading_of options.now.lengths) L.hears L.fails options.now.scope line from side
         (bytes_in piece.entry) reader.new listener.old listener.new result }
 {
-    let mut any = feed_bytes(listener, options, line, from, reader, piece.bytes)?;
+    let mut any = false;
     let mut buffer = [0; CHUNK];
+    let mut chunk = piece.bytes;
     let mut rest = piece.undecoded;
-    'chunks: while !rest.is_empty() {
+    'chunks: loop {
+        let later = feed_bytes(listener, options, line, from, reader, chunk)?;
+        any |= later;
+        if rest.is_empty() {
+            return Ok(any);
+        }
         let Some((count, after)) = spelled::read(rest, &mut buffer) else {
             return Ok(any);
         };
-        let later = feed_bytes(listener, options, line, from, reader, &buffer[..count])?;
-        any |= later;
+        chunk = &buffer[..count];
         rest = after;
     }
-    Ok(any)
 }
 
 /// Emits the events of a piece, or that it is not read.

@@ -19,6 +19,21 @@ pub enum Scope {
     WholeLine,
 }
 
+impl Scope {
+    ghost use Rattle.zvt_trace.specs.Resuming.{side_scope};
+
+    /// Returns the scope of a line whose sides are read apart: the message if reading goes on after it, else its side.
+    pub fn of_side(reads_on: bool) -> Scope
+        ensures { result ≡ side_scope reads_on }
+    {
+        if reads_on {
+            Scope::OneMessage
+        } else {
+            Scope::OneSide
+        }
+    }
+}
+
 /// Why a listener failed.
 #[derive(Clone, Copy, Debug, Drop, PartialEq, Eq)]
 pub enum ListenerError {

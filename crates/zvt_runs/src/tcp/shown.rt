@@ -1,9 +1,10 @@
 //! Shows the messages of a terminal as they arrive.
 ghost use Rattle.std.specs.Prelude.{◌≡◌, [], is_some};
 ghost use Rattle.zvt_grammar.specs.Lengths.{reading_of};
+ghost use Rattle.zvt_trace.specs.Resuming.{side_scope};
 ghost use Rattle.zvt_show.specs.Beside.{showing_of};
 ghost use Rattle.zvt_show.specs.Shown.{HasShown};
-ghost use Rattle.zvt_runs.specs.Showing.{scope_of, style_of};
+ghost use Rattle.zvt_runs.specs.Showing.{style_of};
 
 use std::alloc::Global;
 use std::io::Stderr;
@@ -32,7 +33,7 @@ pub(crate) fn shown_by(
 /// Returns a listener that shows a line on this output in this form. It has shown nothing yet. `line` says how the
 /// messages are read.
 fn shown_on<W: Sink + Drop>(alloc: Global, form: Form, line: LineForm, output: W) -> Shown<W, Tally>
-    ensures { HasShown W.written (reading_of line.lengths) (scope_of line.passes) (style_of form) [] (W.written output)
+    ensures { HasShown W.written (reading_of line.lengths) (side_scope line.passes) (style_of form) [] (W.written output)
         (showing_of result) }
 {
     let count = Tally {
@@ -42,22 +43,11 @@ fn shown_on<W: Sink + Drop>(alloc: Global, form: Form, line: LineForm, output: W
     Shown::new(
         alloc,
         style_of(form),
-        scope_of(line.passes),
+        Scope::of_side(line.passes),
         line.lengths,
         output,
         count,
     )
-}
-
-/// Returns what a refusal leaves unread.
-fn scope_of(passes: bool) -> Scope
-    ensures { result ≡ scope_of passes }
-{
-    if passes {
-        Scope::OneMessage
-    } else {
-        Scope::OneSide
-    }
 }
 
 /// Returns the style that shows a line in this form.
