@@ -1,7 +1,7 @@
 -- What a listener that is lent hears, its own listener hears.
-use Rattle.std.proofs.Common.{◌≡◌, subst, sym, ℕ, List, Result, Ok, Err}
+use Rattle.std.proofs.Common.{◌≡◌, subst, sym, ℕ, Bool, List, Result, Ok, Err}
 use Rattle.zvt_grammar.specs.Reading.{Reading}
-use Rattle.zvt_trace.specs.Listening.{EmitsLine, EmitsPiece, Fails, FailsIn, Hears, HearsAll, HearsLine}
+use Rattle.zvt_trace.specs.Listening.{EmitsLine, EmitsPiece, Fails, FailsIn, Hears, HearsAll, HearsBytes, HearsLine}
 use Rattle.zvt_trace.specs.Meanings.{Meaning}
 use Rattle.zvt_trace.specs.Trace.{Side, Sides}
 use Rattle.zvt_trace.specs.TraceEvent.{At}
@@ -41,6 +41,18 @@ module _ {L M : Type 0} (now : M → L) (name : M → ℕ) (hears : Hears L) (fa
     few = heard.few;
   }
   piece_lent r scope line from side bytes reader old new y (Err why) is failed = failed_lent why _ old new y is failed
+
+  pub bytes_lent : (r : Reading) (scope : Scope) (line : ℕ) (from : Direction) (side : Side) (bytes : List ℕ) (reader : SideReader) (old new : M) (y : L) (any : Bool) → (name old ≡ name new → y ≡ now new)
+      → HearsBytes r (LentHears now name hears fails) scope line from side bytes reader any old new → HearsBytes r hears scope line from side bytes reader any (now old) y
+  bytes_lent r scope line from side bytes reader old new y any is heard = record {
+    events = heard.events;
+    after = heard.after;
+    passes = heard.passes;
+    heard = all_lent heard.events old new y is heard.heard;
+    follows = heard.follows;
+    few = heard.few;
+    some = heard.some;
+  }
 
   pub heard_line : (r : Reading) (scope : Scope) (number : ℕ) (meaning : Meaning) (sides : Sides) (state : BothSides) (old new : M) (y : L) → (name old ≡ name new → y ≡ now new)
       → HearsLine r (LentHears now name hears fails) scope number meaning sides state old new → HearsLine r hears scope number meaning sides state (now old) y

@@ -116,22 +116,20 @@ fn feed_parts<L: Listener>(
         → EmitsBytes (reading_of options.now.lengths) L.hears L.fails options.now.scope line from side
         (bytes_in piece.entry) reader.new listener.old listener.new result }
 {
-    let mut any = false;
+    // Through a listener lent once more: so what each byte of a long text runs through has one caller, and is inlined.
+    let mut lent = &mut *listener;
+    let mut any = feed_bytes(&mut lent, options, line, from, reader, piece.bytes)?;
     let mut buffer = [0; CHUNK];
-    let mut chunk = piece.bytes;
     let mut rest = piece.undecoded;
-    'chunks: loop {
-        let later = feed_bytes(listener, options, line, from, reader, chunk)?;
-        any |= later;
-        if rest.is_empty() {
-            return Ok(any);
-        }
+    'chunks: while !rest.is_empty() {
         let Some((count, after)) = spelled::read(rest, &mut buffer) else {
             return Ok(any);
         };
-        chunk = &buffer[..count];
+        let later = feed_bytes(listener, options, line, from, reader, &buffer[..count])?;
+        any |= later;
         rest = after;
     }
+    Ok(any)
 }
 
 /// Emits the events of a piece, or that it is not read.

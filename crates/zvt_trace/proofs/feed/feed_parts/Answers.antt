@@ -2,6 +2,7 @@ use Rattle.std.proofs.Common.{refl, take, rules}
 use Rattle.std.proofs.lemmas.Bool.{false≢true}
 use Rattle.std.proofs.lemmas.Result.{err_from_is_err_and}
 use Rattle.zvt_trace.specs.Meanings.{bytes_of}
+use Rattle.zvt_trace.proofs.LentLemmas.{bytes_lent, failed_lent}
 use Rattle.zvt_trace.proofs.PassLemmas.{fails_first, first_heard, heard_all, heard_fails, heard_more, none_left}
 use Rattle.zvt_trace.proofs.SpelledLemmas.{goes_on}
 use Rattle.zvt_trace.proofs.feed.feed_parts.Goals as goal
@@ -9,11 +10,11 @@ use Rattle.zvt_trace.proofs.feed.feed_parts.Goals as goal
 pub returns-in_err-any-clause-emits : goal.returns-in_err-any-clause-emits
 returns-in_err-any-clause-emits g c = λ side follows.
     let p = err_from_is_err_and c.from_residual.result c.from_residual.ensures.1 in
-    rw (p.1, p.2) (fails_first g.L.Listener.hears g.L.Listener.fails _ _ _ _ side c.args.piece.bytes.now (bytes_of c.args.piece.undecoded.now) _ _ (c.in_err-any.ensures.emits side follows))
+    rw (p.1, p.2) (fails_first g.L.Listener.hears g.L.Listener.fails _ _ _ _ side c.args.piece.bytes.now (bytes_of c.args.piece.undecoded.now) _ _ (failed_lent (λ b. b.now) (λ b. b.ghost_name) g.L.Listener.hears g.L.Listener.fails _ _ _ c.feed_bytes.new.listener _ c.listener-1.given.1 (c.in_err-any.ensures.emits side follows)))
 
 pub chunks-init : goal.chunks-init
 chunks-init g c = record {
-  so_far = λ side follows. first_heard g.L.Listener.hears _ _ _ side c.args.piece.bytes.now (bytes_of c.args.piece.undecoded.now) _ _ _ _ (c.in_ok-any.ensures.emits side follows);
+  so_far = λ side follows. first_heard g.L.Listener.hears _ _ _ side c.args.piece.bytes.now (bytes_of c.args.piece.undecoded.now) _ _ _ _ (bytes_lent (λ b. b.now) (λ b. b.ghost_name) g.L.Listener.hears g.L.Listener.fails _ _ _ _ side _ _ _ c.feed_bytes.new.listener _ _ c.listener-1.given.1 (c.in_ok-any.ensures.emits side follows));
   spelled = c.requires.spelled;
   reading = c.in_ok-any.ensures.reading;
 }
