@@ -45,6 +45,8 @@ REFUSED = [
     ("play --port=65536", "error: invalid value '65536' for '--port <PORT>': 65536 is not in 0..=65535\n"),
     ("play --till", "error: a value is required for '--till <FILE>' but none was supplied\n"),
     ("check-till x.trace", "error: the following required arguments were not provided:\n  --listen <PORT>\n"),
+    ("play --open --open", "error: the argument '--open' cannot be used multiple times\n"),
+    ("check-till --listen 1 --open=1 x", "error: unexpected value '1' for '--open' found; no more were expected\n"),
     ("check-terminal --listen 1", "error: unexpected argument '--listen' found\n"),
     ("check-till --listen 1 --junit", "error: a value is required for '--junit <FILE>' but none was supplied\n"),
     ("join --resync", "error: unexpected argument '--resync' found\n"),

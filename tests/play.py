@@ -7,7 +7,7 @@ PROGRAM is the one that `rt ci` built, unless another is named. Each of 30 rando
 both ends. Each trace is played as a terminal against a till with the same steps, and as a till against a terminal: it ends
 with status 0, and the other program with what it came to in the recording. So is each example. Then one byte of a message of
 the other side is changed, and the difference is told at its line. Lost lines, waits, silence, what comes besides, and wrong words and files
-follow, and a terminal and a till that pad their lengths. The status is 1 where anything is not as expected.
+follow, and a terminal and a till that pad their lengths or send messages that only the open reading passes. The status is 1 where anything is not as expected.
 """
 import concurrent.futures
 import pathlib
@@ -46,10 +46,10 @@ def play_terminal(trace, *words):
     return Listener([PROGRAM, "play", "--terminal", str(trace), "--listen", "0", *words], SECONDS)
 
 
-def play_till(trace, port):
+def play_till(trace, port, *words):
     global plays
     plays += 1
-    return run("play", "--till", str(trace), "--port", str(port))
+    return run("play", "--till", str(trace), "--port", str(port), *words)
 
 
 # ---- recorded dialogues
@@ -78,13 +78,13 @@ def record(folder, number, steps, words):
     return traces, paid, terminal.ended()[0]
 
 
-def plays_both(name, trace, steps, words, paid, served):
-    """Either side of the trace is played against the other program."""
-    terminal = play_terminal(trace)
+def plays_both(name, trace, steps, words, paid, served, reading):
+    """Either side of the trace is played against the other program, which is read like this."""
+    terminal = play_terminal(trace, *reading)
     check(f"{name}: the till", till(terminal.port, steps)[:2], paid[:2])
     check(f"{name}: as a terminal", terminal.ended()[:2], (0, ""))
     other = Listener([PROGRAM, "terminal", "--port", "0", *words], SECONDS)
-    check(f"{name}: as a till", play_till(trace, other.port), (0, "", ""))
+    check(f"{name}: as a till", play_till(trace, other.port, *reading), (0, "", ""))
     check(f"{name}: the terminal", other.ended()[0], served)
 
 
@@ -129,9 +129,9 @@ def recorded(folder):
     for number in range(DIALOGUES):
         steps, words = random_steps(chance)
         traces, paid, served = record(folder, number, steps, words)
-        for trace in traces:
+        for trace, reading in zip(traces, chance.choice(([[], ["--open"]], [["--open"], []]))):
             name = f"{' '.join(steps + words)}, {trace.suffix}"
-            plays_both(name, trace, steps, words, paid, served)
+            plays_both(name, trace, steps, words, paid, served, reading)
             differs(name, chance, trace, steps, words, folder)
 
 
@@ -199,9 +199,9 @@ def hear(name, line, digits):
     check(f"{name}: what is sent", found.hex(" "), wanted.hex(" "))
 
 
-def as_terminal(name, folder, text, pieces, wanted, besides=""):
+def as_terminal(name, folder, text, pieces, wanted, besides="", words=()):
     """Plays a terminal: pieces are sent, or heard where they begin with '<'. Then the till closes."""
-    terminal = play_terminal(written(folder, text))
+    terminal = play_terminal(written(folder, text), *words)
     with connect(terminal.port) as line:
         for piece in pieces:
             if piece.startswith("<"):
@@ -366,6 +366,111 @@ def padded(folder):
         check(f"check-terminal {words} of a padded file", (found[0], said in found[2]), (status, True))
 
 
+# ---- the open reading
+
+
+def refused(folder):
+    """With `--open`, a refused message is sent, awaited and compared byte for byte, and named where it differs. None of its data
+    is told. Without `--open`, the trace or the line is refused."""
+    ask, answer, ack, ours = "05 01 03 00 00 00", "06 0F 04 F0 F0 F0 00", "80 00 00", [">"]
+    asked, awaits, came = f"> {ask}\n", "line 2 awaits\n< ", "but another message came\n< "
+    completion, status = "unread 060F, 7 bytes, refused at 3: UnknownField\n", "unread 040F, 13 bytes, refused at 11: UnknownField\n"
+    card = "04 0F 0A 22 F0 F5 67 26 50 {} 34 D0 00"
+
+    def plays(name, awaited, served, wanted, words=("--open",), more="", sent=()):
+        as_till(f"{name} {' '.join(words)}", folder, f"{asked}<{awaited}\n{more}", [">", *served], wanted, [ask, *sent], words)
+
+    plays("a refused message", answer, ["<" + answer, ">"], (0, ""), more=f"> {ack}\n", sent=[ack])
+    plays("in pieces", answer, ["< 06 0F", "< 04 F0", "< F0 F0 00"], (0, ""))
+    plays("after a message", f"{ack} {answer} 04", [f"< {ack} {answer} 04 0F 00"], (0, ""))
+    plays("its beginning", "06 0F 04", ["<" + answer], (0, ""))
+    plays("any message", "", ["<" + answer], (0, ""))
+    plays("another byte", answer, ["< 06 0F 04 F0 F0 F0 01"], (1, awaits + completion + came + completion))
+    plays("a message in its place", answer, ["< " + ack], (1, awaits + completion + came + "Ack\n"))
+    plays("in place of a message", ack, ["<" + answer], (1, awaits + "Ack\n" + came + completion))
+    plays("another card", card.format("12"), ["<" + card.format("13")], (1, awaits + status + came + status))
+    plays("after one that agrees", f"{answer} {ack}", [f"< {answer} {answer}"], (1, awaits + "Ack\n" + came + completion))
+    plays("a broken one", answer, ["< 06 0F 04 F0 F0"], (1, awaits + completion + "but the other side closed the connection after 5 bytes of a message\n"))
+    plays("the beginning of one", "06 0F 04 F0 F0", ["< " + ack], (1, awaits + "a message that begins with 060F, 5 bytes of it are given\n" + came + "Ack\n"))
+    padded, none = "80 00 FF 00 00", "unread 8000, 5 bytes, refused at 4: NotShortest\n"
+    plays("padded lengths", ack, ["< " + padded], (1, awaits + "Ack\n" + came + none))
+    plays("padded lengths", ack, ["< " + padded], (1, awaits + "Ack\n" + came + "Ack\n"), ["--open", "--loose"])
+    numbered = "04 0F 05 87 00 52 D0 00"
+    named = "line 3 awaits\n< a message whose field 87 has a number that has no name yet\n" + came + "unread 040F, 8 bytes, refused at 6: UnknownField\n"
+    plays("a number", "", ["<" + numbered], (1, named), more="#~ bind 87 n1\n")
+    strictly = "but no message begins with what came: refused at 3: UnknownField\n"
+    plays("a strict player", "", ["<" + answer], (1, awaits + "any message\n" + strictly), [])
+    # An own line is sent as it stands, by either reading, and as either side.
+    strange = "06 30 09 12 34 56 D0 00 87 00 01 FF"
+    for words in ([], ["--open"]):
+        as_till(f"an own refused message {words}", folder, f"> {strange}\n", [">"], (0, ""), [strange], words)
+        as_terminal(f"the same of a terminal {words}", folder, f"> {ack}\n< {answer}\n", [ack, "<" + answer], (0, ""), words=words)
+    another = f"line 1 awaits\n> {completion}but another message came\n> {completion}"
+    as_terminal("a till's refused message", folder, f"> {answer}\n< {ack}\n", [answer, "< " + ack], (0, ""), words=["--open"])
+    as_terminal("and another", folder, f"> {answer}\n", ["06 0F 04 F0 F0 F0 01"], (1, another), words=["--open"])
+    # Nothing listens at port 1: the file is read before a connection is made.
+    trace = str(written(folder, f"{asked}< {answer}\n"))
+    for command in (["play", "--till", trace], ["check-terminal", trace]):
+        for words, status, said in (([], 3, "line 2 of the trace: invalid at byte 3 (UnknownField)"), (["--open"], 4, "connection refused")):
+            found = run(*command, "--port", "1", *words)
+            check(f"{command[0]} {words}, a file", (found[0], said in found[2]), (status, True))
+
+
+def judged(folder):
+    """With `--open`, a situation may await a refused message. One that it does not await is named, and the line is not lost."""
+    answer, ack, strange = "06 0F 04 F0 F0 F0 00", "80 00 00", "06 01 03 D0 00 00"
+    refused, unread = "# but no message begins with what came: refused at 3: UnknownField\n", "# > unread 0601, 6 bytes, refused at 3: UnknownField\n"
+    for name, awaited, words, status, said in (
+        ("awaited", strange, ["--open"], 0, "ok 1 - one\n"), ("not awaited", "06 00", ["--open"], 1, unread), ("a strict kit", "06 00", [], 1, refused),
+    ):
+        kit = Listener([PROGRAM, "check-till", "--listen", "0", *words, str(written(folder, f"> {awaited}\n< 84 83 00\n"))], SECONDS)
+        with connect(kit.port) as line:
+            send(line, strange)
+            if not status:
+                hear(f"a till's refused message, {name}", line, "84 83 00")
+            line.shutdown(socket.SHUT_WR)
+            found = kit.ended()
+        check(f"a till's refused message, {name}", (found[0], said in found[1]), (status, True))
+    unread = unread.replace("> unread 0601, 6", "< unread 060F, 7")
+    for name, awaited, words, status, said in (
+        ("awaited", answer, ["--open"], 0, "ok 1 - one\n"), ("not awaited", ack, ["--open"], 1, unread), ("a strict kit", ack, [], 1, refused),
+    ):
+        with socket.create_server(("127.0.0.1", 0)) as door, concurrent.futures.ThreadPoolExecutor(1) as pool:
+            door.settimeout(SECONDS)
+            served = pool.submit(serve, door, [">", "<" + answer])
+            found = run("check-terminal", "--port", str(door.getsockname()[1]), *words, str(written(folder, f"> {AUTHORISATION}\n< {awaited}\n")))
+            check(f"a terminal's refused message, {name}", (found[0], said in found[1], served.result()), (status, True, [AUTHORISATION]))
+
+
+def alike(folder):
+    """Where nothing is refused, an open play says and sends what a strict one does: also where a message differs, is missing or
+    breaks off, and where one comes besides."""
+    chance = random.Random(20261129)
+    messages = sorted({line[2:] for path in EXAMPLES.glob("**/*.trace") for line in path.read_text().splitlines() if line[:2] == "< "})
+    messages = [data.hex() for data in whole("<", [bytes.fromhex(each) for each in messages])]
+    ends = set()
+    for number in range(40):
+        awaited, served = [], []
+        for _ in range(chance.randint(1, 4)):
+            message = chance.choice(messages)
+            awaited.append(message[:2 * chance.randint(0, len(message) // 2)] if chance.random() < 0.3 else message)
+            served.append(chance.choice(messages) if chance.random() < 0.15 else message)
+        if chance.random() < 0.2:
+            served.append(chance.choice(messages))
+        if chance.random() < 0.2:
+            served[-1] = served[-1][:2 * chance.randrange(1, len(served[-1]) // 2)]
+        trace = written(folder, f"> {AUTHORISATION}\n" + "".join(f"< {each}\n" for each in awaited))
+        found = []
+        for words in ([], ["--open"]):
+            with socket.create_server(("127.0.0.1", 0)) as door, concurrent.futures.ThreadPoolExecutor(1) as pool:
+                door.settimeout(SECONDS)
+                heard = pool.submit(serve, door, [">", "<" + "".join(served)])
+                found.append((play_till(trace, door.getsockname()[1], *words), heard.result()))
+        check(f"an open play, {number}", found[1], found[0])
+        ends.add(found[0][0][0])
+    check("how these plays end", ends, {0, 1})
+
+
 # ---- wrong words and files
 
 
@@ -415,6 +520,9 @@ with tempfile.TemporaryDirectory() as name:
     lost_lines(folder)
     numbers(folder)
     padded(folder)
+    refused(folder)
+    judged(folder)
+    alike(folder)
     wrong(folder)
 print(f"{check.wrong} not as expected" if check.failed else f"ok: {plays} plays, {2 * DIALOGUES} traces on either side")
 sys.exit(check.status)

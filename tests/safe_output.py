@@ -75,6 +75,13 @@ for _depth in range(1, 7):
 MESSAGES["track 2 in a text block"] = ("<", *message("06 D3", *nested(2, "57", TRACK)))
 MESSAGES["a card number in an order"] = (">", *message("06 01", "04 00 00 00 00 10 00", *nested(1, "5A", PAN)))
 
+# Orders that are refused for what follows their secrets. `play --open` reads on after them.
+REFUSED = {
+    "a refused reversal": message("06 30", "!12 34 56", "D0 00"),
+    "a refused order with a card number": message("06 01", "04 00 00 00 00 10 00 22 F1 F0", "!" + PAN, "D0 00"),
+    "a refused order with a card number in an object": message("06 01", nested(1, "5A", PAN)[0], "!" + PAN, "D0 00"),
+}
+
 
 def run(words, given):
     done = subprocess.run([PROGRAM, *words], input=given, capture_output=True, timeout=SECONDS)
@@ -122,26 +129,29 @@ def hold_show():
 # ---- the difference that `play` prints
 
 
-def differs(folder, wanted, came):
+def differs(folder, wanted, came, *words):
     """What `play` prints where the till sends another message than the trace has."""
     trace = folder / "play.trace"
     trace.write_bytes(b"> " + wanted.hex().encode() + b"\n")
-    player = Listener([PROGRAM, "play", "--terminal", str(trace), "--listen", "0"], SECONDS)
+    player = Listener([PROGRAM, "play", "--terminal", str(trace), "--listen", "0", *words], SECONDS)
     with socket.create_connection(("127.0.0.1", player.port), timeout=SECONDS) as till:
         till.sendall(came)
         return player.ended()
 
 
 def hold_play():
+    read = [(name, data, places, ()) for name, (sign, data, places) in MESSAGES.items() if sign == ">"]
+    refused = [(name, data, places, ("--open",)) for name, (data, places) in REFUSED.items()]
     with tempfile.TemporaryDirectory() as name:
         folder = pathlib.Path(name)
-        for name, (sign, data, places) in MESSAGES.items():
-            if sign == ">":
-                other, (last, _) = message("06 01", "04 00 00 00 00 99 99")[0], places[-1]
-                secret = replaced(data, last, data[last] ^ 1)
-                check(f"{name}: the difference where it was awaited", differs(folder, secret, other), differs(folder, data, other))
-                check(f"{name}: the difference where it came", differs(folder, other, secret), differs(folder, other, data))
-                check(f"{name}: the status", differs(folder, other, secret)[0], 1)
+        for name, data, places, words in read + refused:
+            other, (last, _) = message("06 01", "04 00 00 00 00 99 99")[0], places[-1]
+            secret = replaced(data, last, data[last] ^ 1)
+            found = differs(folder, other, data, *words)
+            check(f"{name}: the difference where it was awaited", differs(folder, secret, other, *words), differs(folder, data, other, *words))
+            check(f"{name}: the difference where it came", differs(folder, other, secret, *words), found)
+            check(f"{name}: the status", found[0], 1)
+            check(f"{name}: whether it is read", "> unread " not in found[1], not words)
 
 
 def main():

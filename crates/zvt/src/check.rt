@@ -10,6 +10,7 @@ use std::fs;
 use std::io::{self, Write};
 use zvt_play::{Role, ScriptStep};
 use zvt_runs::{EndFault, NetFault};
+use zvt_stream::LineForm;
 use zvt_text::Text;
 use zvt_tool::CheckOptions;
 use zvt_tool::label::Label;
@@ -74,11 +75,14 @@ pub fn terminal(rt: &HostRuntime, options: &CheckOptions<'_>) -> Result<u8, Exit
     )
 }
 
-/// How the situations are played: this side of them, with the lengths that the options ask for.
+/// How the situations are played: this side of them, and the other one read as the options ask for.
 fn role_of(own: Direction, options: &CheckOptions<'_>) -> Role {
     Role {
         own,
-        lengths: lengths_by(options.loose),
+        form: LineForm {
+            lengths: lengths_by(options.loose),
+            passes: options.reads_on,
+        },
     }
 }
 

@@ -18,7 +18,7 @@ use zvt_play::{
 };
 use zvt_runs::tcp::SILENCE_SECONDS;
 use zvt_runs::{EndFault, NetFault};
-use zvt_stream::{Endpoint, Stream};
+use zvt_stream::{Endpoint, LineForm, Stream};
 use zvt_text::Text;
 use zvt_tool::PlayOptions;
 use zvt_tool::options::lengths_by;
@@ -60,7 +60,10 @@ pub fn play(rt: &HostRuntime, options: &PlayOptions<'_>) -> Result<u8, Exit> {
     }
     let role = Role {
         own,
-        lengths: lengths_by(options.loose),
+        form: LineForm {
+            lengths: lengths_by(options.loose),
+            passes: options.reads_on,
+        },
     };
     let text = read_text(rt, path)?;
     let steps = script_of(rt, path, role, text.as_slice())?;
@@ -235,7 +238,7 @@ fn play_line<'s>(
     steps: &'s [ScriptStep],
     listened: u32,
 ) -> io::Result<Result<&'s [ScriptStep], Played>> {
-    let Ok(stream) = Stream::reserved_of(rt.alloc(), role.lengths) else {
+    let Ok(stream) = Stream::reserved_reading(rt.alloc(), role.form) else {
         return Ok(Err(Played::Ended(without_memory(rt)?)));
     };
     let mut end = Endpoint {
@@ -364,7 +367,7 @@ fn differ(
         step,
         names,
         unplayed.why,
-        end.stream.lent().as_ref(),
+        end.stream.lent_bytes(),
     );
     differing(rt, text)
 }

@@ -8,3 +8,4 @@ mod TextLemmas
 pub mod UnheardLemmas
 pub mod ListeningLemmas
 pub mod NamingLemmas
+pub mod OpenPlayLemmas

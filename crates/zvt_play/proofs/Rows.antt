@@ -1,14 +1,14 @@
 -- Rows worked by hand.
-use Rattle.std.proofs.Common.{◌≡◌, [], ◌∷◌, true, false, Bor, Ok, Err, Option, Some, None, length, refl, ap, arith}
+use Rattle.std.proofs.Common.{◌≡◌, ℕ, List, [], ◌∷◌, true, false, Bor, Ok, Err, Option, Some, None, length, refl, ap, arith}
 use Rattle.std.specs.Prelude.{codes}
 use Rattle.std.specs.Fmt.{digits}
 use Rattle.hex.specs.Hex.{decode_pairs, encode_with}
 use Rattle.zvt_trace.specs.declared.direction.Direction.TheVariants.{FromTill, FromTerminal}
-use Rattle.zvt_grammar.specs.Reading.{Reading}
 use Rattle.zvt_grammar.specs.declared.why.Why.TheVariants.{UnknownField}
-use Rattle.zvt_apdu.specs.Message.{Message}
 use Rattle.zvt_field.specs.Grammar.{plain}
-use Rattle.zvt_play.specs.DifferenceTexts.{SaysWanted, beginning_text, cause_text, new_text, same_text, surplus}
+use Rattle.zvt_stream.specs.LineReading.{LineReading}
+use Rattle.zvt_stream.specs.OpenReading.{unread}
+use Rattle.zvt_play.specs.DifferenceTexts.{SaysCause, SaysWanted, beginning_text, item_text, new_text, same_text, surplus}
 use Rattle.zvt_play.specs.Playing.{Meets, SendAll}
 use Rattle.zvt_play.specs.Naming.{fault_at, fault_of}
 use Rattle.zvt_play.specs.Numbers.{bound, has_number, number_of, prepared, sent_as, unused, used}
@@ -142,15 +142,15 @@ before_no_own_line = refl
 
 -- ---- lines
 
-pub an_own_line : (r : Reading) → LineSays r FromTerminal (codes "< 80 00 00") (Ok (Some (send (0x80 ∷ 0x00 ∷ 0x00 ∷ []))))
+pub an_own_line : (r : LineReading) → LineSays r FromTerminal (codes "< 80 00 00") (Ok (Some (send (0x80 ∷ 0x00 ∷ 0x00 ∷ []))))
 unfolding decode_pairs
 an_own_line r = refl
 
-pub a_malformed_own_line : (r : Reading) → LineSays r FromTill (codes "> 80") (Ok (Some (send (0x80 ∷ []))))
+pub a_malformed_own_line : (r : LineReading) → LineSays r FromTill (codes "> 80") (Ok (Some (send (0x80 ∷ []))))
 unfolding decode_pairs
 a_malformed_own_line r = refl
 
-pub a_lost_line : (r : Reading) → LineSays r FromTill (codes "!") (Ok (Some break))
+pub a_lost_line : (r : LineReading) → LineSays r FromTill (codes "!") (Ok (Some break))
 a_lost_line r = refl
 
 -- ---- what a line demands
@@ -181,15 +181,20 @@ pub more_at_the_end : surplus None 3 ≡ codes "the end of the trace: 3 bytes ca
 unfolding digits
 more_at_the_end = refl
 
-pub a_refused_message : (came : Option (Bor Message)) → cause_text FromTerminal (Malformed 12 UnknownField) came ≡ codes "but no message begins with what came: refused at 12: UnknownField\n"
+pub a_refused_message : (r : LineReading) (came : Option (Bor (List ℕ))) → SaysCause r FromTerminal (Malformed 12 UnknownField) came (codes "but no message begins with what came: refused at 12: UnknownField\n")
 unfolding digits
-a_refused_message came = refl
+a_refused_message r came = refl
 
-pub a_close : (came : Option (Bor Message)) → cause_text FromTill (Closed 0) came ≡ codes "but the other side closed the connection after 0 bytes of a message\n"
+pub a_close : (r : LineReading) (came : Option (Bor (List ℕ))) → SaysCause r FromTill (Closed 0) came (codes "but the other side closed the connection after 0 bytes of a message\n")
 unfolding digits
-a_close came = refl
+a_close r came = refl
 
-pub any_wanted : (r : Reading) → SaysWanted r [] (codes "any message\n")
+-- the completion of a status enquiry: no field has the BMP F0
+pub an_unread_completion : (byte : ℕ) → item_text (unread 0x06 0x0F 7 3 byte UnknownField) ≡ codes "unread 060F, 7 bytes, refused at 3: UnknownField\n"
+unfolding digits encode_with
+an_unread_completion byte = refl
+
+pub any_wanted : (r : LineReading) → SaysWanted r [] (codes "any message\n")
 any_wanted r = refl
 
 pub two_of_three : beginning_text (6 ∷ 1 ∷ 7 ∷ []) ≡ codes "a message that begins with 0601, 3 bytes of it are given\n"

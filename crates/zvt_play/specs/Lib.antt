@@ -4,3 +4,4 @@ pub mod Script
 pub mod Playing
 pub mod Naming
 pub mod Unheard
+pub mod OpenPlay

@@ -3,7 +3,7 @@ use Rattle.std.specs.Prelude.{◌≡◌, ◌<◌, ℕ, ◌-◌, ◌⊎◌, ◌==
 use Rattle.std.specs.Option.{option_or}
 use Rattle.std.specs.Global.{Global}
 use Rattle.std.specs.Str.Lines.{lines}
-use Rattle.zvt_grammar.specs.Reading.{Reading}
+use Rattle.zvt_stream.specs.LineReading.{LineReading}
 use Rattle.zvt_trace.specs.declared.direction.Direction.{Direction}
 use Rattle.zvt_play.specs.Numbers.{bmp_of, longest_line, size_of}
 use Rattle.zvt_play.specs.Playing.{acts_of}
@@ -125,7 +125,7 @@ IsFirstFault acts place why = (place < length acts) × (fault_at acts place ≡ 
 -- ---- a script
 
 -- Each line can be played by itself, but the line with this number has the first mark that can't be used where it appears.
-pub record IsMisnamed (r : Reading) (own : Direction) (lines : List (List ℕ)) (number : ℕ) (why : ScriptLineError) : Type 0 where
+pub record IsMisnamed (r : LineReading) (own : Direction) (lines : List (List ℕ)) (number : ℕ) (why : ScriptLineError) : Type 0 where
   pub steps : List ScriptStep
   pub place : ℕ
   pub fault : NameFault
@@ -137,7 +137,7 @@ pub record IsMisnamed (r : Reading) (own : Direction) (lines : List (List ℕ)) 
   pub is_why : why ≡ Name fault
 
 -- the result of reading a script
-abbrev pub ReadsScript : Reading → (own : Direction) → (trace : List ℕ) → Result (Vec ScriptStep Global) ScriptFault → Type 0
+abbrev pub ReadsScript : LineReading → (own : Direction) → (trace : List ℕ) → Result (Vec ScriptStep Global) ScriptFault → Type 0
 ReadsScript r own trace (Ok steps) = LinesSay r own 0 (lines trace) (steps_at steps.items) × AreNamed (acts_of steps.items)
 ReadsScript r own trace (Err (fault.Line number why)) = IsFirstWrong r own (lines trace) number why ⊎ IsMisnamed r own (lines trace) number why
 ReadsScript r own trace (Err fault.Memory) = Unit {0}

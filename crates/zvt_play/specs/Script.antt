@@ -3,11 +3,10 @@ use Rattle.std.specs.Prelude.{◌≡◌, ℕ, ◌+◌, ◌⊎◌, cond, List, []
 use Rattle.std.specs.Global.{Global}
 use Rattle.std.specs.Str.{bytes_eq}
 use Rattle.std.specs.Str.Lines.{lines}
-use Rattle.zvt_grammar.specs.Reading.{Reading}
 use Rattle.zvt_grammar.specs.declared.why.Why.{Why}
 use Rattle.zvt_apdu.specs.Message.{Message}
 use Rattle.zvt_text.specs.Words.{number_in, trailing}
-use Rattle.zvt_stream.specs.Apdus.{AliveIn, CutIn, IsRefusedIn, SpelledIn}
+use Rattle.zvt_stream.specs.LineReading.{AliveBy, CutBy, IsRefusedBy, LineReading, SpelledBy}
 use Rattle.zvt_trace.specs.Meanings.{Meaning, comment, lost, meaning_of, piece}
 use Rattle.zvt_trace.specs.declared.direction.Direction.{Direction}
 use Rattle.zvt_trace.specs.declared.direction.Direction.TheVariants.{FromTill, FromTerminal}
@@ -109,43 +108,43 @@ abbrev pub comment_says : List ℕ → Result (Option Act) ScriptLineError
 comment_says line = comment_by (trailing (codes "#~") line)
 
 -- the other side can send the bytes: whole messages, and then perhaps the beginning of one
-pub record CanCome (r : Reading) (bytes : List ℕ) : Type 0 where
+pub record CanCome (r : LineReading) (bytes : List ℕ) : Type 0 where
   pub messages : List Message
   pub rest : List ℕ
-  pub cut : CutIn r bytes messages rest
-  pub alive : AliveIn r rest
+  pub cut : CutBy r bytes messages rest
+  pub alive : AliveBy r rest
 
 -- no message after the whole ones begins with the bytes up to and including the one at this place, counted from the first byte
-pub record CannotCome (r : Reading) (bytes : List ℕ) (at : ℕ) (why : Why) : Type 0 where
+pub record CannotCome (r : LineReading) (bytes : List ℕ) (at : ℕ) (why : Why) : Type 0 where
   pub messages : List Message
   pub before : List ℕ
   pub rest : List ℕ
   pub place : ℕ
   pub whole : bytes ≡ before ++ rest
-  pub spelled : SpelledIn r bytes messages rest
-  pub refused : IsRefusedIn r rest place why
+  pub spelled : SpelledBy r bytes messages rest
+  pub refused : IsRefusedBy r rest place why
   pub is_at : at ≡ length before + place
 
-abbrev pub AwaitSays : Reading → List ℕ → Result (Option Act) ScriptLineError → Type 0
+abbrev pub AwaitSays : LineReading → List ℕ → Result (Option Act) ScriptLineError → Type 0
 AwaitSays r bytes answer =
     (CanCome r bytes × (answer ≡ Ok (Some (await bytes))))
     ⊎ ((at : ℕ) × (why : Why) × CannotCome r bytes at why × (answer ≡ Err (error.NoMessage at why)))
 
 -- a line of the own side is sent unchanged, and a line of the other side is awaited
-abbrev pub PieceSays : Reading → (own from : Direction) → List ℕ → Result (Option Act) ScriptLineError → Type 0
+abbrev pub PieceSays : LineReading → (own from : Direction) → List ℕ → Result (Option Act) ScriptLineError → Type 0
 PieceSays r FromTill FromTill bytes answer = answer ≡ Ok (Some (send bytes))
 PieceSays r FromTill FromTerminal bytes answer = AwaitSays r bytes answer
 PieceSays r FromTerminal FromTill bytes answer = AwaitSays r bytes answer
 PieceSays r FromTerminal FromTerminal bytes answer = answer ≡ Ok (Some (send bytes))
 
-abbrev pub SaysBy : Reading → (own : Direction) → (line : List ℕ) → Result Meaning TraceLineError → Result (Option Act) ScriptLineError → Type 0
+abbrev pub SaysBy : LineReading → (own : Direction) → (line : List ℕ) → Result Meaning TraceLineError → Result (Option Act) ScriptLineError → Type 0
 SaysBy r own line (Ok comment) answer = answer ≡ comment_says line
 SaysBy r own line (Ok (piece from bytes)) answer = PieceSays r own from bytes answer
 SaysBy r own line (Ok lost) answer = answer ≡ Ok (Some break)
 SaysBy r own line (Err what) answer = answer ≡ Err (error.Trace what)
 
 -- what the player of this side does for a line, or the reason why it can't be played
-abbrev pub LineSays : Reading → (own : Direction) → List ℕ → Result (Option Act) ScriptLineError → Type 0
+abbrev pub LineSays : LineReading → (own : Direction) → List ℕ → Result (Option Act) ScriptLineError → Type 0
 LineSays r own line answer = SaysBy r own line (meaning_of line) answer
 
 -- ---- a trace
@@ -167,13 +166,13 @@ some_step line None = []
 some_step line (Some act) = record { line = line; act = act } ∷ []
 
 -- the steps of the lines after this many earlier ones: at most one for each line, in order
-abbrev pub LinesSay : Reading → (own : Direction) → (before : ℕ) → List (List ℕ) → List StepAt → Type 0
+abbrev pub LinesSay : LineReading → (own : Direction) → (before : ℕ) → List (List ℕ) → List StepAt → Type 0
 LinesSay r own before [] steps = steps ≡ []
 LinesSay r own before (line ∷ later) steps =
     (said : Option Act) × (rest : List StepAt) × LineSays r own line (Ok said) × LinesSay r own (before + 1) later rest × (steps ≡ some_step (before + 1) said ++ rest)
 
 -- the line with this number is the first that can't be played
-pub record IsFirstWrong (r : Reading) (own : Direction) (lines : List (List ℕ)) (number : ℕ) (why : ScriptLineError) : Type 0 where
+pub record IsFirstWrong (r : LineReading) (own : Direction) (lines : List (List ℕ)) (number : ℕ) (why : ScriptLineError) : Type 0 where
   pub done : List (List ℕ)
   pub line : List ℕ
   pub later : List (List ℕ)
@@ -184,7 +183,7 @@ pub record IsFirstWrong (r : Reading) (own : Direction) (lines : List (List ℕ)
   pub is_number : number ≡ length done + 1
 
 -- the result of reading the lines of a trace
-abbrev pub ReadsLines : Reading → (own : Direction) → (trace : List ℕ) → Result (Vec ScriptStep Global) ScriptFault → Type 0
+abbrev pub ReadsLines : LineReading → (own : Direction) → (trace : List ℕ) → Result (Vec ScriptStep Global) ScriptFault → Type 0
 ReadsLines r own trace (Ok steps) = LinesSay r own 0 (lines trace) (steps_at steps.items)
 ReadsLines r own trace (Err (fault.Line number why)) = IsFirstWrong r own (lines trace) number why
 ReadsLines r own trace (Err fault.Memory) = Unit {0}

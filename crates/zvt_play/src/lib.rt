@@ -5,6 +5,7 @@
 #![tactic(auto)]
 
 mod difference;
+pub mod laws;
 mod line;
 mod listening;
 mod marks;

@@ -1,7 +1,7 @@
 //! Reads lines of a trace as steps of the player.
 ghost use Rattle.std.specs.Prelude.{◌≡◌, ℕ, List, Ok, Err, IfErr, IfOk, IsErr, OnOk, option_map};
 ghost use Rattle.hex.specs.Hex.{decode_of};
-ghost use Rattle.zvt_grammar.specs.Lengths.{reading_of};
+ghost use Rattle.zvt_stream.specs.LineReading.{reading_as};
 ghost use Rattle.zvt_trace.specs.Meanings.{piece_of, without_spaces};
 ghost use Rattle.zvt_play.specs.Script.{AwaitSays, CanCome, LineSays, SaysBy, act_of};
 ghost use Rattle.zvt_play.specs.declared.line.ScriptLineError.{ScriptLineError};
@@ -13,8 +13,8 @@ use crate::role::Role;
 use crate::step::Action;
 use std::alloc::{AllocError, Global};
 use thiserror::Error;
-use zvt_grammar::{Lengths, Why};
-use zvt_stream::{FedView, FeedError, Stream};
+use zvt_grammar::Why;
+use zvt_stream::{FedView, FeedError, LineForm, Stream};
 use zvt_trace::{Direction, TraceLineError, spelled_bytes};
 
 /// The reason why a line can't be played.
@@ -54,10 +54,10 @@ impl From<AllocError> for BadLine {
 
 /// Reads a line without its line feed, for a player with this role.
 pub(crate) fn read_line(alloc: Global, role: Role, line: &[u8]) -> Result<Option<Action>, BadLine>
-    ensures ok { IfOk result (λ read. LineSays (reading_of role.lengths) role.own line.now
+    ensures ok { IfOk result (λ read. LineSays (reading_as role.form) role.own line.now
         (Ok (option_map act_of read))) }
     ensures wrong { (why : ScriptLineError) → result ≡ Err (BadLine.Wrong why)
-        → LineSays (reading_of role.lengths) role.own line.now (Err why) }
+        → LineSays (reading_as role.form) role.own line.now (Err why) }
 {
     match line {
         [] => Ok(None),
@@ -80,17 +80,17 @@ fn read_piece(
     text: &[u8],
 ) -> Result<Option<Action>, BadLine>
     ensures ok { IfOk result (λ read. (line : List ℕ)
-        → SaysBy (reading_of role.lengths) role.own line (piece_of from (decode_of (without_spaces text.now)))
+        → SaysBy (reading_as role.form) role.own line (piece_of from (decode_of (without_spaces text.now)))
         (Ok (option_map act_of read))) }
     ensures wrong { (why : ScriptLineError) → result ≡ Err (BadLine.Wrong why) → (line : List ℕ)
-        → SaysBy (reading_of role.lengths) role.own line (piece_of from (decode_of (without_spaces text.now)))
+        → SaysBy (reading_as role.form) role.own line (piece_of from (decode_of (without_spaces text.now)))
         (Err why) }
 {
     let bytes = decode(alloc, text)?;
     if role.own == from {
         return Ok(Some(Action::Send(bytes)));
     }
-    check(alloc, role.lengths, bytes.as_slice())?;
+    check(alloc, role.form, bytes.as_slice())?;
     Ok(Some(Action::Await(bytes)))
 }
 
@@ -106,13 +106,14 @@ fn decode(alloc: Global, text: &[u8]) -> Result<Vec<u8>, BadLine>
     }
 }
 
-/// Checks that the other side can send these bytes: whole messages, and perhaps the beginning of another one.
-fn check(alloc: Global, lengths: Lengths, bytes: &[u8]) -> Result<(), BadLine>
-    ensures ok { OnOk result (CanCome (reading_of lengths) bytes.now) }
+/// Checks that the other side can send these bytes: whole messages, and perhaps the beginning of another one. On an
+/// open line, it can send any.
+fn check(alloc: Global, form: LineForm, bytes: &[u8]) -> Result<(), BadLine>
+    ensures ok { OnOk result (CanCome (reading_as form) bytes.now) }
     ensures wrong { (why : ScriptLineError) → result ≡ Err (BadLine.Wrong why)
-        → AwaitSays (reading_of lengths) bytes.now (Err why) }
+        → AwaitSays (reading_as form) bytes.now (Err why) }
 {
-    let mut stream = Stream::of(alloc, lengths);
+    let mut stream = Stream::reading(alloc, form);
     let mut rest = bytes;
     'messages: loop {
         match stream.feed_view(rest) {

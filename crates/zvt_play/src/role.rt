@@ -1,11 +1,11 @@
 //! The part that the player takes.
 
-use zvt_grammar::Lengths;
+use zvt_stream::LineForm;
 use zvt_trace::Direction;
 
-/// The side of a trace that is played, and the forms of length that are accepted in what the other side sends.
+/// The side of a trace that is played, and how the bytes of the other side are read, in the trace and on the connection.
 #[derive(Clone, Copy, Debug, PartialEq, Eq)]
 pub struct Role {
     pub own: Direction,
-    pub lengths: Lengths,
+    pub form: LineForm,
 }

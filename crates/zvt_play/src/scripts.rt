@@ -1,6 +1,6 @@
 //! The script of a trace.
 ghost use Rattle.std.specs.Prelude.{◌≡◌, ◌∷◌, [], ◌++◌, OnOk};
-ghost use Rattle.zvt_grammar.specs.Lengths.{reading_of};
+ghost use Rattle.zvt_stream.specs.LineReading.{reading_as};
 ghost use Rattle.zvt_play.specs.Naming.{ReadsScript};
 ghost use Rattle.zvt_play.specs.Script.{ReadsLines};
 ghost use Rattle.zvt_play.specs.declared.scripts.ScriptFault.TheVariants.{Memory};
@@ -38,7 +38,7 @@ impl From<AllocError> for ScriptFault {
 /// beginning of one, or no bytes. A mark with a name must be usable where it appears: each name is bound once, and
 /// before it is used.
 pub fn script(alloc: Global, role: Role, trace: &[u8]) -> Result<Vec<ScriptStep>, ScriptFault>
-    ensures { ReadsScript (reading_of role.lengths) role.own trace.now result }
+    ensures { ReadsScript (reading_as role.form) role.own trace.now result }
 {
     let steps = read_lines(alloc, role, trace)?;
     match first_fault(steps.as_slice()) {
@@ -52,7 +52,7 @@ pub fn script(alloc: Global, role: Role, trace: &[u8]) -> Result<Vec<ScriptStep>
 
 /// Reads each line by itself, without checking where its mark appears.
 fn read_lines(alloc: Global, role: Role, trace: &[u8]) -> Result<Vec<ScriptStep>, ScriptFault>
-    ensures { ReadsLines (reading_of role.lengths) role.own trace.now result }
+    ensures { ReadsLines (reading_as role.form) role.own trace.now result }
 {
     let mut steps = Vec::new(alloc);
     let mut rest = trace;

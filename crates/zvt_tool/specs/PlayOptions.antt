@@ -15,6 +15,7 @@ play_app = command_app (codes "play") (
     port_option_rule (codes "listen") ∷
     host_rule ∷
     flag_rule (codes "loose") ∷
+    flag_rule (codes "open") ∷
     [])
 
 -- the options of `play` in the parsed words
@@ -25,6 +26,7 @@ pub record ArePlayOptionsOf (rows : List Row) (options : PlayOptions) : Type 0 w
   pub listen : IsNumberOf (codes "listen") rows 65535 options.listen
   pub host : first_of (codes "host") rows ≡ Some options.host.now
   pub loose : IsFlagOf (codes "loose") rows options.loose
+  pub reads_on : IsFlagOf (codes "open") rows options.reads_on
 
 -- a command with this name that plays situations, over connections of the port with that name
 abbrev pub check_app : Text → Text → App
@@ -33,6 +35,7 @@ check_app name port = command_app name (
     host_rule ∷
     option_rule (codes "junit") ∷
     flag_rule (codes "loose") ∷
+    flag_rule (codes "open") ∷
     several_rule (codes "file") ∷
     [])
 
@@ -42,4 +45,5 @@ pub record AreCheckOptionsOf (port : Text) (rows : List Row) (options : CheckOpt
   pub host : first_of (codes "host") rows ≡ Some options.host.now
   pub junit : IsTextOf (codes "junit") rows options.junit
   pub loose : IsFlagOf (codes "loose") rows options.loose
+  pub reads_on : IsFlagOf (codes "open") rows options.reads_on
   pub files : map (λ file. file.now) options.files.items ≡ words_of (codes "file") rows

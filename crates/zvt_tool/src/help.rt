@@ -87,6 +87,9 @@ pub const PLAY_HOST: &str = "Host name or address of the other side, or the addr
 
 pub const PLAY_LOOSE: &str = "Accept padded lengths in what the other side sends";
 
+pub const OPEN_PLAY: &str =
+    "Go on after an invalid message of the other side, at the end that its length announces, and compare its bytes";
+
 pub const CHECK_PORT: &str = "TCP port of each situation's connections";
 
 pub const JUNIT: &str = "Also write the report to this file, in JUnit format";

@@ -28,6 +28,8 @@ pub struct PlayOptions<'a> {
     pub host: &'a str,
     /// Whether the other side may send lengths in any form that holds them.
     pub loose: bool,
+    /// Whether reading goes on after a message of the other side whose data is invalid.
+    pub reads_on: bool,
 }
 
 /// The options of `check-till` and `check-terminal`.
@@ -41,6 +43,8 @@ pub struct CheckOptions<'a> {
     pub junit: Option<&'a str>,
     /// Whether the other side may send lengths in any form that holds them.
     pub loose: bool,
+    /// Whether reading goes on after a message of the other side whose data is invalid.
+    pub reads_on: bool,
     /// The situations, in order.
     pub files: Vec<&'a str>,
 }
@@ -76,6 +80,7 @@ Example:
             ),
             CommandOption::Host(help::PLAY_HOST),
             CommandOption::Flag("loose", help::PLAY_LOOSE),
+            CommandOption::Flag("open", help::OPEN_PLAY),
         ],
     }
 }
@@ -97,6 +102,7 @@ Example:
             CommandOption::Host(help::PLAY_HOST),
             CommandOption::Value("junit", "FILE", help::JUNIT),
             CommandOption::Flag("loose", help::PLAY_LOOSE),
+            CommandOption::Flag("open", help::OPEN_PLAY),
             CommandOption::Several("file", "FILE", help::SITUATIONS),
         ],
     }
@@ -119,6 +125,7 @@ Example:
             CommandOption::Host(help::PLAY_HOST),
             CommandOption::Value("junit", "FILE", help::JUNIT),
             CommandOption::Flag("loose", help::PLAY_LOOSE),
+            CommandOption::Flag("open", help::OPEN_PLAY),
             CommandOption::Several("file", "FILE", help::SITUATIONS),
         ],
     }
@@ -136,6 +143,7 @@ pub fn read_play<'a>(inner: &ArgMatches<'a>) -> Option<Choice<'a>>
         listen: number(inner, "listen"),
         host,
         loose: flag(inner, "loose"),
+        reads_on: flag(inner, "open"),
     }))
 }
 
@@ -185,12 +193,14 @@ fn check_options<'a>(
         → IfOk result (AreCheckOptionsOf name (rows_of (found_of inner.now))) }
 {
     let loose = flag(inner, "loose");
+    let reads_on = flag(inner, "open");
     let files = words(alloc, inner, "file")?;
     Ok(CheckOptions {
         port,
         host,
         junit: text(inner, "junit"),
         loose,
+        reads_on,
         files,
     })
 }
