@@ -332,4 +332,4 @@ pub accounted : (moves : List Move) (i : ℕ) (w : Ends) → length moves ≤ i 
 accounted moves i w le is f e =
     let all : take i moves ≡ moves = take_all i moves le in
     let orderly : IsTrue (are_orderly (take i moves)) = subst (λ (xs : List Move). IsTrue (are_orderly xs)) (sym all) e in
-    subst (λ (v : Ends). IsAccounted v.till v.terminal.ledger) (sym is) (orderly_worlds_account run_settings (take i moves) (omega arith) f orderly)
+    subst (λ (v : Ends). IsAccounted v.till v.terminal.ledger) (sym is) (orderly_worlds_account run_settings (take i moves) (omega arith, refl) f orderly)

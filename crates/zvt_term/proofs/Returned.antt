@@ -142,4 +142,4 @@ pub keeps_reversals : (moves : List Move) (i : ℕ) (w : Ends) → length moves 
 keeps_reversals moves i w le is f e =
     let all : take i moves ≡ moves = take_all i moves le in
     let orderly : IsTrue (are_orderly (take i moves)) = subst (λ (xs : List Move). IsTrue (are_orderly xs)) (sym all) e in
-    subst (λ (v : Ends). KeepsReversals v.till v.terminal.ledger) (sym is) (orderly_worlds_keep_reversals run_settings (take i moves) (omega arith) f orderly)
+    subst (λ (v : Ends). KeepsReversals v.till v.terminal.ledger) (sym is) (orderly_worlds_keep_reversals run_settings (take i moves) (omega arith, refl) f orderly)

@@ -232,4 +232,4 @@ fit-more moves i x lt is h k =
 
 -- after the last move
 pub matched : (moves : List Move) (i : ℕ) (w : Ends) → length moves ≤ i → w ≡ world (take i moves) → FitMoves (take i moves) → Matches w.till w.terminal.ledger
-matched moves i w le is h = subst (λ (v : Ends). Matches v.till v.terminal.ledger) (sym is) (worlds_match run_settings (take i moves) (omega arith) h)
+matched moves i w le is h = subst (λ (v : Ends). Matches v.till v.terminal.ledger) (sym is) (worlds_match run_settings (take i moves) (omega arith, refl) h)

@@ -1,5 +1,5 @@
 -- A status that answers a reversal by its receipt number is no late answer to another order.
-use Rattle.std.proofs.Common.{◌≡◌, ℕ, zero, suc, ◌+◌, ◌<◌, Bool, true, false, not, cond, ◌&&◌, ◌||◌, ◌==◌, List, [], ◌∷◌, Option, Some, None, slice_get, option_map, refl, sym, ap, subst, ◌∙◌, arith, eq-eqb, zero-add}
+use Rattle.std.proofs.Common.{◌≡◌, ℕ, zero, suc, ◌+◌, Bool, true, false, not, cond, ◌&&◌, ◌||◌, ◌==◌, List, [], ◌∷◌, Option, Some, None, slice_get, option_map, refl, sym, ap, subst, ◌∙◌, arith, eq-eqb, zero-add}
 use Rattle.std.specs.List.{count_by, list_all, list_any}
 use Rattle.std.specs.Str.{bytes_eq}
 use Rattle.std.proofs.lemmas.List.Sums.{sum_by-cons}
@@ -11,10 +11,10 @@ use Rattle.zvt_till.specs.declared.messages.Original.TheVariants.{Absent, Once, 
 use Rattle.zvt_till.specs.declared.messages.StatusFacts.{StatusFacts}
 use Rattle.zvt_till.specs.declared.orders.Order.TheVariants.{Reverse as ReverseOrder}
 use Rattle.zvt_till.specs.declared.outcomes.Cause.{Cause}
-use Rattle.zvt_till.specs.declared.outcomes.Cause.TheVariants.{Conflict, AmountDiffers, NoTrace, WrongCurrency}
+use Rattle.zvt_till.specs.declared.outcomes.Cause.TheVariants.{AmountDiffers, NoTrace, WrongCurrency}
 use Rattle.zvt_till.specs.declared.entries.Entry.{Entry}
 use Rattle.zvt_till.specs.ByReceipt.{count_of, has_unclear, is_sole, sole_receipt}
-use Rattle.zvt_till.specs.Statuses.{Charge, Demand, Reversal, Class, Good, Declining, Doubtful, is_absent, is_by_receipt, is_in_currency, is_value, names, class_undeclined, class_by, class_of}
+use Rattle.zvt_till.specs.Statuses.{Charge, Demand, Reversal, Good, Declining, Doubtful, is_absent, is_by_receipt, is_in_currency, is_value, names, class_undeclined, class_by, class_of}
 use Rattle.zvt_till.specs.Outcomes.{charged, demand_of}
 use Rattle.zvt_till.specs.Laws.{NoRepeatReverses}
 
