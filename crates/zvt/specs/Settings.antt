@@ -35,7 +35,7 @@ currency_named options = named run_settings.currency currency_of options.currenc
 
 -- the rules that the flags state
 abbrev pub rules_stated : TillOptions → Rules
-rules_stated options = record { close_by_completion = options.close_by_completion }
+rules_stated options = record { close_by_completion = options.close_by_completion; reversal_by_receipt = false }
 
 -- the settings that the words and the flags name; or none, where one of the words names none
 abbrev pub AreSettings : TillOptions → Option TillSettings → Type 0

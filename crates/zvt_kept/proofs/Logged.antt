@@ -82,7 +82,7 @@ stands_up settings log state up t = subst (λ l. Stands settings l state) (sym (
 
 -- what happens on a line that is up, and doesn't end it
 pub stays_up : (settings : Settings) (log : List Happening) (state next : TillState) (h : Happening)
-    → state.line_up ≡ true → (line_after true h ≡ true) → CanFollow settings (facts_in log) h → next ≡ step state h
+    → state.line_up ≡ true → (line_after true h ≡ true) → CanFollow settings (facts_in settings.rules log) h → next ≡ step state h
     → Stands settings (log ++ unless_up state.line_up) state → Stands settings ((log ++ h ∷ []) ++ unless_up next.line_up) next
 stays_up settings log state next h up stays can is t =
     let now : Stands settings log state = up_stands settings log state up t in

@@ -33,9 +33,9 @@ use Rattle.zvt_kept.proofs.Steps.{heard_follows, order_follows}
 
 -- ---- logs
 
-last_follows : (settings : Settings) (past log : List Happening) (h : Happening) → IsLogFrom settings past (log ++ h ∷ []) → CanFollow settings (facts_in (past ++ log)) h
-last_follows settings past [] h k = subst (λ l. CanFollow settings (facts_in l) h) (sym (append-nil past)) k.0
-last_follows settings past (g ∷ log) h k = subst (λ l. CanFollow settings (facts_in l) h) (append_assoc past (g ∷ []) log) (last_follows settings (past ++ g ∷ []) log h k.1)
+last_follows : (settings : Settings) (past log : List Happening) (h : Happening) → IsLogFrom settings past (log ++ h ∷ []) → CanFollow settings (facts_in settings.rules (past ++ log)) h
+last_follows settings past [] h k = subst (λ l. CanFollow settings (facts_in settings.rules l) h) (sym (append-nil past)) k.0
+last_follows settings past (g ∷ log) h k = subst (λ l. CanFollow settings (facts_in settings.rules l) h) (append_assoc past (g ∷ []) log) (last_follows settings (past ++ g ∷ []) log h k.1)
 
 pub prefix_from : (settings : Settings) (past log more : List Happening) → IsLogFrom settings past (log ++ more) → IsLogFrom settings past log
 prefix_from settings past [] more k = tt
@@ -57,8 +57,8 @@ some_is_none why (Some other) is none = absurd cc
 pub order_refused : (order : Order) (note : List ℕ) (old new : TillState) (why : OrderRefusal) → refusal (facts_of old) order ≡ Some why → Relives false (ordered order note) old new
 order_refused order note old new why is settings log happened t happens k =
     let sent : IsLog settings (log ++ SentOut (sent_as settings.currency order) ∷ []) = subst (λ l. IsLog settings (log ++ l)) happens k in
-    let none : refusal (facts_in log) order ≡ None = not_refused settings (facts_in log) order (last_follows settings [] log (SentOut (sent_as settings.currency order)) sent) in
-    some_is_none why (refusal (facts_in log) order) (ap (λ f. refusal f order) (sym (ap facts_of t.1 ∙ steps_meet_log settings log t.0)) ∙ is) none
+    let none : refusal (facts_in settings.rules log) order ≡ None = not_refused settings (facts_in settings.rules log) order (last_follows settings [] log (SentOut (sent_as settings.currency order)) sent) in
+    some_is_none why (refusal (facts_in settings.rules log) order) (ap (λ f. refusal f order) (sym (ap facts_of t.1 ∙ steps_meet_log settings log t.0)) ∙ is) none
 
 pub order_taken : (order : Order) (note : List ℕ) (old new : TillState) → refusal (facts_of old) order ≡ None → new ≡ accept old order → Relives true (ordered order note) old new
 order_taken order note old new none is settings log t up =
@@ -83,7 +83,7 @@ either_line false x y up p q = q
 running_line : (s : TillState) (running : Option Running) (h : Happening) → s.running ≡ running → (meet s h).line_up ≡ s.line_up
 running_line s None h none = rw none refl
 running_line s (Some r) h is =
-    rw is (either_line (ends r.positive h) (finish s r.order (outcome_by s.book r.order r.statuses h)) (record s { running = Some (listened (demand_of s.settings.rules (Some s.settings.currency) s.book r.order) r h) }) s.line_up refl refl)
+    rw is (either_line (ends r.positive h) (finish s r.order (outcome_by s.book r.order r.statuses h)) (record s { running = Some (listened (demand_of s.settings.rules (Some s.settings.currency) s.book s.unclear r.order) r h) }) s.line_up refl refl)
 
 if_up : (up : Bool) (x y : TillState) → up ≡ true → cond up x y ≡ x
 if_up true x y is = refl

@@ -104,7 +104,7 @@ grew_by_end s r outcome is = record {
 grew_by_meeting : (s : TillState) (h : Happening) → Grew s (meet s h)
 grew_by_meeting s h = by_running s.running refl
   where
-    by_ends : (r : Running) → s.running ≡ Some r → (b : Bool) → Grew s (cond b (finish s r.order (outcome_by s.book r.order r.statuses h)) (record s { running = Some (listened (demand_of s.settings.rules (Some s.settings.currency) s.book r.order) r h) }))
+    by_ends : (r : Running) → s.running ≡ Some r → (b : Bool) → Grew s (cond b (finish s r.order (outcome_by s.book r.order r.statuses h)) (record s { running = Some (listened (demand_of s.settings.rules (Some s.settings.currency) s.book s.unclear r.order) r h) }))
     by_ends r is true = grew_by_end s r (outcome_by s.book r.order r.statuses h) is
     by_ends r is false = record { in_book = inl refl; in_doubt = inl refl; runs = λ p. subst PayRuns (sym is) p }
 

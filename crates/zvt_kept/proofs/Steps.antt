@@ -28,18 +28,18 @@ pub taken_up : (s : TillState) (o : Order) → refusal (facts_of s) o ≡ None �
 taken_up s o e = offline s.line_up _ _ e
 
 pub order_follows : (order : Order) (state : TillState) → refusal (facts_of state) order ≡ None
-    → (settings : Settings) (log : List Happening) → Stands settings log state → CanFollow settings (facts_in log) (SentOut (sent_as settings.currency order))
+    → (settings : Settings) (log : List Happening) → Stands settings log state → CanFollow settings (facts_in settings.rules log) (SentOut (sent_as settings.currency order))
 order_follows order state taken settings log t =
-    follows-order settings (facts_in log) order (ap (λ f. refusal f order) (sym (ap facts_of t.1 ∙ steps_meet_log settings log t.0)) ∙ taken)
+    follows-order settings (facts_in settings.rules log) order (ap (λ f. refusal f order) (sym (ap facts_of t.1 ∙ steps_meet_log settings log t.0)) ∙ taken)
 
-pub heard_follows : (state : TillState) → state.line_up ≡ true → (settings : Settings) (log : List Happening) → Stands settings log state → (facts_in log).line_up ≡ true
+pub heard_follows : (state : TillState) → state.line_up ≡ true → (settings : Settings) (log : List Happening) → Stands settings log state → (facts_in settings.rules log).line_up ≡ true
 heard_follows state up settings log t = sym (line_is settings log state t) ∙ up
 
 module _ {D : Type 0} (seen : D → List ℕ) (may_leave : D → List ℕ → Type 0) (moment : D → ℕ) (left_since : D → ℕ → List ℕ → Type 0) (faults : D → ℕ) where
   -- what happens on a line that is up and doesn't end it
   pub logs_one : (old new : Standing D) (one : Kept) (added : List ℕ) (h : Settings → Happening) → old.till.state.line_up ≡ true
       → ((settings : Settings) → line_after true (h settings) ≡ true)
-      → ((settings : Settings) (log : List Happening) → Stands settings log old.till.state → CanFollow settings (facts_in log) (h settings))
+      → ((settings : Settings) (log : List Happening) → Stands settings log old.till.state → CanFollow settings (facts_in settings.rules log) (h settings))
       → ((settings : Settings) → new.till.state ≡ step old.till.state (h settings))
       → IsRecordOf one added → ((settings : Settings) → Happens settings.currency one (h settings ∷ []))
       → recovered (seen new.device) ≡ recovered (seen old.device) ++ added → IsSettled (seen new.device) (may_leave new.device) new.gate

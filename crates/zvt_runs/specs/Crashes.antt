@@ -14,7 +14,7 @@ use Rattle.zvt_term.specs.declared.world.Move.{Move}
 use Rattle.zvt_term.specs.declared.world.Move.TheVariants.{Connect, Order as Ordered, ToTerminal, ToTill, TillLost, TerminalLost}
 use Rattle.zvt_term.specs.Orderly.{IsAccounted, are_orderly_with}
 use Rattle.zvt_term.specs.Returned.{KeepsReversals}
-use Rattle.zvt_term.specs.World.{Ends, FitMoves, HasCurrency, Matches, ends_with, move, world_with}
+use Rattle.zvt_term.specs.World.{Ends, FitMoves, FitSettings, Matches, ends_with, move, world_with}
 use Rattle.zvt_journal.specs.Text.{recovered}
 use Rattle.zvt_kept.specs.Logs.{StandsFor}
 use Rattle.zvt_kept.specs.Recovery.{Recovers}
@@ -94,14 +94,14 @@ FilesAreWorlds =
 -- the terminal's ledger.
 abbrev pub CrashesMatch : Type 0
 CrashesMatch =
-    (settings : Settings) (all : List KeptMove) → HasCurrency settings → FitMoves (without_crashes all)
+    (settings : Settings) (all : List KeptMove) → FitSettings settings → FitMoves (without_crashes all)
     → Matches (kept_world settings all).ends.till (kept_world settings all).ends.terminal.ledger
 
 -- With crashes too, over lines that keep the order of messages, each approval of an amount is booked, unclear or still
 -- awaited.
 abbrev pub CrashesAccount : Type 0
 CrashesAccount =
-    (settings : Settings) (all : List KeptMove) → HasCurrency settings → FitMoves (without_crashes all)
+    (settings : Settings) (all : List KeptMove) → FitSettings settings → FitMoves (without_crashes all)
     → IsTrue (are_orderly_with settings (without_crashes all))
     → IsAccounted (kept_world settings all).ends.till (kept_world settings all).ends.terminal.ledger
 
@@ -109,6 +109,6 @@ CrashesAccount =
 -- reversed.
 abbrev pub CrashesKeepReversals : Type 0
 CrashesKeepReversals =
-    (settings : Settings) (all : List KeptMove) → HasCurrency settings → FitMoves (without_crashes all)
+    (settings : Settings) (all : List KeptMove) → FitSettings settings → FitMoves (without_crashes all)
     → IsTrue (are_orderly_with settings (without_crashes all))
     → KeepsReversals (kept_world settings all).ends.till (kept_world settings all).ends.terminal.ledger

@@ -14,9 +14,9 @@ pub fn calls_are_moves<D: Device>()
 /// Whatever the till's settings are, a crash and the recovery from its journal have the same effect on both ends as a
 /// lost connection. Recovery restores exactly the till that a lost connection would leave.
 ///
-/// Therefore everything that holds for both ends also holds with crashes: each entry of the till's book corresponds to
-/// an approval of its own in the terminal's ledger. Over lines that keep the order of messages, no approval and no
-/// reversed payment is dropped.
+/// Therefore everything that holds for both ends also holds with crashes. If the till's reversals must be named, each
+/// entry of its book corresponds to an approval of its own in the terminal's ledger. Over lines that keep the order of
+/// messages, no approval and no reversed payment is dropped.
 pub fn crashes_are_losses()
     ensures same { CrashesAreLosses }
     ensures files { FilesAreWorlds }

@@ -25,7 +25,7 @@ use Rattle.zvt_till.specs.Hearing.{heard_as}
 use Rattle.zvt_term.specs.Asking.{asked_as}
 use Rattle.zvt_term.specs.Orderly.{Line, no_line, is_orderly, line_after, are_orderly_from, are_orderly, are_orderly_with, IsAccounted, OrderlyWorldsAccount}
 use Rattle.zvt_term.specs.Terminal.{TerminalState, turn_of, reports_of}
-use Rattle.zvt_term.specs.World.{Ends, ends_with, move as ends_move, world, world_with, FitMove, FitMoves, HasCurrency}
+use Rattle.zvt_term.specs.World.{Ends, ends_with, move as ends_move, world, world_with, FitMove, FitMoves, FitSettings}
 use Rattle.zvt_term.proofs.Facts.{Facts, heard_of, asked_out, answer_to, orders, reaches_terminal, reaches_till, move}
 use Rattle.zvt_term.proofs.Accounts.{orders_in, is_order, is_word, words, Accounts, Covered, Dialogue}
 use Rattle.zvt_term.proofs.Talking.{Talks, Down, till-hears, line_up-heard, till-loses, dialogue-prefix, till-accepts, line_up-accepted}
@@ -284,7 +284,7 @@ MovesKeep P =
     → P (move w x) (line_after (length w.from_till) (length w.from_terminal) l x)
 
 -- given: the settings of the till
-module _ (given : Settings) (few : HasCurrency given) where
+module _ (given : Settings) (few : FitSettings given) where
   -- a move of messages is the move of what they mean
   means-keeps : (P : Facts → Line → Type 0) → MovesKeep P → (w : Ends) (l : Line) (x : Move) → FitMove x → (Fit given few) w → is_orderly (length w.from_till) (length w.from_terminal) l x ≡ true → P (meaning w) l
       → P (meaning (ends_move w x)) (line_after (length w.from_till) (length w.from_terminal) l x)
@@ -332,4 +332,4 @@ pub accounted : (moves : List Move) (i : ℕ) (w : Ends) → length moves ≤ i 
 accounted moves i w le is f e =
     let all : take i moves ≡ moves = take_all i moves le in
     let orderly : IsTrue (are_orderly (take i moves)) = subst (λ (xs : List Move). IsTrue (are_orderly xs)) (sym all) e in
-    subst (λ (v : Ends). IsAccounted v.till v.terminal.ledger) (sym is) (orderly_worlds_account run_settings (take i moves) (omega arith) f orderly)
+    subst (λ (v : Ends). IsAccounted v.till v.terminal.ledger) (sym is) (orderly_worlds_account run_settings (take i moves) (omega arith, refl) f orderly)

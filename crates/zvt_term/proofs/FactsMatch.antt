@@ -232,7 +232,7 @@ module _ (given : Settings) where
 
   pub move-holds : (w : Facts) (x : Move) → Holds w → Holds (move w x)
   move-holds w Connect i =
-      record { heard = i.heard; sound = i.sound; till = record { running = i.till.running; book = i.till.book }; settings = i.settings; named = i.named; kept = i.kept }
+      record { heard = i.heard; sound = i.sound; till = record { running = i.till.running; book = i.till.book; named = i.till.named }; settings = i.settings; named = i.named; kept = i.kept }
   move-holds w (Ordered o) i = orders-hold w o (refusal (facts_of w.till) o) i
   move-holds w (ToTerminal k v) i = reaches_terminal-holds w k v (slice_get w.from_till k) refl i
   move-holds w (ToTill k) i = reaches_till-holds w k (slice_get w.from_terminal k) refl i

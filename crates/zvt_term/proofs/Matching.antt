@@ -1,5 +1,5 @@
 -- Whatever comes, comes again, comes late or never: the till's entries are approvals of the terminal's ledger.
-use Rattle.std.proofs.Common.{◌≡◌, ℕ, zero, suc, Bool, true, false, cond, List, [], ◌∷◌, ◌++◌, length, Option, Some, None, refl, subst, slice_get, slice_set, option_map}
+use Rattle.std.proofs.Common.{◌≡◌, ℕ, zero, suc, Bool, true, false, cond, List, [], ◌∷◌, ◌++◌, length, Option, Some, None, refl, sym, subst, slice_get, slice_set, option_map}
 use Rattle.zvt_apdu.specs.Briefs.{digits}
 use Rattle.zvt_till.specs.declared.happenings.Happening.{Happening}
 use Rattle.zvt_till.specs.declared.happenings.Happening.TheVariants.{Connected, Sent as SentOut, Heard as HeardIn, Malformed, Lost}
@@ -20,6 +20,7 @@ use Rattle.zvt_till.specs.declared.outcomes.Outcome.TheVariants.{Registered, Pai
 use Rattle.zvt_till.specs.declared.statuses.Demand.TheVariants.{Payment, Reversal as ReversalDemand}
 use Rattle.zvt_till.specs.declared.statuses.Class.{Class}
 use Rattle.zvt_till.specs.declared.statuses.Class.TheVariants.{Good, Declining, Doubtful}
+use Rattle.zvt_till.specs.ByReceipt.{sole_receipt}
 use Rattle.zvt_till.specs.Statuses.{class_of, same_trace}
 use Rattle.zvt_till.specs.Segments.{ends, status_of}
 use Rattle.zvt_till.specs.declared.settings.Rules.{Rules}
@@ -52,7 +53,7 @@ module _ (home : ℕ) where
   -- what a status may claim, where it came from the terminal of this ledger, whatever currency is in force
   pub record ToldStatus (l : List Row) (f : StatusFacts) : Type 0 where
     pub pays : (force : Option ℕ) (a t : ℕ) → class_of (Payment (charged force a)) f ≡ Good (Some t) → IsApproved l home a t × f.receipt ≡ Some (digits 2 t)
-    pub takes : (force : Option ℕ) (a t : ℕ) (u : Option ℕ) → class_of (ReversalDemand (charged force a) t) f ≡ Good u → IsTakenBack l t
+    pub takes : (force : Option ℕ) (a t : ℕ) (u : Option ℕ) → class_of (ReversalDemand (charged force a) t None) f ≡ Good u → IsTakenBack l t
 
   abbrev pub Told : List Row → Heard → Type 0
   Told l Positive = Unit {0}
@@ -144,7 +145,7 @@ module _ (home : ℕ) where
   pays-note l force a f t (Fault x) (Declining k) e h = tt
   pays-note l force a f t (Fault x) (Doubtful y) e h = tt
 
-  takes-note : (l : List Row) (force : Option ℕ) (row : Entry) (f : StatusFacts) → ToldStatus l f → (st : Statuses) (c : Class) → class_of (ReversalDemand (charged force row.amount) row.trace) f ≡ c
+  takes-note : (l : List Row) (force : Option ℕ) (row : Entry) (f : StatusFacts) → ToldStatus l f → (st : Statuses) (c : Class) → class_of (ReversalDemand (charged force row.amount) row.trace None) f ≡ c
       → TakesFor l (Some row) st → TakesFor l (Some row) (note_class st c f.receipt)
   takes-note l force row f t Nothing (Good n) e h = λ other q. let same : row ≡ other = cc in subst (λ (x : Entry). IsTakenBack l x.trace) same (t.takes force row.amount row.trace n e)
   takes-note l force row f t Nothing (Declining k) e h = tt
@@ -164,16 +165,19 @@ module _ (home : ℕ) where
   takes-note l force row f t (Fault x) (Doubtful y) e h = tt
 
   takes-option : (l : List Row) (force : Option ℕ) (o : Option Entry) (f : StatusFacts) → ToldStatus l f → (st : Statuses)
-      → TakesFor l o st → TakesFor l o (note (option_map (λ row. ReversalDemand (charged force row.amount) row.trace) o) st f)
+      → TakesFor l o st → TakesFor l o (note (option_map (λ row. ReversalDemand (charged force row.amount) row.trace None) o) st f)
   takes-option l force None f t st h = h
-  takes-option l force (Some row) f t st h = takes-note l force row f t st (class_of (ReversalDemand (charged force row.amount) row.trace) f) refl h
+  takes-option l force (Some row) f t st h = takes-note l force row f t st (class_of (ReversalDemand (charged force row.amount) row.trace None) f) refl h
 
-  summary-note : (rules : Rules) (l : List Row) (force : Option ℕ) (book : List Entry) (o : Order) (st : Statuses) (f : StatusFacts) → ToldStatus l f → SummaryHolds l book o st → SummaryHolds l book o (note (demand_of rules force book o) st f)
-  summary-note rules l force book RegisterOrder st f t h = tt
-  summary-note rules l force book (PayOrder a) st f t h = pays-note l force a f t st (class_of (Payment (charged force a)) f) refl h
-  summary-note rules l force book (ReverseOrder e) st f t h = takes-option l force (slice_get book e) f t st h
-  summary-note rules l force book CloseDayOrder st f t h = tt
-  summary-note rules l force book CancelOrder st f t h = tt
+  summary-note : (rules : Rules) → rules.reversal_by_receipt ≡ false → (l : List Row) (force : Option ℕ) (book : List Entry) (u : List (ℕ × Cause)) (o : Order) (st : Statuses) (f : StatusFacts)
+      → ToldStatus l f → SummaryHolds l book o st → SummaryHolds l book o (note (demand_of rules force book u o) st f)
+  summary-note rules named l force book u RegisterOrder st f t h = tt
+  summary-note rules named l force book u (PayOrder a) st f t h = pays-note l force a f t st (class_of (Payment (charged force a)) f) refl h
+  summary-note rules named l force book u (ReverseOrder e) st f t h =
+      subst (λ by_receipt. SummaryHolds l book (ReverseOrder e) (note (option_map (λ row. ReversalDemand (charged force row.amount) row.trace (sole_receipt by_receipt book u row)) (slice_get book e)) st f))
+      (sym named) (takes-option l force (slice_get book e) f t st h)
+  summary-note rules named l force book u CloseDayOrder st f t h = tt
+  summary-note rules named l force book u CancelOrder st f t h = tt
 
   summary-more : (l more : List Row) (book : List Entry) (o : Order) (st : Statuses) → SummaryHolds l book o st → SummaryHolds (l ++ more) book o st
   summary-more l more book RegisterOrder st h = tt
@@ -295,40 +299,41 @@ module _ (home : ℕ) where
   pub record TillHolds (l : List Row) (s : TillState) : Type 0 where
     pub running : RunningHolds l s.book s.running
     pub book : AllMatch home l s.book
+    pub named : s.settings.rules.reversal_by_receipt ≡ false
 
   running-more : (l more : List Row) (book : List Entry) (run : Option Running) → RunningHolds l book run → RunningHolds (l ++ more) book run
   running-more l more book None h = tt
   running-more l more book (Some r) h = summary-more l more book r.order r.statuses h
 
   pub till-more : (l more : List Row) (s : TillState) → TillHolds l s → TillHolds (l ++ more) s
-  till-more l more s t = record { running = running-more l more s.book s.running t.running; book = all_match-more l more s.book t.book }
+  till-more l more s t = record { running = running-more l more s.book s.running t.running; book = all_match-more l more s.book t.book; named = t.named }
 
-  noted : (rules : Rules) (l : List Row) (force : Option ℕ) (book : List Entry) (o : Order) (st : Statuses) (f : Option StatusFacts) → ((x : StatusFacts) → f ≡ Some x → ToldStatus l x) → SummaryHolds l book o st
-      → SummaryHolds l book o (note_if (demand_of rules force book o) st f)
-  noted rules l force book o st None t s = s
-  noted rules l force book o st (Some f) t s = summary-note rules l force book o st f (t f refl) s
+  noted : (rules : Rules) → rules.reversal_by_receipt ≡ false → (l : List Row) (force : Option ℕ) (book : List Entry) (u : List (ℕ × Cause)) (o : Order) (st : Statuses) (f : Option StatusFacts) → ((x : StatusFacts) → f ≡ Some x → ToldStatus l x) → SummaryHolds l book o st
+      → SummaryHolds l book o (note_if (demand_of rules force book u o) st f)
+  noted rules named l force book u o st None t s = s
+  noted rules named l force book u o st (Some f) t s = summary-note rules named l force book u o st f (t f refl) s
 
   abbrev HappeningTold : List Row → Happening → Type 0
   HappeningTold l h = (x : StatusFacts) → status_of h ≡ Some x → ToldStatus l x
 
-  meet-running-holds : (l : List Row) (s : TillState) (r : Running) (h : Happening) → HappeningTold l h → SummaryHolds l s.book r.order r.statuses → AllMatch home l s.book → (b : Bool)
-      → TillHolds l (cond b (finish s r.order (outcome_by s.book r.order r.statuses h)) (record s { running = Some (listened (demand_of s.settings.rules (Some s.settings.currency) s.book r.order) r h) }))
-  meet-running-holds l s r h t k m true = record { running = tt; book = ended-book l s.book r.order r.statuses h m k }
-  meet-running-holds l s r h t k m false = record { running = noted s.settings.rules l (Some s.settings.currency) s.book r.order r.statuses (status_of h) t k; book = m }
+  meet-running-holds : (l : List Row) (s : TillState) (r : Running) (h : Happening) → s.settings.rules.reversal_by_receipt ≡ false → HappeningTold l h → SummaryHolds l s.book r.order r.statuses → AllMatch home l s.book → (b : Bool)
+      → TillHolds l (cond b (finish s r.order (outcome_by s.book r.order r.statuses h)) (record s { running = Some (listened (demand_of s.settings.rules (Some s.settings.currency) s.book s.unclear r.order) r h) }))
+  meet-running-holds l s r h named t k m true = record { running = tt; book = ended-book l s.book r.order r.statuses h m k; named = named }
+  meet-running-holds l s r h named t k m false = record { running = noted s.settings.rules named l (Some s.settings.currency) s.book s.unclear r.order r.statuses (status_of h) t k; book = m; named = named }
 
   meet-by-holds : (l : List Row) (h : Happening) (k : Settings) (up g : Bool) (run : Option Running) (es : List Entry) (u : List (ℕ × Cause)) (last : Option Outcome)
-      → HappeningTold l h → RunningHolds l es run → AllMatch home l es → TillHolds l (meet (state k up g run es u last) h)
-  meet-by-holds l h k up g None es u last t i m = record { running = tt; book = m }
-  meet-by-holds l h k up g (Some r) es u last t i m = meet-running-holds l (state k up g (Some r) es u last) r h t i m (ends r.positive h)
+      → k.rules.reversal_by_receipt ≡ false → HappeningTold l h → RunningHolds l es run → AllMatch home l es → TillHolds l (meet (state k up g run es u last) h)
+  meet-by-holds l h k up g None es u last named t i m = record { running = tt; book = m; named = named }
+  meet-by-holds l h k up g (Some r) es u last named t i m = meet-running-holds l (state k up g (Some r) es u last) r h named t i m (ends r.positive h)
 
   meet-holds : (l : List Row) (s : TillState) (h : Happening) → HappeningTold l h → TillHolds l s → TillHolds l (meet s h)
-  meet-holds l s h t i = meet-by-holds l h s.settings s.line_up s.registered s.running s.book s.unclear s.last_outcome t i.running i.book
+  meet-holds l s h t i = meet-by-holds l h s.settings s.line_up s.registered s.running s.book s.unclear s.last_outcome i.named t i.running i.book
 
   pub accept-holds : (l : List Row) (s : TillState) (o : Order) → TillHolds l s → TillHolds l (accept s o)
-  accept-holds l s RegisterOrder i = record { running = tt; book = i.book }
-  accept-holds l s (PayOrder a) i = record { running = tt; book = i.book }
-  accept-holds l s (ReverseOrder e) i = record { running = tt; book = i.book }
-  accept-holds l s CloseDayOrder i = record { running = tt; book = i.book }
+  accept-holds l s RegisterOrder i = record { running = tt; book = i.book; named = i.named }
+  accept-holds l s (PayOrder a) i = record { running = tt; book = i.book; named = i.named }
+  accept-holds l s (ReverseOrder e) i = record { running = tt; book = i.book; named = i.named }
+  accept-holds l s CloseDayOrder i = record { running = tt; book = i.book; named = i.named }
   accept-holds l s CancelOrder i = i
 
   told-happening : (l : List Row) (m : Heard) → Told l m → HappeningTold l (HeardIn m)
@@ -348,4 +353,4 @@ module _ (home : ℕ) where
       by_line false = i
 
   pub lost-holds : (l : List Row) (s : TillState) → TillHolds l s → TillHolds l (step s Lost)
-  lost-holds l s i = let k = meet-holds l s Lost (λ x e. absurd cc) i in record { running = k.running; book = k.book }
+  lost-holds l s i = let k = meet-holds l s Lost (λ x e. absurd cc) i in record { running = k.running; book = k.book; named = k.named }

@@ -20,7 +20,7 @@ use Rattle.zvt_term.specs.declared.world.Move.TheVariants.{Connect, Order as Ord
 use Rattle.zvt_term.specs.Orderly.{Line, no_line, is_orderly, line_after, are_orderly}
 use Rattle.zvt_term.specs.Returned.{Reverses, KeepsReversals, OrderlyWorldsKeepReversals}
 use Rattle.zvt_term.specs.Terminal.{turn_of, reports_of}
-use Rattle.zvt_term.specs.World.{Ends, ends_with, world, world_with, FitMoves, HasCurrency, AllMatch}
+use Rattle.zvt_term.specs.World.{Ends, ends_with, world, world_with, FitMoves, FitSettings, AllMatch}
 use Rattle.zvt_term.proofs.TurnLemmas.{short-of}
 use Rattle.zvt_term.proofs.Facts.{Facts, heard_of, asked_out, answer_to, orders, reaches_terminal, reaches_till, move}
 use Rattle.zvt_term.proofs.FactsMatch.{Holds, move-holds as move-matches}
@@ -48,7 +48,7 @@ connects w l e i k =
     (subst (λ x. Returns ledger [] s x) (sym no_rest) now)
 
 -- given: the settings of the till
-module _ (given : Settings) (few : HasCurrency given) where
+module _ (given : Settings) (few : FitSettings given) where
   ordered : (b : Bool) (l : List Row) (asked : List Asked) (s : TillState) (o : Order) (rest : List Heard) → refusal (facts_of s) o ≡ None → AllMatch given.currency l s.book → Standing b l asked s rest → Returns l asked s rest
       → Returns l (asked ++ orders_in (asked_out (message_of s.settings s.book o))) (accept s o) rest
   ordered true l asked s o rest e m k r = absurd (offline (facts_of s) o k.line e)
@@ -142,4 +142,4 @@ pub keeps_reversals : (moves : List Move) (i : ℕ) (w : Ends) → length moves 
 keeps_reversals moves i w le is f e =
     let all : take i moves ≡ moves = take_all i moves le in
     let orderly : IsTrue (are_orderly (take i moves)) = subst (λ (xs : List Move). IsTrue (are_orderly xs)) (sym all) e in
-    subst (λ (v : Ends). KeepsReversals v.till v.terminal.ledger) (sym is) (orderly_worlds_keep_reversals run_settings (take i moves) (omega arith) f orderly)
+    subst (λ (v : Ends). KeepsReversals v.till v.terminal.ledger) (sym is) (orderly_worlds_keep_reversals run_settings (take i moves) (omega arith, refl) f orderly)

@@ -23,6 +23,7 @@ use Rattle.zvt_till.specs.declared.outcomes.Outcome.TheVariants.{Registered, Pai
 use Rattle.zvt_till.specs.Books.{Booked}
 use Rattle.zvt_till.specs.Doubts.{already_reversed}
 use Rattle.zvt_till.specs.declared.settings.Rules.{Rules}
+use Rattle.zvt_till.specs.ByReceipt.{sole_receipt}
 use Rattle.zvt_till.specs.Outcomes.{charged, demand_of, note, reversal_outcome, broken_outcome, outcome_by, listened}
 use Rattle.zvt_till.specs.Refusals.{session_refusal}
 use Rattle.zvt_till.specs.Sending.{Settings, message_of, receipt_at, outgoing}
@@ -214,11 +215,11 @@ ended-returns l asked s r h rest more none tells k =
     }
 
 listens : (l : List Row) (asked : List Asked) (s : TillState) (r : Running) (h : Happening) (rest more : List Heard) → asked ≡ []
-    → let next : Running = listened (demand_of s.settings.rules (Some s.settings.currency) s.book r.order) r h in
+    → let next : Running = listened (demand_of s.settings.rules (Some s.settings.currency) s.book s.unclear r.order) r h in
     ((place : ℕ) (entry : Entry) → slice_get s.book place ≡ Some entry → r.order ≡ ReverseOrder place → WillTell r.statuses rest → WillTell next.statuses more)
     → AllKnown l asked s.book (Some r) rest → Returns l asked (record s { running = Some next }) more
 listens l asked s r h rest more none tells k =
-    let next : Running = listened (demand_of s.settings.rules (Some s.settings.currency) s.book r.order) r h in
+    let next : Running = listened (demand_of s.settings.rules (Some s.settings.currency) s.book s.unclear r.order) r h in
     let P : ℕ → Type 0 = λ place. Awaits place asked (Some r) rest in
     let Q : ℕ → Type 0 = λ place. Awaits place asked (Some next) more in
     record {
@@ -227,16 +228,16 @@ listens l asked s r h rest more none tells k =
     }
 
 -- a status of a reversal is measured against the entry
-status-tells : (rules : Rules) (own : ℕ) (book : List Entry) (r : Running) (f : StatusFacts) (more : List Heard) (place : ℕ) (entry : Entry) → slice_get book place ≡ Some entry → r.order ≡ ReverseOrder place
-    → WillTell r.statuses (Status f ∷ more) → WillTell (note (demand_of rules (Some own) book r.order) r.statuses f) more
-status-tells rules own book r f more place entry e p w =
-    let d : Demand = ReversalDemand (charged (Some own) entry.amount) entry.trace in
-    let same : demand_of rules (Some own) book r.order ≡ Some d =
-    ap (demand_of rules (Some own) book) p ∙ ap (option_map (λ (row : Entry). ReversalDemand (charged (Some own) row.amount) row.trace)) e in
+status-tells : (rules : Rules) (own : ℕ) (book : List Entry) (u : List (ℕ × Cause)) (r : Running) (f : StatusFacts) (more : List Heard) (place : ℕ) (entry : Entry) → slice_get book place ≡ Some entry → r.order ≡ ReverseOrder place
+    → WillTell r.statuses (Status f ∷ more) → WillTell (note (demand_of rules (Some own) book u r.order) r.statuses f) more
+status-tells rules own book u r f more place entry e p w =
+    let d : Demand = ReversalDemand (charged (Some own) entry.amount) entry.trace (sole_receipt rules.reversal_by_receipt book u entry) in
+    let same : demand_of rules (Some own) book u r.order ≡ Some d =
+    ap (demand_of rules (Some own) book u) p ∙ ap (option_map (λ (row : Entry). ReversalDemand (charged (Some own) row.amount) row.trace (sole_receipt rules.reversal_by_receipt book u row))) e in
     subst (λ x. WillTell (note x r.statuses f) more) (sym same) (w d)
 
 negative-hears : (l : List Row) (asked : List Asked) (s : TillState) (r : Running) (c : ℕ) (rest : List Heard) → asked ≡ [] → AllKnown l asked s.book (Some r) (Negative c ∷ rest)
-    → (b : Bool) → Returns l asked (cond (not b) (finish s r.order (outcome_by s.book r.order r.statuses (HeardIn (Negative c)))) (record s { running = Some (listened (demand_of s.settings.rules (Some s.settings.currency) s.book r.order) r (HeardIn (Negative c))) })) rest
+    → (b : Bool) → Returns l asked (cond (not b) (finish s r.order (outcome_by s.book r.order r.statuses (HeardIn (Negative c)))) (record s { running = Some (listened (demand_of s.settings.rules (Some s.settings.currency) s.book s.unclear r.order) r (HeardIn (Negative c))) })) rest
 negative-hears l asked s r c rest none k true = listens l asked s r (HeardIn (Negative c)) (Negative c ∷ rest) rest none (λ place entry e p w. w.1) k
 negative-hears l asked s r c rest none k false =
     ended-returns l asked s r (HeardIn (Negative c)) (Negative c ∷ rest) rest none (λ place w. claimed-break r.statuses (RefusedOutcome c) w.0) k
@@ -246,7 +247,7 @@ taken_up-hears : (l : List Row) (asked : List Asked) (s : TillState) (r : Runnin
 taken_up-hears l asked s r Positive q coming none k = listens l asked s r (HeardIn Positive) (words q ++ coming) (words q ++ coming) none (λ place entry e p w. w) k
 taken_up-hears l asked s r (Negative c) q coming none k = negative-hears l asked s r c (words q ++ coming) none k r.positive
 taken_up-hears l asked s r (Status f) q coming none k =
-    listens l asked s r (HeardIn (Status f)) (Status f ∷ (words q ++ coming)) (words q ++ coming) none (status-tells s.settings.rules s.settings.currency s.book r f (words q ++ coming)) k
+    listens l asked s r (HeardIn (Status f)) (Status f ∷ (words q ++ coming)) (words q ++ coming) none (status-tells s.settings.rules s.settings.currency s.book s.unclear r f (words q ++ coming)) k
 taken_up-hears l asked s r Passing q coming none k = listens l asked s r (HeardIn Passing) (Passing ∷ (words q ++ coming)) (words q ++ coming) none (λ place entry e p w. w) k
 taken_up-hears l asked s r Completion q coming none k =
     ended-returns l asked s r (HeardIn Completion) (Completion ∷ (words q ++ coming)) (words q ++ coming) none (λ place w. claimed-completion r.statuses w.0) k
@@ -258,7 +259,7 @@ taken_up-hears l asked s r Strange q coming none k = listens l asked s r (HeardI
 asking-hears : (l : List Row) (asked : List Asked) (s : TillState) (r : Running) (m : Heard) (q coming : List Heard) → words (m ∷ q) ++ coming ≡ []
     → AllAsk s.book (Some r) asked → AllKnown l asked s.book (Some r) (words (m ∷ q) ++ coming) → Returns l asked (meet_running s r (HeardIn m)) (words q ++ coming)
 asking-hears l asked s r Positive q coming e a k =
-    let next : Running = listened (demand_of s.settings.rules (Some s.settings.currency) s.book r.order) r (HeardIn Positive) in
+    let next : Running = listened (demand_of s.settings.rules (Some s.settings.currency) s.book s.unclear r.order) r (HeardIn Positive) in
     let more = words q ++ coming in
     record {
       asks = all_ask-on s.book s.book (Some r) (Some next) (known-same s.book (λ place. Reverses place (Some r)) (λ place. Reverses place (Some next)) (λ place p. p)) asked a;

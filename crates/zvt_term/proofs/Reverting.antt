@@ -11,7 +11,7 @@ use Rattle.zvt_till.specs.declared.statuses.Demand.{Demand}
 use Rattle.zvt_till.specs.declared.statuses.Demand.TheVariants.{Payment, Reversal as ReversalDemand, Closing}
 use Rattle.zvt_till.specs.declared.statuses.Running.{Running}
 use Rattle.zvt_till.specs.declared.outcomes.Cause.TheVariants.{AmountDiffers, NoTrace, WrongCurrency}
-use Rattle.zvt_till.specs.Statuses.{is_in_currency, is_value, names, spells, class_of}
+use Rattle.zvt_till.specs.Statuses.{is_by_receipt, is_in_currency, is_value, names, spells, class_of}
 use Rattle.zvt_till.specs.Till.{TillState}
 use Rattle.zvt_term.specs.declared.messages.Asked.{Asked}
 use Rattle.zvt_term.specs.declared.messages.Asked.TheVariants.{Registration, Authorisation, Reversal, EndOfDay, AbortOrder, Answer, Unknown}
@@ -55,15 +55,16 @@ taken-before l (Some row) n (k, x, e, q) = by_place (last-row l row x k e)
 -- a status of a reversal that was made declines no order
 reversal-undeclined : (d : Demand) (amount n original : ℕ) (c : Option ℕ) → IsDeclining (class_of d (reversal_status amount n original c)) → ⊥
 reversal-undeclined (Payment charge) amount n original c k = k
-reversal-undeclined (ReversalDemand charge trace) amount n original c k =
+reversal-undeclined (ReversalDemand charge trace sole) amount n original c k =
     let f = reversal_status amount n original c in
-    by_tests (is_in_currency charge.currency f.currency) (is_value f.amount charge.amount) (names f.original trace) k
+    by_tests (is_in_currency charge.currency f.currency) (is_value f.amount charge.amount) (names f.original trace) (is_by_receipt sole f.original f.receipt) k
   where
-    by_tests : (own same named : Bool) → IsDeclining (cond own (cond same (cond named (Good None) (Doubtful NoTrace)) (Doubtful AmountDiffers)) (Doubtful WrongCurrency)) → ⊥
-    by_tests true true true k = k
-    by_tests true true false k = k
-    by_tests true false named k = k
-    by_tests false same named k = k
+    by_tests : (own same named other : Bool) → IsDeclining (cond own (cond same (cond named (Good None) (cond other (Good None) (Doubtful NoTrace))) (Doubtful AmountDiffers)) (Doubtful WrongCurrency)) → ⊥
+    by_tests true true true other k = k
+    by_tests true true false true k = k
+    by_tests true true false false k = k
+    by_tests true false named other k = k
+    by_tests false same named other k = k
 reversal-undeclined (Closing by_completion) amount n original c k = k
 
 -- the number of the approval that a turn takes back, by the receipt number that was asked for, and what it says then

@@ -45,12 +45,12 @@ ended-talks l asked s r out rest a k e p =
     record { accounts = with_none l asked book u (order-closed l asked s.book s.unclear r.order out a k); dialogue = (e, p) }
 
 going-on : (l : List Row) (asked : List Asked) (s : TillState) (r : Running) (h : Happening) (rest : List Heard)
-    → Accounts l asked s.book s.unclear (Some r) → Stage l asked s.book s.unclear (listened (demand_of s.settings.rules (Some s.settings.currency) s.book r.order) r h) rest
-    → Talks l asked (record s { running = Some (listened (demand_of s.settings.rules (Some s.settings.currency) s.book r.order) r h) }) rest
+    → Accounts l asked s.book s.unclear (Some r) → Stage l asked s.book s.unclear (listened (demand_of s.settings.rules (Some s.settings.currency) s.book s.unclear r.order) r h) rest
+    → Talks l asked (record s { running = Some (listened (demand_of s.settings.rules (Some s.settings.currency) s.book s.unclear r.order) r h) }) rest
 going-on l asked s r h rest a p = record { accounts = a; dialogue = p }
 
 status-pledges : (rules : Rules) (own : ℕ) (l : List Row) (asked : List Asked) (book : List Entry) (u : List (ℕ × Cause)) (o : Order) (st : Statuses) (f : StatusFacts) (r : List Heard)
-    → Pledges l asked book u o st (Status f ∷ r) → Pledges l asked book u o (note (demand_of rules (Some own) book o) st f) r
+    → Pledges l asked book u o st (Status f ∷ r) → Pledges l asked book u o (note (demand_of rules (Some own) book u o) st f) r
 status-pledges rules own l asked book u (PayOrder a) st f r (inl covered) = inl covered
 status-pledges rules own l asked book u (PayOrder a) st f r (inr keeps) = inr (keeps (Some own))
 status-pledges rules own l asked book u o st f r p = tt
@@ -80,11 +80,11 @@ asking-hears l asked s r m q coming a m0 e f p = absurd cc
 
 negative-hears : (l : List Row) (asked : List Asked) (s : TillState) (r : Running) (c : ℕ) (rest : List Heard)
     → Accounts l asked s.book s.unclear (Some r) → asked ≡ [] → rest ≡ [] → Pledges l asked s.book s.unclear r.order r.statuses (Negative c ∷ rest)
-    → (b : Bool) → Talks l asked (cond (not b) (finish s r.order (outcome_by s.book r.order r.statuses (HeardIn (Negative c)))) (record s { running = Some (listened (demand_of s.settings.rules (Some s.settings.currency) s.book r.order) r (HeardIn (Negative c))) })) rest
+    → (b : Bool) → Talks l asked (cond (not b) (finish s r.order (outcome_by s.book r.order r.statuses (HeardIn (Negative c)))) (record s { running = Some (listened (demand_of s.settings.rules (Some s.settings.currency) s.book s.unclear r.order) r (HeardIn (Negative c))) })) rest
 negative-hears l asked s r c rest a e n k true =
     let k2 = ignored-pledges l asked s.book s.unclear r.order r.statuses c rest k in
-    let p : Stage l asked s.book s.unclear (listened (demand_of s.settings.rules (Some s.settings.currency) s.book r.order) r (HeardIn (Negative c))) [] = TakenUp e tt k2 in
-    going-on l asked s r (HeardIn (Negative c)) rest a (subst (λ x. Stage l asked s.book s.unclear (listened (demand_of s.settings.rules (Some s.settings.currency) s.book r.order) r (HeardIn (Negative c))) x) (sym n) p)
+    let p : Stage l asked s.book s.unclear (listened (demand_of s.settings.rules (Some s.settings.currency) s.book s.unclear r.order) r (HeardIn (Negative c))) [] = TakenUp e tt k2 in
+    going-on l asked s r (HeardIn (Negative c)) rest a (subst (λ x. Stage l asked s.book s.unclear (listened (demand_of s.settings.rules (Some s.settings.currency) s.book s.unclear r.order) r (HeardIn (Negative c))) x) (sym n) p)
 negative-hears l asked s r c rest a e n k false =
     ended-talks l asked s r (outcome_by s.book r.order r.statuses (HeardIn (Negative c))) rest a (negative-closes l asked s.book s.unclear r.order r.statuses c rest k) e n
 
@@ -131,7 +131,7 @@ till-hears l asked s m q coming up t = by_line s.line_up up
 
 -- hearing keeps the line
 line_up-end : (s : TillState) (r : Running) (h : Happening) (b : Bool)
-    → (cond b (finish s r.order (outcome_by s.book r.order r.statuses h)) (record s { running = Some (listened (demand_of s.settings.rules (Some s.settings.currency) s.book r.order) r h) })).line_up ≡ s.line_up
+    → (cond b (finish s r.order (outcome_by s.book r.order r.statuses h)) (record s { running = Some (listened (demand_of s.settings.rules (Some s.settings.currency) s.book s.unclear r.order) r h) })).line_up ≡ s.line_up
 line_up-end s r h true = refl
 line_up-end s r h false = refl
 

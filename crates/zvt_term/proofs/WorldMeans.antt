@@ -27,7 +27,7 @@ use Rattle.zvt_term.specs.Inside.{IsSound}
 use Rattle.zvt_term.specs.Reports.{message_of_report}
 use Rattle.zvt_term.specs.Terminal.{turn_of, state_after as terminal_after, reports_to}
 use Rattle.zvt_till.specs.Events.{run_settings}
-use Rattle.zvt_term.specs.World.{Ends, ends_with, new_ends, sent_out, orders, reaches_terminal, reaches_till, move, world, world_with, FitOrder, FitMove, FitMoves, HasCurrency, AllMatch, Matches, WorldsMatch}
+use Rattle.zvt_term.specs.World.{Ends, ends_with, new_ends, sent_out, orders, reaches_terminal, reaches_till, move, world, world_with, FitOrder, FitMove, FitMoves, FitSettings, AllMatch, Matches, WorldsMatch}
 use Rattle.zvt_term.proofs.Facts as facts
 use Rattle.zvt_term.proofs.Facts.{Facts, heard_of, asked_out}
 use Rattle.zvt_term.proofs.FactsMatch.{Holds, moves-hold}
@@ -38,7 +38,7 @@ abbrev pub meaning : Ends → Facts
 meaning w = record { till = w.till; terminal = w.terminal; from_till = map asked_as w.from_till; from_terminal = map heard_as w.from_terminal }
 
 -- given: the settings of the till
-module _ (given : Settings) (few : HasCurrency given) where
+module _ (given : Settings) (few : FitSettings given) where
   -- the amounts and currencies are such that there are
   pub record Fit (w : Ends) : Type 0 where
     pub sound : IsSound w.terminal
@@ -52,7 +52,7 @@ module _ (given : Settings) (few : HasCurrency given) where
   sent-means ms more asked e = map-append asked_as ms more ∙ ap (λ x. map asked_as ms ++ x) e
 
   few-currencies : (s : Settings) → s ≡ given → s.currency ≤ 9999
-  few-currencies s e = subst HasCurrency (sym e) few
+  few-currencies s e = (subst FitSettings (sym e) few).0
 
   orders-mean : (w : Ends) (o : Order) (why : Option OrderRefusal) → FitOrder o → Fit w → meaning (orders w o why) ≡ facts.orders (meaning w) o why
   orders-mean w o None f k =
@@ -196,7 +196,7 @@ module _ (given : Settings) (few : HasCurrency given) where
   logged-moves w (x ∷ moves) k = logged-moves (move w x) moves (logged-move w x k)
 
   pub first-holds : (Holds given) (meaning (ends_with given))
-  first-holds = record { heard = tt; sound = (omega arith, omega arith, tt); till = record { running = tt; book = tt }; settings = refl; named = tt; kept = λ e. absurd cc }
+  first-holds = record { heard = tt; sound = (omega arith, omega arith, tt); till = record { running = tt; book = tt; named = few.1 }; settings = refl; named = tt; kept = λ e. absurd cc }
 
   matching : (moves : List Move) → FitMoves moves → Matches (world_with given moves).till (world_with given moves).terminal.ledger
   matching moves f =
@@ -232,4 +232,4 @@ fit-more moves i x lt is h k =
 
 -- after the last move
 pub matched : (moves : List Move) (i : ℕ) (w : Ends) → length moves ≤ i → w ≡ world (take i moves) → FitMoves (take i moves) → Matches w.till w.terminal.ledger
-matched moves i w le is h = subst (λ (v : Ends). Matches v.till v.terminal.ledger) (sym is) (worlds_match run_settings (take i moves) (omega arith) h)
+matched moves i w le is h = subst (λ (v : Ends). Matches v.till v.terminal.ledger) (sym is) (worlds_match run_settings (take i moves) (omega arith, refl) h)

@@ -11,7 +11,7 @@ use Rattle.zvt_till.specs.Till.{TillState}
 use Rattle.zvt_term.specs.declared.ledger.Row.{Row}
 use Rattle.zvt_term.specs.declared.world.Move.{Move}
 use Rattle.zvt_term.specs.declared.world.Move.TheVariants.{Connect, Order as Ordered, ToTerminal, ToTill, TillLost, TerminalLost}
-use Rattle.zvt_term.specs.World.{Ends, ends_with, move, world_with, FitMoves, HasCurrency}
+use Rattle.zvt_term.specs.World.{Ends, ends_with, move, world_with, FitMoves, FitSettings}
 
 -- a line: the number of messages delivered each way, and the ends that lost it since the last Connect
 pub record Line : Type 0 where
@@ -85,5 +85,5 @@ IsAccounted s ledger =
 
 abbrev pub OrderlyWorldsAccount : Type 0
 OrderlyWorldsAccount =
-    (settings : Settings) (moves : List Move) → HasCurrency settings → FitMoves moves → IsTrue (are_orderly_with settings moves)
+    (settings : Settings) (moves : List Move) → FitSettings settings → FitMoves moves → IsTrue (are_orderly_with settings moves)
     → IsAccounted (world_with settings moves).till (world_with settings moves).terminal.ledger

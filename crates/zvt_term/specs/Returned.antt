@@ -9,7 +9,7 @@ use Rattle.zvt_till.specs.Sending.{Settings}
 use Rattle.zvt_till.specs.Till.{TillState}
 use Rattle.zvt_term.specs.declared.ledger.Row.{Row}
 use Rattle.zvt_term.specs.declared.world.Move.{Move}
-use Rattle.zvt_term.specs.World.{world_with, FitMoves, HasCurrency, IsTakenBack}
+use Rattle.zvt_term.specs.World.{world_with, FitMoves, FitSettings, IsTakenBack}
 use Rattle.zvt_term.specs.Orderly.{are_orderly_with}
 
 -- the last reversal is unclear, or the terminal reported that it had reversed the payment before
@@ -35,5 +35,5 @@ KeepsReversals s ledger =
 
 abbrev pub OrderlyWorldsKeepReversals : Type 0
 OrderlyWorldsKeepReversals =
-    (settings : Settings) (moves : List Move) → HasCurrency settings → FitMoves moves → IsTrue (are_orderly_with settings moves)
+    (settings : Settings) (moves : List Move) → FitSettings settings → FitMoves moves → IsTrue (are_orderly_with settings moves)
     → KeepsReversals (world_with settings moves).till (world_with settings moves).terminal.ledger

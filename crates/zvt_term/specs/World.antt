@@ -1,6 +1,6 @@
 -- Both ends of a line, with all messages that each ever sent: their states after a list of moves, and the match between
 -- book and ledger.
-use Rattle.std.specs.Prelude.{◌≡◌, ℕ, ◌≤◌, true, cond, nat_eq, List, [], ◌∷◌, ◌++◌, Option, Some, None, fold, map, slice_get, option_to_list}
+use Rattle.std.specs.Prelude.{◌≡◌, ℕ, ◌≤◌, true, false, cond, nat_eq, List, [], ◌∷◌, ◌++◌, Option, Some, None, fold, map, slice_get, option_to_list}
 use Rattle.std.specs.List.{IsDistinct}
 use Rattle.zvt_apdu.specs.Message.{Message}
 use Rattle.zvt_apdu.specs.Briefs.{digits, message_of_brief}
@@ -79,9 +79,9 @@ world_with settings moves = fold move (ends_with settings) moves
 abbrev pub world : List Move → Ends
 world moves = world_with run_settings moves
 
--- the currency has four digits at most
-abbrev pub HasCurrency : Settings → Type 0
-HasCurrency settings = settings.currency ≤ 9999
+-- the currency has four digits at most, and a status of a reversal must name the payment
+abbrev pub FitSettings : Settings → Type 0
+FitSettings settings = (settings.currency ≤ 9999) × (settings.rules.reversal_by_receipt ≡ false)
 
 -- a payment asks for an amount that there is
 abbrev pub IsAmount : ℕ → Type 0
@@ -132,5 +132,5 @@ pub record Matches (till : TillState) (ledger : List Row) : Type 0 where
 
 abbrev pub WorldsMatch : Type 0
 WorldsMatch =
-    (settings : Settings) (moves : List Move) → HasCurrency settings → FitMoves moves
+    (settings : Settings) (moves : List Move) → FitSettings settings → FitMoves moves
     → Matches (world_with settings moves).till (world_with settings moves).terminal.ledger

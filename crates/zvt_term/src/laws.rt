@@ -5,7 +5,7 @@ ghost use Rattle.zvt_term.specs.Orderly.{OrderlyWorldsAccount};
 ghost use Rattle.zvt_term.specs.Returned.{OrderlyWorldsKeepReversals};
 
 /// Even if messages arrive twice, late or never, each entry of the till's book corresponds to an approval of its own
-/// in the terminal's ledger.
+/// in the terminal's ledger. This and the next two laws are about tills whose reversals must be named.
 pub fn worlds_match()
     ensures { WorldsMatch }
 {}

@@ -45,7 +45,7 @@ pub known-taken : (o : Order) (outgoing : Outgoing) (old new : TillValue) → Ac
 known-taken o outgoing old new taken = subst IsKnown (sym taken.runs) (known-accepted old.state o taken.taken)
 
 by-end : (s : TillState) (r : Running) (h : Happening) (b : Bool)
-    → IsKnown (cond b (finish s r.order (outcome_by s.book r.order r.statuses h)) (record s { running = Some (listened (demand_of s.settings.rules (Some s.settings.currency) s.book r.order) r h) }))
+    → IsKnown (cond b (finish s r.order (outcome_by s.book r.order r.statuses h)) (record s { running = Some (listened (demand_of s.settings.rules (Some s.settings.currency) s.book s.unclear r.order) r h) }))
 by-end s r h true = λ e. refl
 by-end s r h false = λ e. absurd cc
 

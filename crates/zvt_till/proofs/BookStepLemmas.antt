@@ -24,7 +24,7 @@ abbrev pub BookStep : TillState → Happening → List Entry → Type 0
 BookStep s h book = (book ≡ s.book) ⊎ ((r : Running) × (book ≡ book_after s.book r.order (outcome_by s.book r.order r.statuses h)))
 
 by_end : (s : TillState) (r : Running) (h : Happening) (b : Bool)
-    → BookStep s h (cond b (finish s r.order (outcome_by s.book r.order r.statuses h)) (record s { running = Some (listened (demand_of s.settings.rules (Some s.settings.currency) s.book r.order) r h) })).book
+    → BookStep s h (cond b (finish s r.order (outcome_by s.book r.order r.statuses h)) (record s { running = Some (listened (demand_of s.settings.rules (Some s.settings.currency) s.book s.unclear r.order) r h) })).book
 by_end s r h true = inr (r, refl)
 by_end s r h false = inl refl
 
@@ -123,7 +123,7 @@ entries_stay settings log more =
 -- no step changes what the till was made with
 
 settings-by-end : (s : TillState) (r : Running) (h : Happening) (b : Bool)
-    → (cond b (finish s r.order (outcome_by s.book r.order r.statuses h)) (record s { running = Some (listened (demand_of s.settings.rules (Some s.settings.currency) s.book r.order) r h) })).settings ≡ s.settings
+    → (cond b (finish s r.order (outcome_by s.book r.order r.statuses h)) (record s { running = Some (listened (demand_of s.settings.rules (Some s.settings.currency) s.book s.unclear r.order) r h) })).settings ≡ s.settings
 settings-by-end s r h true = refl
 settings-by-end s r h false = refl
 

@@ -13,10 +13,11 @@ use Rattle.zvt_till.specs.declared.outcomes.Cause.{Cause}
 use Rattle.zvt_till.specs.declared.outcomes.Outcome.{Outcome}
 use Rattle.zvt_till.specs.declared.outcomes.Outcome.TheVariants.{Registered, Paid, Declined, Refused as RefusedOutcome, Aborted, Unclear as UnclearOutcome, Reversed, DayClosed}
 use Rattle.zvt_till.specs.Statuses.{Charge, Demand, Payment, Reversal}
+use Rattle.zvt_till.specs.ByReceipt.{sole_receipt, sole_at}
 use Rattle.zvt_till.specs.Segments.{Opening, Segment, Ended, ends, statuses, end_of}
 use Rattle.zvt_till.specs.Books.{Booked, booked_as, charge_of, Verdict, Entered, Unclear, Refused, verdict_by, verdict_at, Books, traces, write_down, judge_as, judge_end, books_of, is_finished, settled}
 use Rattle.zvt_till.specs.Doubts.{doubt_end}
-use Rattle.zvt_till.specs.Marks.{reverses_end, mark, entries_of}
+use Rattle.zvt_till.specs.Marks.{reverses_end, mark, entries_of, opened_after}
 use Rattle.zvt_till.specs.Till.{entry_after, book_after, unclear_after}
 use Rattle.zvt_till.specs.Outcomes.{demand_of, outcome_by}
 use Rattle.zvt_till.specs.Refusals.{sent_as}
@@ -115,18 +116,23 @@ changed-alike f g same es i = by_entry (slice_get es i)
 
 shut-reversal : (rules : Rules) (force : Option ℕ) (closed : List Segment) (e : ℕ) (hs : List Happening) (h : Happening)
     → end_of (hs ++ h ∷ []) ≡ Some (record { before = hs; by = h }) → e < length (rows closed)
-    → let st : Statuses = summary (demand_of rules force (entries_of closed) (ReverseOrder e)) (statuses hs) in
-    book_after (entries_of closed) (ReverseOrder e) (outcome_by (entries_of closed) (ReverseOrder e) st h) ≡ entries_of (closed ++ seg (begun_by force (Reverse e)) (hs ++ h ∷ []) ∷ [])
+    → let st : Statuses = summary (demand_of rules force (entries_of closed) (loose closed) (ReverseOrder e)) (statuses hs) in
+    let o : Opening = opened_after rules.reversal_by_receipt closed (begun_by force (Reverse e)) in
+    book_after (entries_of closed) (ReverseOrder e) (outcome_by (entries_of closed) (ReverseOrder e) st h) ≡ entries_of (closed ++ seg o (hs ++ h ∷ []) ∷ [])
 shut-reversal rules force closed e hs h q lt =
-    let o : Opening = begun_by force (Reverse e) in
+    let b : Bool = rules.reversal_by_receipt in
+    let o : Opening = opened_after b closed (begun_by force (Reverse e)) in
     let w = row_at (rows closed) e lt in
     let row = w.0 in
     let at = entry_at closed 0 (rows closed) e row w.1 in
-    let d : Demand = Reversal (charge_of o row.amount) row.trace in
+    let d : Demand = Reversal (charge_of o row.amount) row.trace o.sole in
     let ended : Option Ended = Some (record { before = hs; by = h }) in
     let s : Segment = seg o (hs ++ h ∷ []) in
-    let demand : demand_of rules force (entries_of closed) (ReverseOrder e) ≡ Some d = ap (λ x. option_map (λ y. Reversal (charge_of o y.amount) y.trace) x) at.2 in
     let es : List Entry = entries_of closed in
+    let u : List (ℕ × Cause) = loose closed in
+    let demand : demand_of rules force es u (ReverseOrder e) ≡ Some d =
+    ap (option_map (λ y. Reversal (charge_of o y.amount) y.trace (sole_receipt b es u y))) at.2
+    ∙ ap (λ (x : Option (List ℕ)). Some (Reversal (charge_of o row.amount) row.trace x)) (sym (ap (sole_at b es u) at.2)) in
     let out : Outcome = outcome_by es (ReverseOrder e) (summary (Some d) (statuses hs)) h in
     ap (λ x. book_after es (ReverseOrder e) (outcome_by es (ReverseOrder e) (summary x (statuses hs)) h)) demand
     ∙ changed-alike (λ x. entry_after x out) (after_end o row ended) (λ x. reversal-after es e o row hs h x) es e
@@ -137,14 +143,14 @@ pub shut : (rules : Rules) (own : ℕ) (force : Option ℕ) (order : Order) (clo
     → end_of (hs ++ h ∷ []) ≡ Some (record { before = hs; by = h }) → ends p h ≡ true
     → Placed (length (rows closed)) closed → IsPlaced (length (rows closed)) (sent_as own order)
     → let es : List Entry = entries_of closed in
-    let out : Outcome = outcome_by es order (summary (demand_of rules force es order) (statuses hs)) h in
-    Shut (closed ++ seg (opened own force order) (hs ++ h ∷ []) ∷ []) (book_after es order out) (unclear_after (loose closed) order out)
+    let out : Outcome = outcome_by es order (summary (demand_of rules force es (loose closed) order) (statuses hs)) h in
+    Shut (closed ++ seg (opened rules.reversal_by_receipt closed own force order) (hs ++ h ∷ []) ∷ []) (book_after es order out) (unclear_after (loose closed) order out)
 shut rules own force RegisterOrder closed hs h p e n placed here = shut-plain closed (begun_by force (Register (Some own))) (hs ++ h ∷ []) (Some (record { before = hs; by = h })) e refl (λ place row. refl) (λ place row before. refl)
 shut rules own force (PayOrder a) closed hs h p e n placed here = shut-payment force closed a hs h p e n placed
 shut rules own force (ReverseOrder k) closed hs h p e n placed here =
     record {
       book = shut-reversal rules force closed k hs h e here;
-      unclear = ap (λ x. settled x.unclear) (sym (books-snoc closed (begun_by force (Reverse k)) (hs ++ h ∷ []) (Some (record { before = hs; by = h })) e));
+      unclear = ap (λ x. settled x.unclear) (sym (books-snoc closed (opened_after rules.reversal_by_receipt closed (begun_by force (Reverse k))) (hs ++ h ∷ []) (Some (record { before = hs; by = h })) e));
     }
 shut rules own force CloseDayOrder closed hs h p e n placed here = shut-plain closed (begun_by force CloseDay) (hs ++ h ∷ []) (Some (record { before = hs; by = h })) e refl (λ place row. refl) (λ place row before. refl)
 shut rules own force CancelOrder closed hs h p e n placed here = shut-plain closed (begun_by force Cancel) (hs ++ h ∷ []) (Some (record { before = hs; by = h })) e refl (λ place row. refl) (λ place row before. refl)

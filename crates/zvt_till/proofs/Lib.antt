@@ -27,6 +27,8 @@ pub mod BooksLemmas
 pub mod HeardLemmas
 pub mod Unclear
 mod Rows
+mod Ruled
+mod Repeats
 pub mod RulesLemmas
 pub mod Room
 mod DistinctLemmas

@@ -19,6 +19,7 @@ use Rattle.zvt_till.specs.declared.events.Event.{Event}
 use Rattle.zvt_till.specs.declared.orders.Order.{Order}
 use Rattle.zvt_till.specs.declared.orders.OrderRefusal.{OrderRefusal}
 use Rattle.zvt_till.specs.Refusals.{refusal, sent_as}
+use Rattle.zvt_till.specs.Settings.{strict}
 use Rattle.zvt_till.specs.Log.{line_after, line_up, facts_in}
 use Rattle.zvt_till.specs.Events.{run_settings, EndsLine, hears, HearsPiece, FollowsPiece, Follows, Leads, HoldsLine, ReadsPiece, log_after_order}
 use Rattle.zvt_till.proofs.Segments.{fold-snoc}
@@ -142,9 +143,9 @@ pub line-ordered : (log : List Happening) (o : Order) (r : Option OrderRefusal) 
 line-ordered log o None = fold-snoc line_after false log (SentOut (sent_as run_settings.currency o))
 line-ordered log o (Some why) = refl
 
-pub order-follows : (log next : List Happening) (bytes : List ℕ) (stream : StreamState) (o : Order) → next ≡ log_after_order log o (refusal (facts_in log) o) → HoldsLine log bytes stream
-    → (later : List ℕ) × ((next ≡ log_after_order log o (refusal (facts_in log) o)) × (later ≡ bytes)) × HoldsLine next later stream
-order-follows log next bytes stream o n holds = (bytes, (n, refl), λ still. holds (sym (line-ordered log o (refusal (facts_in log) o)) ∙ sym (ap line_up n) ∙ still))
+pub order-follows : (log next : List Happening) (bytes : List ℕ) (stream : StreamState) (o : Order) → next ≡ log_after_order log o (refusal (facts_in strict log) o) → HoldsLine log bytes stream
+    → (later : List ℕ) × ((next ≡ log_after_order log o (refusal (facts_in strict log) o)) × (later ≡ bytes)) × HoldsLine next later stream
+order-follows log next bytes stream o n holds = (bytes, (n, refl), λ still. holds (sym (line-ordered log o (refusal (facts_in strict log) o)) ∙ sym (ap line_up n) ∙ still))
 
 -- one event more
 pub leads-snoc : (log : List Happening) (bytes : List ℕ) (events : List Event) (event : Event) (middle last : List Happening) (now later : List ℕ) → Leads log bytes events middle now → Follows middle now event last later

@@ -25,26 +25,26 @@ use Rattle.zvt_till.proofs.SegmentEndLemmas.{seg, opened, rows, loose, books-sno
 use Rattle.zvt_till.proofs.Endings.{shut, grows}
 
 -- the running order of a till of this currency is the last segment, without an end so far; its statuses are measured by the currency in force
-pub record Open (rules : Rules) (own : ℕ) (ss : List Segment) (book : List Entry) (r : Running) : Type 0 where
+pub record Open (rules : Rules) (own : ℕ) (ss : List Segment) (book : List Entry) (unclear : List (ℕ × Cause)) (r : Running) : Type 0 where
   pub closed : List Segment
   pub answers : List Happening
   pub force : Option ℕ
-  pub forced : (rows : List Entry) → demand_of rules (Some own) rows r.order ≡ demand_of rules force rows r.order
-  pub is : ss ≡ closed ++ seg (opened own force r.order) answers ∷ []
+  pub forced : (rows : List Entry) (lost : List (ℕ × Cause)) → demand_of rules (Some own) rows lost r.order ≡ demand_of rules force rows lost r.order
+  pub is : ss ≡ closed ++ seg (opened rules.reversal_by_receipt closed own force r.order) answers ∷ []
   pub unended : end_of answers ≡ None
   pub unbroken : list_any is_break answers ≡ false
   pub positive : r.positive ≡ list_any is_positive answers
-  pub statuses : r.statuses ≡ summary (demand_of rules (Some own) book r.order) (Rattle.zvt_till.specs.Segments.statuses answers)
+  pub statuses : r.statuses ≡ summary (demand_of rules (Some own) book unclear r.order) (Rattle.zvt_till.specs.Segments.statuses answers)
 
-abbrev pub TiedTo : Rules → ℕ → List Segment → List Entry → Option Running → Type 0
-TiedTo rules own ss book None = awaited_of ss ≡ None
-TiedTo rules own ss book (Some r) = Open rules own ss book r
+abbrev pub TiedTo : Rules → ℕ → List Segment → List Entry → List (ℕ × Cause) → Option Running → Type 0
+TiedTo rules own ss book unclear None = awaited_of ss ≡ None
+TiedTo rules own ss book unclear (Some r) = Open rules own ss book unclear r
 
 pub record Core (rules : Rules) (own : ℕ) (ss : List Segment) (the_book : List Entry) (the_unclear : List (ℕ × Cause)) (running : Option Running) : Type 0 where
   pub book : the_book ≡ entries_of ss
   pub unclear : the_unclear ≡ settled (books_of ss).unclear
   pub placed : Placed (length (books_of ss).booked) ss
-  pub tied : TiedTo rules own ss the_book running
+  pub tied : TiedTo rules own ss the_book the_unclear running
 
 abbrev pub more_heard : Segment → Happening → Segment
 more_heard s h = seg s.opening (s.answers ++ h ∷ [])
@@ -83,12 +83,12 @@ core-idle rules own ss h book unclear c = by_last (split_last ss)
 
 core-on : (rules : Rules) (own : ℕ) (ss : List Segment) (h : Happening) (book : List Entry) (unclear : List (ℕ × Cause)) (r : Running)
     → Core rules own ss book unclear (Some r) → ends r.positive h ≡ false
-    → Core rules own (heard_last ss h) book unclear (Some (listened (demand_of rules (Some own) book r.order) r h))
+    → Core rules own (heard_last ss h) book unclear (Some (listened (demand_of rules (Some own) book unclear r.order) r h))
 core-on rules own ss h book unclear r c n =
     let t = c.tied in
     let closed = t.closed in
     let hs = t.answers in
-    let o = opened own t.force r.order in
+    let o = opened rules.reversal_by_receipt closed own t.force r.order in
     let on : ends (list_any is_positive hs) h ≡ false = subst (λ b. ends b h ≡ false) t.positive n in
     let unended : end_of (hs ++ h ∷ []) ≡ None = end-missing hs h t.unended on in
     let same : end_of hs ≡ end_of (hs ++ h ∷ []) = t.unended ∙ sym unended in
@@ -114,8 +114,8 @@ core-on rules own ss h book unclear r c n =
         unbroken = list_any-snoc is_break hs h ∙ ap₂ (λ a b. a || b) t.unbroken (unbroken-by r.positive h n);
         positive = ap (λ b. b || is_positive h) t.positive ∙ sym (list_any-snoc is_positive hs h);
         statuses =
-            ap (λ x. note_if (demand_of rules (Some own) book r.order) x (status_of h)) t.statuses
-            ∙ sym (summary-snoc (demand_of rules (Some own) book r.order) hs h);
+            ap (λ x. note_if (demand_of rules (Some own) book unclear r.order) x (status_of h)) t.statuses
+            ∙ sym (summary-snoc (demand_of rules (Some own) book unclear r.order) hs h);
       };
     }
 
@@ -129,7 +129,7 @@ core-shut rules own ss h book unclear r c n =
     let t = c.tied in
     let closed = t.closed in
     let hs = t.answers in
-    let o = opened own t.force r.order in
+    let o = opened rules.reversal_by_receipt closed own t.force r.order in
     let es : List Entry = entries_of closed in
     let ended : Option Ended = Some (record { before = hs; by = h }) in
     let on : ends (list_any is_positive hs) h ≡ true = subst (λ b. ends b h ≡ true) t.positive n in
@@ -148,14 +148,14 @@ core-shut rules own ss h book unclear r c n =
     record {
       book =
           ap (λ st. book_after book r.order (outcome_by book r.order st h)) t.statuses
-          ∙ ap (λ b. book_after b r.order (outcome_by b r.order (summary (demand_of rules (Some own) b r.order) (statuses hs)) h)) book_is
-          ∙ ap (λ d. book_after es r.order (outcome_by es r.order (summary d (statuses hs)) h)) (t.forced es)
+          ∙ ap₂ (λ b u. book_after b r.order (outcome_by b r.order (summary (demand_of rules (Some own) b u r.order) (statuses hs)) h)) book_is loose_is
+          ∙ ap (λ d. book_after es r.order (outcome_by es r.order (summary d (statuses hs)) h)) (t.forced es (loose closed))
           ∙ done.book
           ∙ ap entries_of (sym now);
       unclear =
           ap (λ st. unclear_after unclear r.order (outcome_by book r.order st h)) t.statuses
-          ∙ ap₂ (λ u b. unclear_after u r.order (outcome_by b r.order (summary (demand_of rules (Some own) b r.order) (statuses hs)) h)) loose_is book_is
-          ∙ ap (λ d. unclear_after (loose closed) r.order (outcome_by es r.order (summary d (statuses hs)) h)) (t.forced es)
+          ∙ ap₂ (λ u b. unclear_after u r.order (outcome_by b r.order (summary (demand_of rules (Some own) b u r.order) (statuses hs)) h)) loose_is book_is
+          ∙ ap (λ d. unclear_after (loose closed) r.order (outcome_by es r.order (summary d (statuses hs)) h)) (t.forced es (loose closed))
           ∙ done.unclear
           ∙ ap loose (sym now);
       placed =
@@ -169,7 +169,7 @@ abbrev pub CoreAt : List Segment → TillState → Type 0
 CoreAt ss s = Core s.settings.rules s.settings.currency ss s.book s.unclear s.running
 
 core-running : (ss : List Segment) (h : Happening) (s : TillState) (r : Running) → Core s.settings.rules s.settings.currency ss s.book s.unclear (Some r) → (b : Bool) → ends r.positive h ≡ b
-    → CoreAt (heard_last ss h) (cond b (finish s r.order (outcome_by s.book r.order r.statuses h)) (record s { running = Some (listened (demand_of s.settings.rules (Some s.settings.currency) s.book r.order) r h) }))
+    → CoreAt (heard_last ss h) (cond b (finish s r.order (outcome_by s.book r.order r.statuses h)) (record s { running = Some (listened (demand_of s.settings.rules (Some s.settings.currency) s.book s.unclear r.order) r h) }))
 core-running ss h s r c true e = core-shut s.settings.rules s.settings.currency ss h s.book s.unclear r c e
 core-running ss h s r c false e = core-on s.settings.rules s.settings.currency ss h s.book s.unclear r c e
 
@@ -201,10 +201,10 @@ quiet-cancel = ((λ p. refl), refl, refl)
 quiet-running : (h : Happening) (s : TillState) (r : Running) → IsQuiet h → meet_running s r h ≡ record s { running = Some r }
 unfolding IsQuiet
 quiet-running h s r q =
-    ap (λ b. cond b (finish s r.order (outcome_by s.book r.order r.statuses h)) (record s { running = Some (listened (demand_of s.settings.rules (Some s.settings.currency) s.book r.order) r h) })) (q.0 r.positive)
+    ap (λ b. cond b (finish s r.order (outcome_by s.book r.order r.statuses h)) (record s { running = Some (listened (demand_of s.settings.rules (Some s.settings.currency) s.book s.unclear r.order) r h) })) (q.0 r.positive)
     ∙ ap₂ (λ b st. record s { running = Some (record { order = r.order; positive = b; statuses = st }) })
     (ap (λ b. r.positive || b) q.1 ∙ or-false r.positive)
-    (ap (note_if (demand_of s.settings.rules (Some s.settings.currency) s.book r.order) r.statuses) q.2)
+    (ap (note_if (demand_of s.settings.rules (Some s.settings.currency) s.book s.unclear r.order) r.statuses) q.2)
 
 quiet-by : (h : Happening) (k : Settings) (up g : Bool) (run : Option Running) (es : List Entry) (u : List (ℕ × Cause)) (last : Option Outcome)
     → IsQuiet h → meet (state k up g run es u last) h ≡ state k up g run es u last

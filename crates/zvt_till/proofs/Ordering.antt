@@ -26,8 +26,8 @@ use Rattle.zvt_till.proofs.TillHistoryLemmas.{stands-more, runs_are_logged, faul
 
 pub unsent_are_logged : UnsentAreLogged
 unsent_are_logged settings log fault order old new first last t n =
-    let facts : facts_of old.state ≡ facts_in log = ap facts_of t.1 ∙ steps_meet_log settings log t.0 in
-    let sent = stands-more settings log old.state (SentOut (sent_as settings.currency order)) t (follows-order settings (facts_in log) order (ap (λ f. refusal f order) (sym facts) ∙ n.3.taken)) in
+    let facts : facts_of old.state ≡ facts_in settings.rules log = ap facts_of t.1 ∙ steps_meet_log settings log t.0 in
+    let sent = stands-more settings log old.state (SentOut (sent_as settings.currency order)) t (follows-order settings (facts_in settings.rules log) order (ap (λ f. refusal f order) (sym facts) ∙ n.3.taken)) in
     let lost = stands-more settings (log ++ SentOut (sent_as settings.currency order) ∷ []) (step old.state (SentOut (sent_as settings.currency order))) Lost sent tt in
     let same : step (step old.state (SentOut (sent_as settings.currency order))) Lost ≡ new.state = ap (λ s. step s Lost) (step-order settings.currency old.state order ∙ sym n.3.runs) ∙ sym n.4.0 in
     subst (λ l. Stands settings l new.state) (append_assoc log (SentOut (sent_as settings.currency order) ∷ []) (Lost ∷ []))

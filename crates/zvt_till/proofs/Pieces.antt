@@ -14,6 +14,7 @@ use Rattle.zvt_till.specs.declared.happenings.Happening.TheVariants.{Lost}
 use Rattle.zvt_till.specs.declared.events.Event.{Event}
 use Rattle.zvt_till.specs.declared.events.Event.TheVariants.{Connected as ConnectedEvent, Order as OrderEvent, Piece, Lost as LostEvent}
 use Rattle.zvt_till.specs.Refusals.{refusal}
+use Rattle.zvt_till.specs.Settings.{strict}
 use Rattle.zvt_till.specs.Log.{line_after, line_up, facts_in}
 use Rattle.zvt_till.specs.Events.{EndsLine, hears, HearsPiece, FollowsPiece, Follows, Leads}
 use Rattle.zvt_till.specs.Cuttings.{LogsAreOne, Brings, CuttingsAgree}
@@ -185,7 +186,7 @@ piece-other log next bytes other piece more false e a f = (other, (f.0, refl), �
 
 follows-other : (log next : List Happening) (bytes other more : List ℕ) (event : Event) → AgreesOn log bytes other → Follows log bytes event next more → (others : List ℕ) × Follows log other event next others × AgreesOn next more others
 follows-other log next bytes other more ConnectedEvent a f = (cond (line_up log) other [], (f.0, refl), λ still. f.1 ∙ cond-agrees (line_up log) bytes other a)
-follows-other log next bytes other more (OrderEvent order) a f = (other, (f.0, refl), λ still. f.1 ∙ a (sym (line-ordered log order (refusal (facts_in log) order)) ∙ sym (ap line_up f.0) ∙ still))
+follows-other log next bytes other more (OrderEvent order) a f = (other, (f.0, refl), λ still. f.1 ∙ a (sym (line-ordered log order (refusal (facts_in strict log) order)) ∙ sym (ap line_up f.0) ∙ still))
 follows-other log next bytes other more (Piece piece) a f = piece-other log next bytes other piece.items more (line_up log) refl a f
 follows-other log next bytes other more LostEvent a f = (other, (f.0, refl), λ still. absurd (false≢true (sym (fold-snoc line_after false log Lost) ∙ sym (ap line_up f.0) ∙ still)))
 

@@ -132,32 +132,32 @@ and-true : (b : Bool) → (b && true) ≡ b
 and-true true = refl
 and-true false = refl
 
-registers-end : (own : ℕ) (force : Option ℕ) (o : Order) (g before : Bool) (hs : List Happening) (h : Happening) → g ≡ registered_by before (opened own force o) None
-    → registers o g h ≡ registered_by before (opened own force o) (Some (record { before = hs; by = h }))
-registers-end own force RegisterOrder g before hs h e = ap (λ b. is_completion h || b) e ∙ or-false (is_completion h) ∙ sym (and-true (is_completion h))
-registers-end own force (PayOrder a) g before hs h e = e
-registers-end own force (ReverseOrder k) g before hs h e = e
-registers-end own force CloseDayOrder g before hs h e = e
-registers-end own force CancelOrder g before hs h e = e
+registers-end : (by_receipt : Bool) (closed : List Segment) (own : ℕ) (force : Option ℕ) (o : Order) (g before : Bool) (hs : List Happening) (h : Happening) → g ≡ registered_by before (opened by_receipt closed own force o) None
+    → registers o g h ≡ registered_by before (opened by_receipt closed own force o) (Some (record { before = hs; by = h }))
+registers-end by_receipt closed own force RegisterOrder g before hs h e = ap (λ b. is_completion h || b) e ∙ or-false (is_completion h) ∙ sym (and-true (is_completion h))
+registers-end by_receipt closed own force (PayOrder a) g before hs h e = e
+registers-end by_receipt closed own force (ReverseOrder k) g before hs h e = e
+registers-end by_receipt closed own force CloseDayOrder g before hs h e = e
+registers-end by_receipt closed own force CancelOrder g before hs h e = e
 
-registered-running : (ss : List Segment) (h : Happening) (s : TillState) (r : Running) → is_break h ≡ false → s.registered ≡ registered_of ss → Open s.settings.rules s.settings.currency ss s.book r
+registered-running : (ss : List Segment) (h : Happening) (s : TillState) (r : Running) → is_break h ≡ false → s.registered ≡ registered_of ss → Open s.settings.rules s.settings.currency ss s.book s.unclear r
     → (b : Bool) → ends r.positive h ≡ b
-    → (cond b (finish s r.order (outcome_by s.book r.order r.statuses h)) (record s { running = Some (listened (demand_of s.settings.rules (Some s.settings.currency) s.book r.order) r h) })).registered ≡ registered_of (heard_last ss h)
+    → (cond b (finish s r.order (outcome_by s.book r.order r.statuses h)) (record s { running = Some (listened (demand_of s.settings.rules (Some s.settings.currency) s.book s.unclear r.order) r h) })).registered ≡ registered_of (heard_last ss h)
 registered-running ss h s r k g t true e =
     let closed = t.closed in
     let hs = t.answers in
-    let o = opened s.settings.currency t.force r.order in
+    let o = opened s.settings.rules.reversal_by_receipt closed s.settings.currency t.force r.order in
     let on : ends (list_any is_positive hs) h ≡ true = subst (λ b. ends b h ≡ true) t.positive e in
     let was : s.registered ≡ registered_by (registered_of closed) o None = g ∙ ap registered_of t.is ∙ registered-snoc closed o hs None false t.unended t.unbroken in
     registered-outcome s.registered s.book r.order r.statuses h
-    ∙ registers-end s.settings.currency t.force r.order s.registered (registered_of closed) hs h was
+    ∙ registers-end s.settings.rules.reversal_by_receipt closed s.settings.currency t.force r.order s.registered (registered_of closed) hs h was
     ∙ sym (registered-snoc closed o (hs ++ h ∷ []) (Some (record { before = hs; by = h })) false (end-reached hs h t.unended on) (list_any-snoc is_break hs h ∙ ap₂ (λ a b. a || b) t.unbroken k))
     ∙ ap registered_of (sym (heard_last-snoc closed (seg o hs) h))
     ∙ ap (λ x. registered_of (heard_last x h)) (sym t.is)
 registered-running ss h s r k g t false e =
     let closed = t.closed in
     let hs = t.answers in
-    let o = opened s.settings.currency t.force r.order in
+    let o = opened s.settings.rules.reversal_by_receipt closed s.settings.currency t.force r.order in
     let on : ends (list_any is_positive hs) h ≡ false = subst (λ b. ends b h ≡ false) t.positive e in
     g ∙ ap registered_of t.is
     ∙ registered-snoc closed o hs None false t.unended t.unbroken
@@ -166,15 +166,15 @@ registered-running ss h s r k g t false e =
     ∙ ap (λ x. registered_of (heard_last x h)) (sym t.is)
 
 registered-meet-by : (ss : List Segment) (h : Happening) (k : Settings) (up g : Bool) (run : Option Running) (es : List Entry) (u : List (ℕ × Cause)) (last : Option Outcome)
-    → is_break h ≡ false → g ≡ registered_of ss → TiedTo k.rules k.currency ss es run → (meet (state k up g run es u last) h).registered ≡ registered_of (heard_last ss h)
+    → is_break h ≡ false → g ≡ registered_of ss → TiedTo k.rules k.currency ss es u run → (meet (state k up g run es u last) h).registered ≡ registered_of (heard_last ss h)
 registered-meet-by ss h k up g None es u last unbroken e t = e ∙ sym (registered-idle ss h unbroken t)
 registered-meet-by ss h k up g (Some r) es u last unbroken e t = registered-running ss h (state k up g (Some r) es u last) r unbroken e t (ends r.positive h) refl
 
-pub registered-meet : (ss : List Segment) (h : Happening) (s : TillState) → is_break h ≡ false → s.registered ≡ registered_of ss → TiedTo s.settings.rules s.settings.currency ss s.book s.running
+pub registered-meet : (ss : List Segment) (h : Happening) (s : TillState) → is_break h ≡ false → s.registered ≡ registered_of ss → TiedTo s.settings.rules s.settings.currency ss s.book s.unclear s.running
     → (meet s h).registered ≡ registered_of (heard_last ss h)
 registered-meet ss h s k e t = registered-meet-by ss h s.settings s.line_up s.registered s.running s.book s.unclear s.last_outcome k e t
 
-pub registered-quiet : (ss : List Segment) (h : Happening) (s : TillState) → IsQuiet h → is_break h ≡ false → s.registered ≡ registered_of ss → TiedTo s.settings.rules s.settings.currency ss s.book s.running
+pub registered-quiet : (ss : List Segment) (h : Happening) (s : TillState) → IsQuiet h → is_break h ≡ false → s.registered ≡ registered_of ss → TiedTo s.settings.rules s.settings.currency ss s.book s.unclear s.running
     → s.registered ≡ registered_of (heard_last ss h)
 registered-quiet ss h s q k e t = ap (λ x. x.registered) (sym (meet-quiet h s q)) ∙ registered-meet ss h s k e t
 

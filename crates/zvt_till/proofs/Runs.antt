@@ -18,6 +18,7 @@ use Rattle.zvt_till.specs.Sending.{Settings, message_of, reply_to}
 use Rattle.zvt_till.specs.Marks.{entries}
 use Rattle.zvt_till.specs.Till.{TillState, new_till, step, accept, facts_of}
 use Rattle.zvt_till.specs.View.{IsRefusedAs}
+use Rattle.zvt_till.specs.Settings.{strict}
 use Rattle.zvt_till.specs.Log.{CanFollow, IsLogFrom, facts_in, line_up}
 use Rattle.zvt_till.specs.Events.{run_settings, sends, sent_from, message_out, sent_over, IsTied, log_after_order}
 use Rattle.zvt_stream.proofs.Beginnings.{spelled_more, spelled_append}
@@ -25,9 +26,9 @@ use Rattle.zvt_till.proofs.Segments.{fold-snoc}
 use Rattle.zvt_till.proofs.Steps.{steps_meet_log}
 use Rattle.zvt_till.proofs.BookStepLemmas.{settings-kept}
 
-pub is_log-snoc : (settings : Settings) (past log : List Happening) (h : Happening) → IsLogFrom settings past log → CanFollow settings (facts_in (past ++ log)) h → IsLogFrom settings past (log ++ h ∷ [])
-is_log-snoc settings past [] h k c = (subst (λ x. CanFollow settings (facts_in x) h) (append-nil past) c, tt)
-is_log-snoc settings past (g ∷ log) h k c = (k.0, is_log-snoc settings (past ++ g ∷ []) log h k.1 (subst (λ x. CanFollow settings (facts_in x) h) (sym (append_assoc past (g ∷ []) log)) c))
+pub is_log-snoc : (settings : Settings) (past log : List Happening) (h : Happening) → IsLogFrom settings past log → CanFollow settings (facts_in settings.rules (past ++ log)) h → IsLogFrom settings past (log ++ h ∷ [])
+is_log-snoc settings past [] h k c = (subst (λ x. CanFollow settings (facts_in settings.rules x) h) (append-nil past) c, tt)
+is_log-snoc settings past (g ∷ log) h k c = (k.0, is_log-snoc settings (past ++ g ∷ []) log h k.1 (subst (λ x. CanFollow settings (facts_in settings.rules x) h) (sym (append_assoc past (g ∷ []) log)) c))
 
 sent-snoc : (past log : List Happening) (h : Happening) → sent_from past (log ++ h ∷ []) ≡ sent_from past log ++ sends (past ++ log) h
 sent-snoc past [] h = append-nil (sends past h) ∙ ap (λ x. sends x h) (sym (append-nil past))
@@ -42,7 +43,7 @@ over-snoc log h = ap (map message_out) (sent-snoc [] log h) ∙ map-append messa
 pub tied-new : IsTied [] (new_till run_settings) []
 tied-new = record { allowed = tt; reached = refl; spelled = refl }
 
-pub tied-more : (log : List Happening) (s : TillState) (before after : List ℕ) (h : Happening) → IsTied log s before → CanFollow run_settings (facts_in log) h
+pub tied-more : (log : List Happening) (s : TillState) (before after : List ℕ) (h : Happening) → IsTied log s before → CanFollow run_settings (facts_in strict log) h
     → Spelled after (sent_over log ++ map message_out (sends log h)) [] → IsTied (log ++ h ∷ []) (step s h) after
 tied-more log s before after h t c more =
     record {
@@ -52,18 +53,18 @@ tied-more log s before after h t c more =
     }
 
 -- where nothing is sent
-pub tied-silent : (log : List Happening) (s : TillState) (sent : List ℕ) (h : Happening) → IsTied log s sent → CanFollow run_settings (facts_in log) h → sends log h ≡ []
+pub tied-silent : (log : List Happening) (s : TillState) (sent : List ℕ) (h : Happening) → IsTied log s sent → CanFollow run_settings (facts_in strict log) h → sends log h ≡ []
     → IsTied (log ++ h ∷ []) (step s h) sent
 tied-silent log s sent h t c none =
     tied-more log s sent sent h t c (subst (λ (os : List Outgoing). Spelled sent (sent_over log ++ map message_out os) []) (sym none) (subst (λ ms. Spelled sent ms []) (sym (append-nil (sent_over log))) t.spelled))
 
-pub tied-facts : (log : List Happening) (s : TillState) (sent : List ℕ) → IsTied log s sent → facts_of s ≡ facts_in log
+pub tied-facts : (log : List Happening) (s : TillState) (sent : List ℕ) → IsTied log s sent → facts_of s ≡ facts_in strict log
 tied-facts log s sent t = ap facts_of t.reached ∙ steps_meet_log run_settings log t.allowed
 
 pub tied-line : (log : List Happening) (s : TillState) (sent : List ℕ) → IsTied log s sent → s.line_up ≡ line_up log
 tied-line log s sent t = ap (λ f. f.line_up) (tied-facts log s sent t)
 
-tied-book : (log : List Happening) (s : TillState) (sent : List ℕ) → IsTied log s sent → s.book ≡ entries log
+tied-book : (log : List Happening) (s : TillState) (sent : List ℕ) → IsTied log s sent → s.book ≡ entries strict log
 tied-book log s sent t = ap (λ f. f.book) (tied-facts log s sent t)
 
 pub tied-settings : (log : List Happening) (s : TillState) (sent : List ℕ) → IsTied log s sent → s.settings ≡ run_settings
@@ -83,34 +84,34 @@ step-order own s (Reverse k) = refl
 step-order own s CloseDay = refl
 step-order own s Cancel = refl
 
-sends-order : (log : List Happening) (o : Order) → sends log (SentOut (sent_as run_settings.currency o)) ≡ option_to_list (message_of run_settings (entries log) o)
+sends-order : (log : List Happening) (o : Order) → sends log (SentOut (sent_as run_settings.currency o)) ≡ option_to_list (message_of run_settings (entries strict log) o)
 sends-order log Register = refl
 sends-order log (Pay a) = refl
 sends-order log (Reverse k) = refl
 sends-order log CloseDay = refl
 sends-order log Cancel = refl
 
-no-refusal : (log : List Happening) (s : TillState) (sent : List ℕ) (o : Order) (r : Option OrderRefusal) → IsTied log s sent → refusal (facts_of s) o ≡ r → refusal (facts_in log) o ≡ r
+no-refusal : (log : List Happening) (s : TillState) (sent : List ℕ) (o : Order) (r : Option OrderRefusal) → IsTied log s sent → refusal (facts_of s) o ≡ r → refusal (facts_in strict log) o ≡ r
 no-refusal log s sent o r t e = ap (λ f. refusal f o) (sym (tied-facts log s sent t)) ∙ e
 
 -- an accepted order
 pub tied-order : (log : List Happening) (s : TillState) (before after : List ℕ) (o : Order) (out : Outgoing) → IsTied log s before → refusal (facts_of s) o ≡ None → message_of s.settings s.book o ≡ Some out
     → ((ms : List Message) → Spelled before ms [] → Spelled after (ms ++ message_out out ∷ []) []) → IsTied (log ++ SentOut (sent_as run_settings.currency o) ∷ []) (accept s o) after
 tied-order log s before after o out t e sent more =
-    let same : message_of run_settings (entries log) o ≡ Some out =
-    ap (λ k. message_of k (entries log) o) (sym (tied-settings log s before t)) ∙ ap (λ b. message_of s.settings b o) (sym (tied-book log s before t)) ∙ sent in
+    let same : message_of run_settings (entries strict log) o ≡ Some out =
+    ap (λ k. message_of k (entries strict log) o) (sym (tied-settings log s before t)) ∙ ap (λ b. message_of s.settings b o) (sym (tied-book log s before t)) ∙ sent in
     let goes : sends log (SentOut (sent_as run_settings.currency o)) ≡ out ∷ [] = sends-order log o ∙ ap option_to_list same in
     let spelled : Spelled after (sent_over log ++ map message_out (sends log (SentOut (sent_as run_settings.currency o)))) [] =
     subst (λ (os : List Outgoing). Spelled after (sent_over log ++ map message_out os) []) (sym goes) (more (sent_over log) t.spelled) in
     subst (λ x. IsTied (log ++ SentOut (sent_as run_settings.currency o) ∷ []) x after) (step-order run_settings.currency s o)
-    (tied-more log s before after (SentOut (sent_as run_settings.currency o)) t (follows-order run_settings (facts_in log) o (no-refusal log s before o None t e)) spelled)
+    (tied-more log s before after (SentOut (sent_as run_settings.currency o)) t (follows-order run_settings (facts_in strict log) o (no-refusal log s before o None t e)) spelled)
 
 pub log-order : (log : List Happening) (s : TillState) (sent : List ℕ) (o : Order) → IsTied log s sent → refusal (facts_of s) o ≡ None
-    → log ++ SentOut (sent_as run_settings.currency o) ∷ [] ≡ log_after_order log o (refusal (facts_in log) o)
+    → log ++ SentOut (sent_as run_settings.currency o) ∷ [] ≡ log_after_order log o (refusal (facts_in strict log) o)
 log-order log s sent o t e = ap (log_after_order log o) (sym (no-refusal log s sent o None t e))
 
 pub log-refused : (log : List Happening) (s : TillState) (sent : List ℕ) (o : Order) (why : OrderRefusal) → IsTied log s sent → refusal (facts_of s) o ≡ Some why
-    → log ≡ log_after_order log o (refusal (facts_in log) o)
+    → log ≡ log_after_order log o (refusal (facts_in strict log) o)
 log-refused log s sent o why t e = ap (log_after_order log o) (sym (no-refusal log s sent o (Some why) t e))
 
 -- a refusal other than out of memory

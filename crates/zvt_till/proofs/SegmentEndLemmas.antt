@@ -12,7 +12,7 @@ use Rattle.zvt_till.specs.declared.outcomes.Cause.TheVariants.{Unfinished}
 use Rattle.zvt_till.specs.Segments.{Opening, Segment, Ended, ends, is_positive, end_of}
 use Rattle.zvt_till.specs.Books.{Booked, Books, judge_as, judge_end, judge, empty_books, books_of, is_finished, settled}
 use Rattle.zvt_till.specs.Doubts.{doubt_end}
-use Rattle.zvt_till.specs.Marks.{reverses_end, mark, entries_of}
+use Rattle.zvt_till.specs.Marks.{reverses_end, mark, entries_of, opened_after}
 use Rattle.zvt_till.specs.Refusals.{sent_as}
 use Rattle.zvt_till.specs.Log.{is_break, awaited_by_end, awaited_after, awaited_of}
 use Rattle.zvt_till.proofs.Segments.{end_grown, end_of-snoc, fold-snoc}
@@ -23,11 +23,11 @@ seg o hs = record { opening = o; answers = hs }
 
 -- an order sent under a currency in force
 abbrev pub begun_by : Option ℕ → Sent → Opening
-begun_by force o = record { order = o; currency = force }
+begun_by force o = record { order = o; currency = force; sole = None }
 
--- an order as a till of its own currency sends it
-abbrev pub opened : ℕ → Option ℕ → Order → Opening
-opened own force o = begun_by force (sent_as own o)
+-- an order as a till of its own currency sends it after these segments
+abbrev pub opened : Bool → List Segment → ℕ → Option ℕ → Order → Opening
+opened by_receipt closed own force o = opened_after by_receipt closed (begun_by force (sent_as own o))
 
 abbrev pub rows : List Segment → List Booked
 rows ss = (books_of ss).booked

@@ -14,7 +14,7 @@ heard_last (s ∷ t ∷ ss) h = s ∷ heard_last (t ∷ ss) h
 
 abbrev pub grown : Option ℕ → List Segment → Happening → Option Sent → List Segment
 grown force ss h None = heard_last ss h
-grown force ss h (Some o) = ss ++ record { opening = record { order = o; currency = force }; answers = [] } ∷ []
+grown force ss h (Some o) = ss ++ record { opening = record { order = o; currency = force; sole = None }; answers = [] } ∷ []
 
 abbrev answers_grown : List Segment → List Happening → Happening → Option Sent → List Happening
 answers_grown [] hs h None = hs ++ h ∷ []
@@ -30,7 +30,7 @@ abbrev up_by : Option Sent → Happening → List Happening → List Happening
 up_by b g more = elim b [ None ↦ g ∷ more | Some o ↦ [] ]
 
 abbrev segments_by : Option ℕ → Option Sent → List Happening → List Segment → List Segment
-segments_by force b more ss = elim b [ None ↦ ss | Some o ↦ record { opening = record { order = o; currency = force }; answers = more } ∷ ss ]
+segments_by force b more ss = elim b [ None ↦ ss | Some o ↦ record { opening = record { order = o; currency = force; sole = None }; answers = more } ∷ ss ]
 
 up-one : (b : Option Sent) (h : Happening) → up_by b h [] ≡ answers_grown [] [] h b
 up-one None h = refl
@@ -52,7 +52,7 @@ segments-one force None h = refl
 segments-one force (Some o) h = refl
 
 abbrev seg : Option ℕ → Sent → List Happening → Segment
-seg force o hs = record { opening = record { order = o; currency = force }; answers = hs }
+seg force o hs = record { opening = record { order = o; currency = force; sole = None }; answers = hs }
 
 first-grown : (force now : Option ℕ) (o : Sent) (ss : List Segment) (hs : List Happening) (h : Happening) (b : Option Sent)
     → seg force o (answers_grown ss hs h b) ∷ grown now ss h b ≡ grown now (seg force o hs ∷ ss) h b

@@ -12,7 +12,7 @@ use Rattle.zvt_till.specs.declared.entries.Entry.{Entry}
 use Rattle.zvt_till.specs.declared.outcomes.Cause.TheVariants.{Conflict, AmountDiffers, NoTrace, TraceUsed, WrongCurrency}
 use Rattle.zvt_till.specs.declared.outcomes.Outcome.{Outcome}
 use Rattle.zvt_till.specs.declared.outcomes.Outcome.TheVariants.{Registered, Paid, Declined, Refused, Aborted, Unclear, Reversed, DayClosed}
-use Rattle.zvt_till.specs.Statuses.{is_value, is_absent, is_in_currency, names, same_trace, Demand, Payment, Reversal, Closing, Class, Good, Declining, Doubtful, class_undeclined, class_unnamed, class_by, class_of}
+use Rattle.zvt_till.specs.Statuses.{is_value, is_absent, is_in_currency, is_by_receipt, names, same_trace, Demand, Payment, Reversal, Closing, Class, Good, Declining, Doubtful, class_undeclined, class_unnamed, class_by, class_of}
 use Rattle.zvt_till.specs.Segments.{ends}
 use Rattle.zvt_till.specs.Books.{is_finished}
 use Rattle.zvt_till.specs.Outcomes.{note, note_class, payment_outcome, reversal_outcome, closing_outcome, completion_outcome, broken_outcome, outcome_by}
@@ -46,20 +46,22 @@ sound-payment true true false trace = refl
 sound-payment true true true None = refl
 sound-payment true true true (Some t) = tt
 
-sound-reversal : (own same back : Bool) → SoundClass (cond own (cond same (cond back (Good None) (Doubtful NoTrace)) (Doubtful AmountDiffers)) (Doubtful WrongCurrency))
-sound-reversal false same back = refl
-sound-reversal true false back = refl
-sound-reversal true true false = refl
-sound-reversal true true true = tt
+sound-reversal : (own same back unnamed : Bool)
+    → SoundClass (cond own (cond same (cond back (Good None) (cond unnamed (Good None) (Doubtful NoTrace))) (Doubtful AmountDiffers)) (Doubtful WrongCurrency))
+sound-reversal false same back unnamed = refl
+sound-reversal true false back unnamed = refl
+sound-reversal true true false false = refl
+sound-reversal true true false true = tt
+sound-reversal true true true unnamed = tt
 
 sound-undeclined : (d : Demand) (s : StatusFacts) → SoundClass (class_undeclined d s)
 sound-undeclined (Payment charge) s = sound-payment (is_absent s.original) (is_in_currency charge.currency s.currency) (is_value s.amount charge.amount) s.trace
-sound-undeclined (Reversal charge t) s = sound-reversal (is_in_currency charge.currency s.currency) (is_value s.amount charge.amount) (names s.original t)
+sound-undeclined (Reversal charge t sole) s = sound-reversal (is_in_currency charge.currency s.currency) (is_value s.amount charge.amount) (names s.original t) (is_by_receipt sole s.original s.receipt)
 sound-undeclined (Closing by_completion) s = tt
 
 sound-unnamed : (d : Demand) (s : StatusFacts) → SoundClass (class_unnamed d s)
 sound-unnamed (Payment charge) s = refl
-sound-unnamed (Reversal charge t) s = refl
+sound-unnamed (Reversal charge t sole) s = refl
 sound-unnamed (Closing by_completion) s = by_test (by_completion && not s.has_result)
   where
     by_test : (b : Bool) → SoundClass (cond b (Good None) (Doubtful Conflict))

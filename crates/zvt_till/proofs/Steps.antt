@@ -13,14 +13,15 @@ use Rattle.zvt_till.specs.declared.entries.Entry.{Entry}
 use Rattle.zvt_till.specs.declared.outcomes.Cause.{Cause}
 use Rattle.zvt_till.specs.declared.outcomes.Outcome.{Outcome}
 use Rattle.zvt_till.specs.Segments.{Opening, Segment, begun, force_by, force_after, in_force, segments, ends}
-use Rattle.zvt_till.specs.Marks.{entries_of}
+use Rattle.zvt_till.specs.Marks.{entries_of, opened_after, add_segment, ruled}
 use Rattle.zvt_till.specs.Till.{TillState, new_till, finish, meet, fresh, step, state_after, awaited_by, facts_of}
 use Rattle.zvt_till.specs.Outcomes.{demand_of, outcome_by, listened}
 use Rattle.zvt_till.specs.Refusals.{sent_as, Awaited, Facts, refusal, busy_refusal, idle_refusal, line_refusal, asked_refusal, row_refusal, or_else}
 use Rattle.zvt_till.specs.Sending.{Settings}
 use Rattle.zvt_till.specs.Log.{line_after, line_up, registered_by, registered_of, awaited_by_end, awaited_of, facts_in_segments, facts_in, CanFollow, IsLogFrom, IsLog, StepsMeetLog}
 use Rattle.zvt_till.specs.declared.settings.Rules.{Rules}
-use Rattle.zvt_till.proofs.Segments.{heard_last, grown, segments-snoc, fold-snoc}
+use Rattle.zvt_till.proofs.Segments.{heard_last, fold-snoc}
+use Rattle.zvt_till.proofs.Ruled.{grown_by, ruled-none, ruled-snoc}
 use Rattle.zvt_till.proofs.Marks.{IsPlaced, Placed, Placed-snoc, mark-length}
 use Rattle.zvt_till.proofs.SegmentEndLemmas.{seg, opened, begun_by, rows, rows-open, loose-open, entries-open, awaited-snoc}
 use Rattle.zvt_till.proofs.LogStateLemmas.{TiedTo, Core, CoreAt, state, core-meet, core-quiet, quiet-connected, quiet-cancel}
@@ -28,7 +29,7 @@ use Rattle.zvt_till.proofs.Registrations.{registered-snoc, registered-break, reg
 use Rattle.zvt_till.proofs.BookStepLemmas.{settings-by-running, settings-step}
 
 line-met-running : (s : TillState) (r : Running) (h : Happening) (b : Bool)
-    → (cond b (finish s r.order (outcome_by s.book r.order r.statuses h)) (record s { running = Some (listened (demand_of s.settings.rules (Some s.settings.currency) s.book r.order) r h) })).line_up ≡ s.line_up
+    → (cond b (finish s r.order (outcome_by s.book r.order r.statuses h)) (record s { running = Some (listened (demand_of s.settings.rules (Some s.settings.currency) s.book s.unclear r.order) r h) })).line_up ≡ s.line_up
 line-met-running s r h true = refl
 line-met-running s r h false = refl
 
@@ -79,10 +80,10 @@ forced-by up force ss s asked i e =
 -- an order that begins a segment
 
 core-order : (force : Option ℕ) (ss : List Segment) (s : TillState) (o : Order) → CoreAt ss s → IsPlaced (length (rows ss)) (sent_as s.settings.currency o)
-    → ((book : List Entry) → demand_of s.settings.rules (Some s.settings.currency) book o ≡ demand_of s.settings.rules force book o)
-    → Core s.settings.rules s.settings.currency (ss ++ seg (opened s.settings.currency force o) [] ∷ []) s.book s.unclear (Some (fresh o))
+    → ((book : List Entry) (unclear : List (ℕ × Cause)) → demand_of s.settings.rules (Some s.settings.currency) book unclear o ≡ demand_of s.settings.rules force book unclear o)
+    → Core s.settings.rules s.settings.currency (ss ++ seg (opened s.settings.rules.reversal_by_receipt ss s.settings.currency force o) [] ∷ []) s.book s.unclear (Some (fresh o))
 core-order force ss s o c here forced =
-    let opening : Opening = opened s.settings.currency force o in
+    let opening : Opening = opened s.settings.rules.reversal_by_receipt ss s.settings.currency force o in
     record {
       book = c.book ∙ sym (entries-open ss opening [] refl);
       unclear = c.unclear ∙ sym (loose-open ss opening [] refl);
@@ -111,22 +112,22 @@ placed-reversal up ss e q =
     let lt : e < length (entries_of ss) = slice_get_within (entries_of ss) e w.0 w.1 in
     omega (arith, mark-length ss 0 (rows ss))
 
-same-demand : (rules : Rules) (own : ℕ) (force : Option ℕ) (o : Order) → force ≡ Some own → (book : List Entry) → demand_of rules (Some own) book o ≡ demand_of rules force book o
-same-demand rules own force o e book = ap (λ c. demand_of rules c book o) (sym e)
+same-demand : (rules : Rules) (own : ℕ) (force : Option ℕ) (o : Order) → force ≡ Some own → (book : List Entry) (unclear : List (ℕ × Cause)) → demand_of rules (Some own) book unclear o ≡ demand_of rules force book unclear o
+same-demand rules own force o e book unclear = ap (λ c. demand_of rules c book unclear o) (sym e)
 
 -- a registration brings its currency into force
 registers : (up : Bool) (force : Option ℕ) (ss : List Segment) (s : TillState) → Inv up force ss s
-    → Inv up (Some s.settings.currency) (ss ++ seg (opened s.settings.currency force RegisterOrder) [] ∷ []) (step s (SentOut (Register (Some s.settings.currency))))
+    → Inv up (Some s.settings.currency) (ss ++ seg (opened s.settings.rules.reversal_by_receipt ss s.settings.currency force RegisterOrder) [] ∷ []) (step s (SentOut (Register (Some s.settings.currency))))
 registers up force ss s i =
     record {
       line = i.line;
-      registered = sym (registered-order ss (opened s.settings.currency force RegisterOrder));
-      core = core-order force ss s RegisterOrder i.core tt (λ book. refl);
+      registered = sym (registered-order ss (opened s.settings.rules.reversal_by_receipt ss s.settings.currency force RegisterOrder));
+      core = core-order force ss s RegisterOrder i.core tt (λ book unclear. refl);
       forced = inl refl;
     }
 
 grow : (up : Bool) (force : Option ℕ) (ss : List Segment) (s : TillState) (h : Happening) → Inv up force ss s → CanFollow s.settings (facts_in_segments up ss) h
-    → Inv (line_after up h) (force_after force h) (grown force ss h (begun h)) (step s h)
+    → Inv (line_after up h) (force_after force h) (grown_by s.settings.rules.reversal_by_receipt force ss h (begun h)) (step s h)
 grow up force ss s Connected i k =
     record {
       line = refl;
@@ -136,7 +137,7 @@ grow up force ss s Connected i k =
     }
 grow up force ss s (SentOut (Register c)) i k =
     let own : Register (Some s.settings.currency) ≡ Register c = sym k.0 in
-    subst (λ o. Inv up (force_by force o) (ss ++ seg (begun_by force o) [] ∷ []) (step s (SentOut o))) own (registers up force ss s i)
+    subst (λ o. Inv up (force_by force o) (add_segment s.settings.rules.reversal_by_receipt ss (seg (begun_by force o) [])) (step s (SentOut o))) own (registers up force ss s i)
 grow up force ss s (SentOut (Pay a)) i k =
     let e = forced-by up force ss s (asked_refusal (facts_in_segments up ss) (PayOrder a)) i k.1 in
     record {
@@ -149,7 +150,7 @@ grow up force ss s (SentOut (Reverse n)) i k =
     let e = forced-by up force ss s (asked_refusal (facts_in_segments up ss) (ReverseOrder n)) i k.1 in
     record {
       line = i.line;
-      registered = i.registered ∙ sym (registered-order ss (begun_by force (Reverse n)));
+      registered = i.registered ∙ sym (registered-order ss (opened_after s.settings.rules.reversal_by_receipt ss (begun_by force (Reverse n))));
       core = core-order force ss s (ReverseOrder n) i.core (placed-reversal up ss n k.1) (same-demand s.settings.rules s.settings.currency force (ReverseOrder n) e);
       forced = inl e;
     }
@@ -157,7 +158,7 @@ grow up force ss s (SentOut CloseDay) i k =
     record {
       line = i.line;
       registered = i.registered ∙ sym (registered-order ss (begun_by force CloseDay));
-      core = core-order force ss s CloseDayOrder i.core tt (λ book. refl);
+      core = core-order force ss s CloseDayOrder i.core tt (λ book unclear. refl);
       forced = inl (forced-by up force ss s None i k.1);
     }
 grow up force ss s (SentOut Cancel) i k =
@@ -184,32 +185,39 @@ grow up force ss s Lost i k =
 
 -- the whole log
 
-abbrev InvOf : List Happening → TillState → Type 0
-InvOf log s = Inv (line_up log) (in_force log) (segments log) s
+abbrev InvOf : Settings → List Happening → TillState → Type 0
+InvOf settings log s = Inv (line_up log) (in_force log) (ruled settings.rules.reversal_by_receipt (segments log)) s
 
-inv-after : (settings : Settings) (log more : List Happening) (s : TillState) → s.settings ≡ settings → InvOf log s → IsLogFrom settings log more → InvOf (log ++ more) (fold step s more)
-inv-after settings log [] s e i k = subst (λ x. InvOf x s) (sym (append-nil log)) i
+inv-after : (settings : Settings) (log more : List Happening) (s : TillState) → s.settings ≡ settings → InvOf settings log s → IsLogFrom settings log more → InvOf settings (log ++ more) (fold step s more)
+inv-after settings log [] s e i k = subst (λ x. InvOf settings x s) (sym (append-nil log)) i
 inv-after settings log (h ∷ more) s e i k =
-    let can : CanFollow s.settings (facts_in log) h = subst (λ x. CanFollow x (facts_in log) h) (sym e) k.0 in
-    let one : InvOf (log ++ h ∷ []) (step s h) =
-    subst (λ b. Inv b (in_force (log ++ h ∷ [])) (segments (log ++ h ∷ [])) (step s h)) (sym (fold-snoc line_after false log h))
-    (subst (λ c. Inv (line_after (line_up log) h) c (segments (log ++ h ∷ [])) (step s h)) (sym (fold-snoc force_after None log h))
-    (subst (λ x. Inv (line_after (line_up log) h) (force_after (in_force log) h) x (step s h)) (sym (segments-snoc log h)) (grow (line_up log) (in_force log) (segments log) s h i can))) in
-    subst (λ x. InvOf x (fold step (step s h) more)) (append_assoc log (h ∷ []) more)
+    let by_receipt : Bool = settings.rules.reversal_by_receipt in
+    let ss : List Segment = ruled by_receipt (segments log) in
+    let can : CanFollow s.settings (facts_in settings.rules log) h = subst (λ x. CanFollow x (facts_in settings.rules log) h) (sym e) k.0 in
+    let grew : Inv (line_after (line_up log) h) (force_after (in_force log) h) (grown_by by_receipt (in_force log) ss h (begun h)) (step s h) =
+    subst (λ (x : Settings). Inv (line_after (line_up log) h) (force_after (in_force log) h) (grown_by x.rules.reversal_by_receipt (in_force log) ss h (begun h)) (step s h)) e
+    (grow (line_up log) (in_force log) ss s h i can) in
+    let one : InvOf settings (log ++ h ∷ []) (step s h) =
+    subst (λ b. Inv b (in_force (log ++ h ∷ [])) (ruled by_receipt (segments (log ++ h ∷ []))) (step s h)) (sym (fold-snoc line_after false log h))
+    (subst (λ c. Inv (line_after (line_up log) h) c (ruled by_receipt (segments (log ++ h ∷ []))) (step s h)) (sym (fold-snoc force_after None log h))
+    (subst (λ x. Inv (line_after (line_up log) h) (force_after (in_force log) h) x (step s h)) (sym (ruled-snoc by_receipt log h)) grew)) in
+    subst (λ x. InvOf settings x (fold step (step s h) more)) (append_assoc log (h ∷ []) more)
     (inv-after settings (log ++ h ∷ []) more (step s h) (settings-step s h ∙ e) one k.1)
 
-inv-new : (settings : Settings) → InvOf [] (new_till settings)
-inv-new settings = record { line = refl; registered = refl; core = record { book = refl; unclear = refl; placed = tt; tied = refl }; forced = inr tt }
+inv-new : (settings : Settings) → InvOf settings [] (new_till settings)
+inv-new settings =
+    subst (λ ss. Inv false None ss (new_till settings)) (sym (ruled-none settings.rules.reversal_by_receipt))
+    (record { line = refl; registered = refl; core = record { book = refl; unclear = refl; placed = tt; tied = refl }; forced = inr tt })
 
-inv-log : (settings : Settings) (log : List Happening) → IsLog settings log → InvOf log (state_after settings log)
+inv-log : (settings : Settings) (log : List Happening) → IsLog settings log → InvOf settings log (state_after settings log)
 inv-log settings log k = inv-after settings [] log (new_till settings) refl (inv-new settings) k
 
 -- what the till awaits
 
-awaited-tied : (rules : Rules) (own : ℕ) (ss : List Segment) (book : List Entry) (run : Option Running) → TiedTo rules own ss book run → option_map (awaited_by own) run ≡ awaited_of ss
-awaited-tied rules own ss book None t = sym t
-awaited-tied rules own ss book (Some r) t =
-    let last = seg (opened own t.force r.order) t.answers in
+awaited-tied : (rules : Rules) (own : ℕ) (ss : List Segment) (book : List Entry) (unclear : List (ℕ × Cause)) (run : Option Running) → TiedTo rules own ss book unclear run → option_map (awaited_by own) run ≡ awaited_of ss
+awaited-tied rules own ss book unclear None t = sym t
+awaited-tied rules own ss book unclear (Some r) t =
+    let last = seg (opened rules.reversal_by_receipt t.closed own t.force r.order) t.answers in
     ap (λ p. Some (record { order = sent_as own r.order; positive = p })) t.positive
     ∙ sym (ap awaited_of t.is ∙ awaited-snoc t.closed last ∙ ap (awaited_by_end last) t.unended)
 
@@ -219,8 +227,8 @@ facts_by up g awaited book unclear = record { line_up = up; registered = g; awai
 facts-tied : (up : Bool) (force : Option ℕ) (ss : List Segment) (s : TillState) → Inv up force ss s → facts_of s ≡ facts_in_segments up ss
 facts-tied up force ss s i =
     ap₂ (λ a b. facts_by a b (option_map (awaited_by s.settings.currency) s.running) s.book s.unclear) i.line i.registered
-    ∙ ap₂ (λ a b. facts_by up (registered_of ss) a b s.unclear) (awaited-tied s.settings.rules s.settings.currency ss s.book s.running i.core.tied) i.core.book
+    ∙ ap₂ (λ a b. facts_by up (registered_of ss) a b s.unclear) (awaited-tied s.settings.rules s.settings.currency ss s.book s.unclear s.running i.core.tied) i.core.book
     ∙ ap (λ u. facts_by up (registered_of ss) (awaited_of ss) (entries_of ss) u) i.core.unclear
 
 pub steps_meet_log : StepsMeetLog
-steps_meet_log settings log k = facts-tied (line_up log) (in_force log) (segments log) (state_after settings log) (inv-log settings log k)
+steps_meet_log settings log k = facts-tied (line_up log) (in_force log) (ruled settings.rules.reversal_by_receipt (segments log)) (state_after settings log) (inv-log settings log k)

@@ -27,7 +27,7 @@ use Rattle.zvt_till.proofs.Steps.{steps_meet_log}
 use Rattle.zvt_till.proofs.Runs.{is_log-snoc, follows-order, step-order}
 use Rattle.zvt_till.proofs.Lines.{up-heard}
 
-pub stands-more : (settings : Settings) (log : List Happening) (s : TillState) (h : Happening) → Stands settings log s → CanFollow settings (facts_in log) h → Stands settings (log ++ h ∷ []) (step s h)
+pub stands-more : (settings : Settings) (log : List Happening) (s : TillState) (h : Happening) → Stands settings log s → CanFollow settings (facts_in settings.rules log) h → Stands settings (log ++ h ∷ []) (step s h)
 stands-more settings log s h t c = (is_log-snoc settings [] log h t.0 c, ap (λ x. step x h) t.1 ∙ sym (fold-snoc step (new_till settings) log h))
 
 offline : (up : Bool) (next asked : Option OrderRefusal) → or_else (cond up next (Some Offline)) asked ≡ None → up ≡ true
@@ -38,10 +38,10 @@ offline false next asked e = absurd cc
 stands-order : (settings : Settings) (log : List Happening) (o : Order) (old new : TillValue) (first last : Option (List ℕ)) → Stands settings log old.state → SendsAlone o old new first last
     → Stands settings (log ++ SentOut (sent_as settings.currency o) ∷ []) new.state × (line_up (log ++ SentOut (sent_as settings.currency o) ∷ []) ≡ true)
 stands-order settings log o old new first last t sent =
-    let facts : facts_of old.state ≡ facts_in log = ap facts_of t.1 ∙ steps_meet_log settings log t.0 in
-    let none : refusal (facts_in log) o ≡ None = ap (λ f. refusal f o) (sym facts) ∙ sent.ordered.taken in
-    let more = stands-more settings log old.state (SentOut (sent_as settings.currency o)) t (follows-order settings (facts_in log) o none) in
-    let f = facts_in log in
+    let facts : facts_of old.state ≡ facts_in settings.rules log = ap facts_of t.1 ∙ steps_meet_log settings log t.0 in
+    let none : refusal (facts_in settings.rules log) o ≡ None = ap (λ f. refusal f o) (sym facts) ∙ sent.ordered.taken in
+    let more = stands-more settings log old.state (SentOut (sent_as settings.currency o)) t (follows-order settings (facts_in settings.rules log) o none) in
+    let f = facts_in settings.rules log in
     let up : line_up log ≡ true = offline f.line_up (session_refusal f o) (asked_refusal f o) none in
     (subst (λ s. Stands settings (log ++ SentOut (sent_as settings.currency o) ∷ []) s) (step-order settings.currency old.state o ∙ sym sent.ordered.runs) more, fold-snoc line_after false log (SentOut (sent_as settings.currency o)) ∙ up)
 
@@ -96,7 +96,7 @@ reported-step faults.Memory old new t = t.0
 reported-step faults.Write old new t = t.0
 reported-step faults.Stopped old new t = t.0
 
-can-be-reported : (settings : Settings) (fault : LineFault) (log : List Happening) → line_up log ≡ true → CanFollow settings (facts_in log) (reported_as fault)
+can-be-reported : (settings : Settings) (fault : LineFault) (log : List Happening) → line_up log ≡ true → CanFollow settings (facts_in settings.rules log) (reported_as fault)
 can-be-reported settings faults.Read log up = tt
 can-be-reported settings (faults.Ended have) log up = tt
 can-be-reported settings faults.Turns log up = tt

@@ -54,7 +54,7 @@ doubt_at demand before (Some e) = doubt_by before (map (class_of demand) (status
 
 -- the values with which the statuses of a reversal of this row must agree
 abbrev pub reversing : Opening → Booked → Demand
-reversing opening row = Reversal (charge_of opening row.amount) row.trace
+reversing opening row = Reversal (charge_of opening row.amount) row.trace opening.sole
 
 abbrev pub doubt_as : Sent → ℕ → Booked → Doubt → Opening → Option Ended → Doubt
 doubt_as (Register c) place row before opening end = before

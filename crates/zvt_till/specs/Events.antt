@@ -57,7 +57,7 @@ FollowsPiece true log bytes piece next later = (added : List Happening) × Hears
 -- From a log, and the bytes of its line so far, the event leads to this log and these bytes.
 abbrev pub Follows : List Happening → List ℕ → Event → List Happening → List ℕ → Type 0
 Follows log bytes ConnectedEvent next later = (next ≡ log ++ Connected ∷ []) × (later ≡ cond (line_up log) bytes [])
-Follows log bytes (OrderEvent order) next later = (next ≡ log_after_order log order (refusal (facts_in log) order)) × (later ≡ bytes)
+Follows log bytes (OrderEvent order) next later = (next ≡ log_after_order log order (refusal (facts_in strict log) order)) × (later ≡ bytes)
 Follows log bytes (Piece piece) next later = FollowsPiece (line_up log) log bytes piece.items next later
 Follows log bytes LostEvent next later = (next ≡ log ++ Lost ∷ []) × (later ≡ bytes)
 
@@ -74,7 +74,7 @@ IsLogOf events log = (bytes : List ℕ) × Leads [] [] events log bytes
 -- message
 abbrev pub sends : List Happening → Happening → List Outgoing
 sends log Connected = []
-sends log (SentOut o) = elim (order_in o) [ None ↦ [] | Some order ↦ option_to_list (message_of run_settings (entries log) order) ]
+sends log (SentOut o) = elim (order_in o) [ None ↦ [] | Some order ↦ option_to_list (message_of run_settings (entries strict log) order) ]
 sends log (HeardIn m) = option_to_list (reply_to m)
 sends log Malformed = []
 sends log Lost = []

@@ -74,7 +74,7 @@ ends_open ss = fold open_after false ss
 pub record Runs (ss : List Segment) (b : Books) (p : OpenPayment) : Type 0 where
   pub closed : List Segment
   pub answers : List Happening
-  pub is : ss ≡ closed ++ record { opening = record { order = Pay p.amount; currency = p.currency }; answers = answers } ∷ []
+  pub is : ss ≡ closed ++ record { opening = record { order = Pay p.amount; currency = p.currency; sole = None }; answers = answers } ∷ []
   pub earlier : b ≡ books_of closed
   pub unended : end_of answers ≡ None
   pub positive : p.positive ≡ list_any is_positive answers

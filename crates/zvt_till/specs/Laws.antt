@@ -1,5 +1,5 @@
 -- The laws of every payment, every reversal and every book.
-use Rattle.std.specs.Prelude.{◌≡◌, ℕ, ◌⊎◌, true, IsTrue, nat_eq, List, [], ◌∷◌, ◌++◌, Some, None, map}
+use Rattle.std.specs.Prelude.{◌≡◌, ℕ, ◌⊎◌, true, IsTrue, nat_eq, List, [], ◌∷◌, ◌++◌, Option, Some, None, map, slice_get}
 use Rattle.std.specs.List.{list_any, IsDistinct}
 use Rattle.zvt_till.specs.declared.happenings.Happening.{Happening}
 use Rattle.zvt_till.specs.declared.happenings.Sent.TheVariants.{Pay, Reverse}
@@ -7,7 +7,10 @@ use Rattle.zvt_till.specs.declared.entries.Doubt.{Doubt}
 use Rattle.zvt_till.specs.declared.entries.Doubt.TheVariants.{No, Unclear, TakenBack}
 use Rattle.zvt_till.specs.declared.entries.Entry.{Entry}
 use Rattle.zvt_till.specs.declared.outcomes.Cause.{Cause}
-use Rattle.zvt_till.specs.Statuses.{approves, class_of, is_declined}
+use Rattle.zvt_till.specs.declared.messages.StatusFacts.{StatusFacts}
+use Rattle.zvt_till.specs.declared.orders.Order.TheVariants.{Reverse as ReverseOrder}
+use Rattle.zvt_till.specs.Outcomes.{demand_of}
+use Rattle.zvt_till.specs.Statuses.{Demand, Good, approves, class_of, is_absent, is_declined}
 use Rattle.zvt_till.specs.Segments.{Segment, Ended, end_of, statuses}
 use Rattle.zvt_till.specs.Books.{Books, Booked, booked_as, charge_of, judge, is_finished}
 use Rattle.zvt_till.specs.Doubts.{reversing, doubt_after}
@@ -61,13 +64,28 @@ TracesStayDistinct = (settings : Settings) (log : List Happening) → IsDistinct
 abbrev pub with_rules : Rules → Settings → Settings
 with_rules rules settings = record settings { rules = rules }
 
--- a till of other rules can have the same logs, with the same book, marks and unclear payments, and accepts the same
--- orders: the rules only say what an end of day was
+-- If two tills agree on reversals by receipt number, the other rules change nothing but the outcome of an end of day: each
+-- can have the logs of the other, with the same book, marks and unclear payments, and accepts the same orders.
 abbrev pub RulesKeepBooks : Type 0
 RulesKeepBooks =
     (settings : Settings) (rules : Rules) (log : List Happening)
+    → rules.reversal_by_receipt ≡ settings.rules.reversal_by_receipt
     → IsLog settings log
     → IsLog (with_rules rules settings) log × (facts_of (state_after (with_rules rules settings) log) ≡ facts_of (state_after settings log))
+
+-- A status that answers the reversal of an entry and names no payment is no late answer to another order: the rule is
+-- stated, each entry of its amount has another receipt number, and no payment of its amount is unclear.
+abbrev pub NoRepeatReverses : Type 0
+NoRepeatReverses =
+    (rules : Rules) (currency : Option ℕ) (book : List Entry) (unclear : List (ℕ × Cause)) (e : ℕ) (row : Entry) (d : Demand) (s : StatusFacts) (t : Option ℕ)
+    → slice_get book e ≡ Some row
+    → demand_of rules currency book unclear (ReverseOrder e) ≡ Some d
+    → class_of d s ≡ Good t
+    → is_absent s.original ≡ true
+    → (rules.reversal_by_receipt ≡ true)
+    × (s.amount ≡ Some row.amount)
+    × ((i : ℕ) (other : Entry) → slice_get book i ≡ Some other → other.amount ≡ row.amount → other.receipt ≡ s.receipt → ⊥)
+    × ((i : ℕ) (lost : ℕ × Cause) → slice_get unclear i ≡ Some lost → lost.0 ≡ row.amount → ⊥)
 
 -- an entry without its mark
 abbrev pub row_of : Entry → Booked

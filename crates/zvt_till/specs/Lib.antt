@@ -1,6 +1,7 @@
 pub mod Statuses
 pub mod Segments
 pub mod Books
+pub mod ByReceipt
 pub mod Doubts
 pub mod Marks
 pub mod Outcomes

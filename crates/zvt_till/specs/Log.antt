@@ -5,9 +5,10 @@ use Rattle.zvt_till.specs.declared.happenings.Happening.{Happening}
 use Rattle.zvt_till.specs.declared.happenings.Happening.TheVariants.{Connected, Sent as SentOut, Heard as HeardIn, Malformed, Lost}
 use Rattle.zvt_till.specs.declared.happenings.Sent.{Sent}
 use Rattle.zvt_till.specs.declared.happenings.Sent.TheVariants.{Register, Pay, Reverse, CloseDay, Cancel, Foreign}
+use Rattle.zvt_till.specs.declared.settings.Rules.{Rules}
 use Rattle.zvt_till.specs.Segments.{Opening, Segment, Ended, segments, end_of, is_positive, completes}
 use Rattle.zvt_till.specs.Books.{books_of, settled}
-use Rattle.zvt_till.specs.Marks.{entries_of}
+use Rattle.zvt_till.specs.Marks.{entries_of, ruled}
 use Rattle.zvt_till.specs.Refusals.{Facts, Awaited, refusal, sent_as, order_in}
 use Rattle.zvt_till.specs.Sending.{Settings}
 use Rattle.zvt_till.specs.Till.{facts_of, state_after}
@@ -69,9 +70,9 @@ facts_in_segments up ss =
       unclear = settled (books_of ss).unclear;
     }
 
--- the state of a till, in terms of its log
-abbrev pub facts_in : List Happening → Facts
-facts_in log = facts_in_segments (line_up log) (segments log)
+-- the state of a till of these rules, in terms of its log
+abbrev pub facts_in : Rules → List Happening → Facts
+facts_in rules log = facts_in_segments (line_up log) (ruled rules.reversal_by_receipt (segments log))
 
 -- no message arrives on a line that is down, and the till sends an order, one of its own, only if nothing refuses it
 abbrev pub CanFollow : Settings → Facts → Happening → Type 0
@@ -83,7 +84,7 @@ CanFollow settings f Lost = Unit {0}
 
 abbrev pub IsLogFrom : Settings → List Happening → List Happening → Type 0
 IsLogFrom settings log [] = Unit {0}
-IsLogFrom settings log (h ∷ more) = CanFollow settings (facts_in log) h × IsLogFrom settings (log ++ h ∷ []) more
+IsLogFrom settings log (h ∷ more) = CanFollow settings (facts_in settings.rules log) h × IsLogFrom settings (log ++ h ∷ []) more
 
 -- a log that a till of these settings can have
 abbrev pub IsLog : Settings → List Happening → Type 0
@@ -91,4 +92,4 @@ IsLog settings log = IsLogFrom settings [] log
 
 -- the state after the steps has the book, the marks and the unclear payments of the log, and accepts the same orders
 abbrev pub StepsMeetLog : Type 0
-StepsMeetLog = (settings : Settings) (log : List Happening) → IsLog settings log → facts_of (state_after settings log) ≡ facts_in log
+StepsMeetLog = (settings : Settings) (log : List Happening) → IsLog settings log → facts_of (state_after settings log) ≡ facts_in settings.rules log

@@ -12,9 +12,11 @@ use Rattle.zvt_till.specs.declared.statuses.Statuses.TheVariants.{Nothing, Good 
 use Rattle.zvt_till.specs.declared.statuses.Running.{Running}
 use Rattle.zvt_till.specs.declared.entries.Entry.{Entry}
 use Rattle.zvt_till.specs.declared.settings.Rules.{Rules}
+use Rattle.zvt_till.specs.declared.outcomes.Cause.{Cause}
 use Rattle.zvt_till.specs.declared.outcomes.Cause.TheVariants.{NoStatus, Conflict, NoTrace, TraceUsed, AbortAfterApproval, Line, Malformed as MalformedCause, Unfinished}
 use Rattle.zvt_till.specs.declared.outcomes.Outcome.{Outcome}
 use Rattle.zvt_till.specs.declared.outcomes.Outcome.TheVariants.{Registered, Paid, Declined, Refused, Aborted, Unclear, Reversed, DayClosed}
+use Rattle.zvt_till.specs.ByReceipt.{sole_receipt}
 use Rattle.zvt_till.specs.Statuses.{Charge, Demand, Payment, Reversal, Closing, Class, Good, Declining, Doubtful, class_of, same_trace}
 use Rattle.zvt_till.specs.Segments.{is_positive, status_of}
 
@@ -23,12 +25,13 @@ abbrev pub charged : Option ℕ → ℕ → Charge
 charged currency amount = record { amount = amount; currency = currency }
 
 -- the values with which the statuses of an order must agree, by the till's rules; a registration has none
-abbrev pub demand_of : Rules → Option ℕ → List Entry → Order → Option Demand
-demand_of rules currency book RegisterOrder = None
-demand_of rules currency book (PayOrder a) = Some (Payment (charged currency a))
-demand_of rules currency book (ReverseOrder e) = option_map (λ row. Reversal (charged currency row.amount) row.trace) (slice_get book e)
-demand_of rules currency book CloseDayOrder = Some (Closing rules.close_by_completion)
-demand_of rules currency book CancelOrder = None
+abbrev pub demand_of : Rules → Option ℕ → List Entry → List (ℕ × Cause) → Order → Option Demand
+demand_of rules currency book unclear RegisterOrder = None
+demand_of rules currency book unclear (PayOrder a) = Some (Payment (charged currency a))
+demand_of rules currency book unclear (ReverseOrder e) =
+    option_map (λ row. Reversal (charged currency row.amount) row.trace (sole_receipt rules.reversal_by_receipt book unclear row)) (slice_get book e)
+demand_of rules currency book unclear CloseDayOrder = Some (Closing rules.close_by_completion)
+demand_of rules currency book unclear CancelOrder = None
 
 -- one more status
 abbrev pub note_class : Statuses → Class → Option (List ℕ) → Statuses

@@ -41,10 +41,12 @@ force_after force Lost = force
 abbrev pub in_force : List Happening → Option ℕ
 in_force log = fold force_after None log
 
--- an order as it is sent, and the currency in force before it
+-- an order as it is sent, the currency in force before it, and the receipt number of the payment that it reverses if its
+-- statuses may leave that payment unnamed
 pub record Opening : Type 0 where
   pub order : Sent
   pub currency : Option ℕ
+  pub sole : Option (List ℕ)
 
 -- an order, and the events up to the next one
 pub record Segment : Type 0 where
@@ -62,10 +64,10 @@ segments_from force [] = []
 segments_from force (h ∷ rest) =
     elim (begun h) [
       | None ↦ segments_from (force_after force h) rest
-      | Some o ↦ record { opening = record { order = o; currency = force }; answers = up_to_order rest } ∷ segments_from (force_after force h) rest
+      | Some o ↦ record { opening = record { order = o; currency = force; sole = None }; answers = up_to_order rest } ∷ segments_from (force_after force h) rest
     ]
 
--- each order except Cancel begins a segment; the events before the first belong to none
+-- each order except Cancel begins a segment; the events before the first belong to none; a reversal names its payment
 abbrev pub segments : List Happening → List Segment
 segments log = segments_from None log
 

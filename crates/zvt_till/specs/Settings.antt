@@ -6,7 +6,7 @@ use Rattle.zvt_till.specs.declared.settings.TillSettings.{TillSettings}
 
 -- the rules of a shop that has stated no choice
 abbrev pub strict : Rules
-strict = record { close_by_completion = false }
+strict = record { close_by_completion = false; reversal_by_receipt = false }
 
 -- the settings of a till that is made with these
 abbrev pub settings_of : TillSettings → Settings

@@ -1,6 +1,7 @@
 -- The meaning of one status under an order, and the combined meaning of an order's statuses.
 use Rattle.std.specs.Prelude.{ℕ, Bool, true, false, not, cond, ◌&&◌, ◌==◌, List, [], ◌∷◌, Option, Some, None}
 use Rattle.std.specs.List.{list_all, find}
+use Rattle.std.specs.Str.{bytes_eq}
 use Rattle.zvt_bcd.specs.Digits.{is_digit_pair, number_of}
 use Rattle.zvt_till.specs.declared.messages.StatusFacts.{StatusFacts}
 use Rattle.zvt_till.specs.declared.messages.Original.{Original}
@@ -42,6 +43,12 @@ is_in_currency force NoCurrency = true
 is_in_currency force (OneCurrency named) = elim force [ None ↦ true | Some own ↦ named == own ]
 is_in_currency force ManyCurrencies = false
 
+-- no payment is named, and one receipt number is, which differs from this one
+abbrev pub is_by_receipt : Option (List ℕ) → Original → Option (List ℕ) → Bool
+is_by_receipt None original receipt = false
+is_by_receipt (Some own) original None = false
+is_by_receipt (Some own) original (Some other) = is_absent original && list_all is_digit_pair other && not (bytes_eq other own)
+
 -- an approval of the charge under this trace number: result 0, the amount and the trace number each stand once, no other payment is named, and no other currency
 abbrev pub approves : Charge → ℕ → StatusFacts → Bool
 approves charge trace s =
@@ -55,10 +62,10 @@ class_undeclined (Payment charge) s =
     (cond (is_value s.amount charge.amount) (elim s.trace [ None ↦ Doubtful NoTrace | Some t ↦ Good (Some t) ]) (Doubtful AmountDiffers))
     (Doubtful WrongCurrency))
     (Doubtful Conflict)
-class_undeclined (Reversal charge trace) s =
+class_undeclined (Reversal charge trace sole) s =
     cond (is_in_currency charge.currency s.currency)
     (cond (is_value s.amount charge.amount)
-    (cond (names s.original trace) (Good None) (Doubtful NoTrace))
+    (cond (names s.original trace) (Good None) (cond (is_by_receipt sole s.original s.receipt) (Good None) (Doubtful NoTrace)))
     (Doubtful AmountDiffers))
     (Doubtful WrongCurrency)
 class_undeclined (Closing by_completion) s = Good None
@@ -66,7 +73,7 @@ class_undeclined (Closing by_completion) s = Good None
 -- the class of a status that does not name one result: an end of day by completion needs none
 abbrev pub class_unnamed : Demand → StatusFacts → Class
 class_unnamed (Payment charge) s = Doubtful Conflict
-class_unnamed (Reversal charge trace) s = Doubtful Conflict
+class_unnamed (Reversal charge trace sole) s = Doubtful Conflict
 class_unnamed (Closing by_completion) s = cond (by_completion && not s.has_result) (Good None) (Doubtful Conflict)
 
 -- one result other than 0 declines, whatever else the status contains

@@ -87,7 +87,7 @@ abbrev pub meet_running : TillState → Running → Happening → TillState
 meet_running s r h =
     cond (ends r.positive h)
     (finish s r.order (outcome_by s.book r.order r.statuses h))
-    (record s { running = Some (listened (demand_of s.settings.rules (Some s.settings.currency) s.book r.order) r h) })
+    (record s { running = Some (listened (demand_of s.settings.rules (Some s.settings.currency) s.book s.unclear r.order) r h) })
 
 -- the effect of an event on the running order: it ends, or it continues
 abbrev pub meet : TillState → Happening → TillState

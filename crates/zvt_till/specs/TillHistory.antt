@@ -112,4 +112,4 @@ OrdersAreLogged =
     (settings : Settings) (log : List Happening) (taken : List (Order × Result Outcome RunFault)) (old new : TillValue)
     → Stands settings log old.state
     → TakesAll old taken new
-    → (more : List Happening) × Stands settings (log ++ more) new.state × (facts_of new.state ≡ facts_in (log ++ more)) × (sent_in more ≡ sent_by_all settings.currency taken)
+    → (more : List Happening) × Stands settings (log ++ more) new.state × (facts_of new.state ≡ facts_in settings.rules (log ++ more)) × (sent_in more ≡ sent_by_all settings.currency taken)

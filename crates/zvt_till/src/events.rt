@@ -11,6 +11,7 @@ ghost use Rattle.zvt_till.specs.Log.{IsLog, facts_in, line_up};
 ghost use Rattle.zvt_till.specs.Books.{books, settled};
 ghost use Rattle.zvt_till.specs.Doubts.{unclear_reversals};
 ghost use Rattle.zvt_till.specs.Marks.{entries, reversals_left};
+ghost use Rattle.zvt_till.specs.Settings.{strict};
 ghost use Rattle.zvt_grammar.specs.Reading.{shortest};
 ghost use Rattle.zvt_till.specs.Events.{IsTied, HoldsLine, Follows, IsLogOf, run_settings, sent_over, log_after_order};
 ghost use Rattle.zvt_till.specs.Events.{message_out, ReadsPiece};
@@ -102,7 +103,7 @@ impl Run {
         requires { IsTied self.old.log.items self.old.till.state self.old.sent.items }
         ensures tied { OnOk result (IsTied self.new.log.items self.new.till.state self.new.sent.items) }
         ensures log { OnOk result (self.new.log.items ≡ log_after_order self.old.log.items order
-            (refusal (facts_in self.old.log.items) order)) }
+            (refusal (facts_in strict self.old.log.items) order)) }
     {
         let as_sent = sent_as(self.till.currency(), &order);
         match self.till.order(order) {
@@ -233,12 +234,13 @@ pub fn replay(alloc: Global, events: &[Event]) -> Result<Run, AllocError>
     ensures allowed { IfOk result (λ run. IsLog run_settings run.log.items) }
     // The till has the state that the log prescribes,
     ensures state { IfOk result (λ run. run.till.state ≡ state_after run_settings run.log.items) }
-    ensures facts { IfOk result (λ run. facts_of run.till.state ≡ facts_in run.log.items) }
+    ensures facts { IfOk result (λ run. facts_of run.till.state ≡ facts_in strict run.log.items) }
     // with the book, its marks and the unclear payments that the log's complete orders justify.
-    ensures book { IfOk result (λ run. run.till.state.book ≡ entries run.log.items) }
+    ensures book { IfOk result (λ run. run.till.state.book ≡ entries strict run.log.items) }
     ensures unclear { IfOk result (λ run. run.till.state.unclear ≡ settled (books run.log.items).unclear) }
     // Its unclear reversals are exactly those that the log leaves unclear.
-    ensures reversals { IfOk result (λ run. unclear_reversals run.till.state.book ≡ reversals_left run.log.items) }
+    ensures reversals { IfOk result (λ run. unclear_reversals run.till.state.book
+        ≡ reversals_left strict run.log.items) }
     // It sent the accepted orders and the replies, in order, and nothing else.
     ensures sent { IfOk result (λ run. Spelled run.sent.items (sent_over run.log.items) []) }
 {

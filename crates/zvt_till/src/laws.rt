@@ -3,7 +3,7 @@ ghost use Rattle.zvt_till.specs.Log.{StepsMeetLog};
 ghost use Rattle.zvt_till.specs.TillHistory.{RunsAreLogged, FaultsAreLogged, UnsentAreLogged, OrdersAreLogged};
 ghost use Rattle.zvt_till.specs.Cuttings.{LogsAreOne, CuttingsAgree};
 ghost use Rattle.zvt_till.specs.Laws.{NoApprovalDropped, NoReversalDropped, DoubtsStay, TracesStayDistinct};
-ghost use Rattle.zvt_till.specs.Laws.{EntriesStay, RulesKeepBooks};
+ghost use Rattle.zvt_till.specs.Laws.{EntriesStay, NoRepeatReverses, RulesKeepBooks};
 
 /// The state of a till after a log is the state that the log prescribes, judged by whole orders.
 pub fn steps_meet_log()
@@ -35,9 +35,16 @@ pub fn entries_stay()
     ensures { EntriesStay }
 {}
 
-/// The rules of a till change no book, no mark, no unclear payment and no order that it accepts.
+/// If two tills agree on reversals by receipt number, no other rule changes a book, a mark, an unclear payment or an
+/// order that a till accepts.
 pub fn rules_keep_books()
     ensures { RulesKeepBooks }
+{}
+
+/// A status that answers a reversal without naming the payment is no late answer to another order: no other payment of
+/// its amount is booked or unclear, and the entry has another receipt number.
+pub fn no_repeat_reverses()
+    ensures { NoRepeatReverses }
 {}
 
 /// Events have exactly one log.

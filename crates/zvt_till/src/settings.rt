@@ -7,6 +7,10 @@ use zvt_bcd::Currency;
 pub struct Rules {
     /// A completed end of day counts as closed even if its status information has no result code (BMP 27).
     pub close_by_completion: bool,
+    /// A status information that names no payment (BMP 37) answers the reversal of an entry if it has another receipt
+    /// number (BMP 87) than the entry, and no other payment, booked or unclear, has the entry's amount. Journals do not
+    /// name this rule: open one with the rule under which it was written.
+    pub reversal_by_receipt: bool,
 }
 
 impl Rules {
@@ -19,6 +23,7 @@ impl Rules {
     {
         Rules {
             close_by_completion: false,
+            reversal_by_receipt: false,
         }
     }
 }

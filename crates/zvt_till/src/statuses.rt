@@ -2,16 +2,19 @@
 //!
 //! The functions that judge a status are `#[inline(always)]`: an audit calls them for each status.
 ghost use Rattle.std.specs.Prelude.{◌≡◌};
-ghost use Rattle.zvt_till.specs.Statuses.{class_of, class_undeclined, class_unnamed, same_trace};
+ghost use Rattle.std.specs.List.{list_all};
+ghost use Rattle.zvt_bcd.specs.Digits.{is_digit_pair};
+ghost use Rattle.zvt_till.specs.Statuses.{class_of, class_undeclined, class_unnamed, is_by_receipt, same_trace};
+ghost use Rattle.zvt_till.specs.ByReceipt.{count_of, is_sole, has_unclear, sole_receipt};
 ghost use Rattle.zvt_till.specs.Outcomes.{note, note_class, demand_of, listened};
 
 use crate::entries::Entry;
 use crate::happenings::{Happening, is_positive};
-use crate::messages::{Heard, StatusFacts};
+use crate::messages::{Heard, Original, StatusFacts};
 use crate::orders::Order;
 use crate::outcomes::Cause;
 use crate::settings::Rules;
-use zvt_bcd::{Amount, Currency, Trace};
+use zvt_bcd::{Amount, Currency, Trace, is_digits};
 
 /// The amount and currency that a status information must confirm. It may omit the currency.
 #[derive(Clone, Copy)]
@@ -37,7 +40,8 @@ impl Charge {
 #[derive(Clone, Copy)]
 pub enum Demand {
     Payment(Charge),
-    Reversal(Charge, Trace),
+    /// The trace number of the payment, and its receipt number if a status may leave the payment unnamed.
+    Reversal(Charge, Trace, Option<[u8; 2]>),
     /// An end of day, which may be closed by its completion alone.
     Closing(bool),
 }
@@ -76,6 +80,27 @@ fn same_trace(one: &Option<Trace>, other: &Option<Trace>) -> bool
     one == other
 }
 
+/// Returns whether each byte is two digits.
+fn are_digits(bytes: [u8; 2]) -> bool
+    ensures { result ≡ list_all is_digit_pair bytes }
+{
+    is_digits(bytes.as_slice())
+}
+
+/// Returns whether the status names no payment and one receipt number, which is not the payment's own.
+#[inline(always)]
+fn is_by_receipt(sole: &Option<[u8; 2]>, original: &Original, receipt: &Option<[u8; 2]>) -> bool
+    ensures { result ≡ is_by_receipt sole.now original.now receipt.now }
+{
+    let Some(own) = sole else {
+        return false;
+    };
+    let Some(other) = receipt else {
+        return false;
+    };
+    original.is_absent() && are_digits(*other) && *other != *own
+}
+
 /// Returns the class of a status that names one result, which is not a decline.
 #[inline(always)]
 fn class_undeclined(demand: &Demand, status: &StatusFacts) -> Class
@@ -96,12 +121,14 @@ fn class_undeclined(demand: &Demand, status: &StatusFacts) -> Class
                 }
             }
         }
-        Demand::Reversal(charge, trace) => {
+        Demand::Reversal(charge, trace, sole) => {
             if !status.currency.is_in(charge.currency) {
                 Class::Doubtful(Cause::WrongCurrency)
             } else if !charge.is_amount(status.amount) {
                 Class::Doubtful(Cause::AmountDiffers)
-            } else if status.original.names(*trace) {
+            } else if status.original.names(*trace)
+                || is_by_receipt(sole, &status.original, &status.receipt)
+            {
                 Class::Good(None)
             } else {
                 Class::Doubtful(Cause::NoTrace)
@@ -176,15 +203,59 @@ pub(crate) fn note(demand: &Option<Demand>, so_far: Statuses, status: &StatusFac
     }
 }
 
-/// Returns the values with which the order's statuses have to agree, given the rules and the currency in force. A
-/// registration demands nothing.
+/// Returns the number of entries with this amount.
+fn count_of(amount: Amount, book: &[Entry]) -> usize
+    ensures { result ≡ count_of amount book.now }
+{
+    let mut count = 0;
+    'entries: for entry in book {
+        if entry.amount == amount {
+            count += 1;
+        }
+    }
+    count
+}
+
+/// Returns whether an unclear payment has this amount.
+fn has_unclear(amount: Amount, unclear: &[(Amount, Cause)]) -> bool
+    ensures { result ≡ has_unclear amount unclear.now }
+{
+    unclear.iter().any(|row| row.0 == amount)
+}
+
+/// Returns whether one entry has this amount, and no unclear payment does.
+fn is_sole(amount: Amount, book: &[Entry], unclear: &[(Amount, Cause)]) -> bool
+    ensures { result ≡ is_sole amount book.now unclear.now }
+{
+    count_of(amount, book) == 1 && !has_unclear(amount, unclear)
+}
+
+/// Returns the entry's receipt number if the status of its reversal may leave the payment unnamed.
+fn sole_receipt(
+    by_receipt: bool,
+    book: &[Entry],
+    unclear: &[(Amount, Cause)],
+    row: &Entry,
+) -> Option<[u8; 2]>
+    ensures { result ≡ sole_receipt by_receipt book.now unclear.now row.now }
+{
+    if by_receipt && is_sole(row.amount, book, unclear) {
+        row.receipt
+    } else {
+        None
+    }
+}
+
+/// Returns the values with which the order's statuses have to agree, given the rules, the currency in force, and the
+/// booked and unclear payments. A registration demands nothing.
 pub fn demand_of(
     rules: Rules,
     currency: Option<Currency>,
     book: &[Entry],
+    unclear: &[(Amount, Cause)],
     order: &Order,
 ) -> Option<Demand>
-    ensures { result ≡ demand_of rules currency book.now order.now }
+    ensures { result ≡ demand_of rules currency book.now unclear.now order.now }
 {
     match order {
         Order::Register | Order::Cancel => None,
@@ -195,7 +266,8 @@ pub fn demand_of(
         Order::Reverse(entry) => {
             let row = book.get(*entry)?;
             let amount = row.amount;
-            Some(Demand::Reversal(Charge { amount, currency }, row.trace))
+            let sole = sole_receipt(rules.reversal_by_receipt, book, unclear, row);
+            Some(Demand::Reversal(Charge { amount, currency }, row.trace, sole))
         }
         Order::CloseDay => Some(Demand::Closing(rules.close_by_completion)),
     }

@@ -317,7 +317,13 @@ impl Till {
             self.finish(&running.order, &outcome);
             return Some(outcome);
         }
-        let demand = demand_of(self.rules, Some(self.currency), self.book(), &running.order);
+        let demand = demand_of(
+            self.rules,
+            Some(self.currency),
+            self.book(),
+            self.unclear(),
+            &running.order,
+        );
         self.running = Some(listened(&demand, &running, happening));
         self.numbers = self.numbers.with(happening);
         None
