@@ -12,10 +12,11 @@ use thiserror::Error;
 use zvt_apdu::ApduView;
 use zvt_grammar::Why;
 
-/// The replies to one message: at most two messages, 64 bytes in all.
+/// The replies to one message: at most two messages, 260 bytes in all. That is room for an acknowledgement and any message
+/// whose length is one byte.
 #[derive(Drop)]
 pub struct Answers {
-    written: ArrayVec<u8, 64>,
+    written: ArrayVec<u8, 260>,
     messages: u8,
 }
 
@@ -27,7 +28,7 @@ impl Model for Answers {
 
     ghost view = { λ a. record { bytes = a.written.items; count = a.messages } };
 
-    ghost invariant = { λ a. (a.messages ≤ 2) × (length a.written.items ≤ 64)
+    ghost invariant = { λ a. (a.messages ≤ 2) × (length a.written.items ≤ 260)
         × (a.messages ≡ 0 → a.written.items ≡ []) };
 }
 
@@ -45,7 +46,7 @@ impl Answers {
     /// Adds the bytes of one message.
     pub fn add(&mut self, message: &[u8])
         requires few { self.old.count < 2 }
-        requires room { length self.old.bytes + length message.now ≤ 64 }
+        requires room { length self.old.bytes + length message.now ≤ 260 }
         ensures { self.new ≡ record { bytes = self.old.bytes ++ message.now; count = self.old.count + 1 } }
     {
         let _ = self.written.try_extend_from_slice(message);

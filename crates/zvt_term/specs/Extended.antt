@@ -123,7 +123,7 @@ pub record HearsTurn (old : Extended) (turn : Turn) (refunded : Option Refunded)
   pub waits : new.waits ≡ (old.waits || is_delayed old.extras turn.reply)
   pub verdict : new.served.verdict ≡ old.served.verdict
   pub extras : new.extras ≡ old.extras
-  pub says : SaysAll (said_by old.extras turn.reply) answers
+  pub says : SaysAll (said_by old.served.terminal.tid old.extras turn.reply) answers
 
 abbrev pub hears_by : Option Extra → Extended → Message → Answered → Extended → Type 0
 hears_by None old message answers new =
@@ -140,9 +140,9 @@ due_in phase last = last
 abbrev pub status_due : TerminalState → Option Refunded → Option Report
 status_due s last = due_in s.phase (last_report s.ledger last)
 
-abbrev pub said_of : Extras → Option Report → List Message
-said_of extras None = []
-said_of extras (Some report) = message_by extras report ∷ []
+abbrev pub said_of : (tid : ℕ) → Extras → Option Report → List Message
+said_of tid extras None = []
+said_of tid extras (Some report) = message_by tid extras report ∷ []
 
 -- The status that comes after an intermediate status is said.
 pub record Releases (old : Extended) (answers : Answered) (new : Extended) : Type 0 where
@@ -150,7 +150,7 @@ pub record Releases (old : Extended) (answers : Answered) (new : Extended) : Typ
   pub refund : new.refund ≡ old.refund
   pub waits : new.waits ≡ false
   pub extras : new.extras ≡ old.extras
-  pub says : SaysAll (said_of old.extras (status_due old.served.terminal old.refund)) answers
+  pub says : SaysAll (said_of old.served.terminal.tid old.extras (status_due old.served.terminal old.refund)) answers
 
 abbrev pub is_answer : Asked → Bool
 is_answer Answer = true

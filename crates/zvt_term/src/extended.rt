@@ -181,7 +181,7 @@ impl Extended {
         self.served.terminal.make(turn)?;
         self.refund = refund.or(self.refund);
         self.waits = self.waits || is_delayed(&self.extras, &turn.reply);
-        Ok(answers_by(&self.extras, &turn.reply))
+        Ok(answers_by(self.served.terminal.tid(), &self.extras, &turn.reply))
     }
 
     /// Processes an order beyond the profile and returns the replies.
@@ -246,7 +246,11 @@ impl Extended {
         self.waits = false;
         match self.status_due() {
             None => Answers::new(),
-            Some(report) => answers_by(&self.extras, &Response::One(report)),
+            Some(report) => answers_by(
+                self.served.terminal.tid(),
+                &self.extras,
+                &Response::One(report),
+            ),
         }
     }
 }

@@ -86,6 +86,14 @@ impl Terminal {
         self.ledger.as_slice()
     }
 
+    /// Returns the terminal's number.
+    pub(crate) fn tid(&self) -> u32
+        ensures number { result ≡ self.now.tid }
+        ensures most { result ≤ 99999999 }
+    {
+        self.tid
+    }
+
     /// Returns the currency that the terminal keeps.
     pub(crate) fn currency(&self) -> Option<Currency>
         ensures { result ≡ self.now.currency }
