@@ -1,5 +1,5 @@
 -- The terminal that also accepts orders beyond the profile: its replies to them, and its refunds.
-use Rattle.std.specs.Prelude.{◌≡◌, ℕ, ◌+◌, ◌-◌, ◌==◌, ◌&&◌, ◌||◌, Bool, true, false, cond, nat_le, nat_lt, List, [], ◌∷◌, length, Option, Some, None, option_and_then, slice_get}
+use Rattle.std.specs.Prelude.{◌≡◌, ℕ, ◌+◌, ◌-◌, ◌==◌, ◌&&◌, ◌||◌, Bool, true, false, cond, nat_lt, List, [], ◌∷◌, length, Option, Some, None, option_map, slice_get}
 use Rattle.std.specs.Option.{option_or}
 use Rattle.zvt_apdu.specs.Message.{Message}
 use Rattle.zvt_stream.specs.Answered.{Answered}
@@ -61,12 +61,12 @@ report_of_refund refund = Approved refund.amount (refund_number refund.before) r
 
 -- ---- the last transaction
 
--- the status of a row; a number has four digits
-abbrev pub report_of_row : Row → Option Report
+-- the status of a row
+abbrev pub report_of_row : Row → Report
 report_of_row row =
     elim row.reverses [
-      | None ↦ Some (Approved row.amount row.number row.currency)
-      | Some original ↦ cond (nat_le original most_rows) (Some (TakenBack row.amount row.number original row.currency)) None
+      | None ↦ Approved row.amount row.number row.currency
+      | Some original ↦ TakenBack row.amount row.number original row.currency
     ]
 
 abbrev pub last_row : List Row → Option Row
@@ -74,8 +74,8 @@ last_row rows = slice_get rows (length rows - 1)
 
 -- the status of the last row of the ledger, or of the last refund if no row came after it
 abbrev pub last_report : List Row → Option Refunded → Option Report
-last_report rows None = option_and_then report_of_row (last_row rows)
-last_report rows (Some refund) = cond (refund.rows == length rows) (Some (report_of_refund refund)) (option_and_then report_of_row (last_row rows))
+last_report rows None = option_map report_of_row (last_row rows)
+last_report rows (Some refund) = cond (refund.rows == length rows) (Some (report_of_refund refund)) (option_map report_of_row (last_row rows))
 
 -- ---- turns
 
