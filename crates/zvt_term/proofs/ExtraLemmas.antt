@@ -16,7 +16,7 @@ use Rattle.zvt_term.specs.Extended.{extra_turn, last_report, logs_off, new_refun
 use Rattle.zvt_term.specs.Ledger.{NumberedFrom, IsBefore, ReverseEarlier}
 use Rattle.zvt_term.specs.Reports.{IsWritable}
 use Rattle.zvt_term.specs.Steps.{AreWritable, IsNext}
-use Rattle.zvt_term.specs.Terminal.{TerminalState, most_rows, is_ready, runs, when, after, reports_of}
+use Rattle.zvt_term.specs.Terminal.{TerminalState, is_ready, runs, when, after, reports_of}
 use Rattle.zvt_term.proofs.TurnLemmas.{AllShort, Short, Sound, goes_on-sound, numbered-short, turn-sound}
 
 -- ---- no row

@@ -1,5 +1,5 @@
 -- The status that a terminal withholds is the status that is due.
-use Rattle.std.proofs.Common.{◌≡◌, ◌∙◌, ℕ, zero, suc, ◌+◌, ◌-◌, ◌<◌, ◌≤◌, ◌==◌, ◌&&◌, ◌||◌, Bool, true, false, cond, is_some, nat_lt, List, [], ◌∷◌, ◌++◌, length, Option, Some, None, option_map, option_to_list, slice_get, ap, refl, sym, subst, arith, length-append, append-nil}
+use Rattle.std.proofs.Common.{◌≡◌, ◌∙◌, ℕ, ◌+◌, ◌-◌, ◌≤◌, ◌==◌, ◌&&◌, ◌||◌, Bool, true, false, cond, is_some, nat_lt, List, [], ◌∷◌, ◌++◌, length, Option, Some, None, option_map, option_to_list, slice_get, ap, refl, sym, subst, arith, length-append, append-nil}
 use Rattle.std.proofs.lemmas.Bool.{cond-true, eq-eqb, eqb-true}
 use Rattle.std.specs.Option.{option_or}
 use Rattle.zvt_apdu.specs.Message.{Message}
@@ -8,7 +8,7 @@ use Rattle.zvt_till.specs.declared.messages.CurrencyFact.{CurrencyFact}
 use Rattle.zvt_term.specs.declared.messages.Asked.{Asked}
 use Rattle.zvt_term.specs.declared.messages.Asked.TheVariants.{Registration, Authorisation, Reversal, EndOfDay, AbortOrder, Answer, Unknown}
 use Rattle.zvt_term.specs.declared.messages.Report.{Report}
-use Rattle.zvt_term.specs.declared.messages.Report.TheVariants.{Ack, Nack, Registered, Approved, Result, TakenBack, Line, Done, Aborted}
+use Rattle.zvt_term.specs.declared.messages.Report.TheVariants.{Ack, Nack, Registered, Approved, Result, TakenBack, Done, Aborted}
 use Rattle.zvt_term.specs.declared.messages.Response.{Response}
 use Rattle.zvt_term.specs.declared.messages.Response.TheVariants.{Nothing, One, Two}
 use Rattle.zvt_term.specs.declared.ledger.Row.{Row}
@@ -28,7 +28,7 @@ use Rattle.zvt_term.specs.Asking.{asked_as}
 use Rattle.zvt_term.specs.Dressing.{is_ack, is_delayed, is_status}
 use Rattle.zvt_term.specs.Extended.{ExtendedLoses, HearsTurn, Releases, count_refunds, extended_hears, extra_turn, heard_extra, hears_by, hears_or_releases, is_answer, last_report, last_row, logs_off, new_extended, new_refund, next_phase, pays_back, profile_turn, refund_by, repeats, report_of_refund, report_of_row, status_due}
 use Rattle.zvt_term.specs.Ledger.{approval_by, is_taken_back}
-use Rattle.zvt_term.specs.Terminal.{TerminalState, aborts, after, authorises, closes, decides, goes_on, has_capacity, is_idle, is_ready, most_rows, next_number, refuses, registers, reverses, reverses_found, runs, stays, takes_back_row, takes_currency, turn_of, when, writes}
+use Rattle.zvt_term.specs.Terminal.{TerminalState, aborts, after, authorises, closes, decides, goes_on, has_capacity, is_idle, is_ready, most_rows, next_number, refuses, registers, reverses, reverses_found, runs, stays, takes_back_row, takes_currency, when}
 use Rattle.zvt_term.specs.Withheld.{Lives, WithheldIsDue, turn_by, turn_on, withheld_after, withheld_by}
 use Rattle.zvt_term.proofs.TurnLemmas.{taken_back}
 

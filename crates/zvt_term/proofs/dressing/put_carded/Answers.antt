@@ -1,4 +1,4 @@
-use Rattle.std.proofs.Common.{◌≡◌, ◌∙◌, ◌+◌, ◌-◌, ◌≤◌, ◌∷◌, [], ◌++◌, ℕ, List, length, drop, take, ap, arith, sym, subst, length-append, length-drop}
+use Rattle.std.proofs.Common.{◌≡◌, ◌∙◌, ◌+◌, ◌-◌, ◌≤◌, ◌∷◌, ◌++◌, ℕ, List, length, drop, take, ap, arith, sym, subst, length-append, length-drop}
 use Rattle.zvt_grammar.specs.Reading.{shortest}
 use Rattle.zvt_tlv.proofs.Writing.{PutAll, puts_after}
 use Rattle.zvt_apdu.specs.Grammar.{Data}
