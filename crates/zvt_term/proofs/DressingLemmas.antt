@@ -10,15 +10,16 @@ use Rattle.zvt_tlv.specs.Sizes.{Puts}
 use Rattle.zvt_field.specs.Grammar.{Field, plain, tree, FieldOf, FieldList, IsHead}
 use Rattle.zvt_field.specs.Shapes.{shape_of}
 use Rattle.zvt_field.specs.declared.shapes.Shape.{Shape}
-use Rattle.zvt_field.specs.declared.shapes.Shape.TheVariants.{Fixed, Ll, Tree}
+use Rattle.zvt_field.specs.declared.shapes.Shape.TheVariants.{Fixed, Ll, Lll, Tree}
 use Rattle.zvt_field.proofs.FieldLists.{list_joined}
 use Rattle.zvt_apdu.specs.Message.{Message, status, print_line, intermediate}
 use Rattle.zvt_apdu.specs.Grammar.{Data, IsFrameLength, Spells}
 use Rattle.zvt_apdu.specs.Briefs.{PutsMessage}
 use Rattle.zvt_term.specs.declared.cards.Card.{Card}
 use Rattle.zvt_term.specs.declared.cards.Card.TheVariants.{Girocard, Visa}
-use Rattle.zvt_term.specs.Dressing.{block, card_fields}
-use Rattle.zvt_term.proofs.SpellingLemmas.{fixed_field}
+use Rattle.zvt_apdu.specs.Briefs.{digits}
+use Rattle.zvt_term.specs.Dressing.{authorised_fields, block, card_fields, fields_at}
+use Rattle.zvt_term.proofs.SpellingLemmas.{fixed_field, four_more, terminal_listed}
 
 -- ---- cards
 
@@ -79,32 +80,177 @@ card_listed pan name size tail more payment kind eight digits p k count letters 
     let eights : IsCount 2 (length pan) (0xF0 ∷ 0xF8 ∷ []) = (refl, (omega arith, omega arith, (omega arith, omega arith, tt)), sym eight) in
     (0x22 ∷ 0xF0 ∷ 0xF8 ∷ pan, 0x19 ∷ payment ∷ 0x8A ∷ kind ∷ after, refl, ll_field 0x22 (0xF0 ∷ 0xF8 ∷ []) pan pan_shape eights digits, paid)
 
-network_listed : FieldList shortest (plain 0x8C (0x01 ∷ []) ∷ []) (0x8C ∷ 0x01 ∷ [])
-network_listed = (0x8C ∷ 0x01 ∷ [], [], refl, fixed_field 0x8C 1 (0x01 ∷ []) network_shape refl (omega arith, tt), refl)
+contract_shape : shape_of 0x2A ≡ Some (Fixed 15)
+unfolding shape_of
+contract_shape = refl
 
-dated_listed : FieldList shortest (plain 0x0E (0x28 ∷ 0x12 ∷ []) ∷ plain 0x17 (0x00 ∷ 0x01 ∷ []) ∷ []) (0x0E ∷ 0x28 ∷ 0x12 ∷ 0x17 ∷ 0x00 ∷ 0x01 ∷ [])
-dated_listed =
-    let counted : FieldList shortest (plain 0x17 (0x00 ∷ 0x01 ∷ []) ∷ []) (0x17 ∷ 0x00 ∷ 0x01 ∷ []) =
-    (0x17 ∷ 0x00 ∷ 0x01 ∷ [], [], refl, fixed_field 0x17 2 (0x00 ∷ 0x01 ∷ []) sequence_shape refl (omega arith, (omega arith, tt)), refl) in
-    (0x0E ∷ 0x28 ∷ 0x12 ∷ [], 0x17 ∷ 0x00 ∷ 0x01 ∷ [], refl, fixed_field 0x0E 2 (0x28 ∷ 0x12 ∷ []) expiry_shape refl (omega arith, (omega arith, tt)), counted)
+attribute_shape : shape_of 0x3B ≡ Some (Fixed 8)
+unfolding shape_of
+attribute_shape = refl
+
+text_shape : shape_of 0x3C ≡ Some Lll
+unfolding shape_of
+text_shape = refl
+
+-- the container of an application of at most 16 bytes
+abbrev application_bytes : (kind : ℕ) → (application : List ℕ) → List ℕ
+application_bytes kind application =
+    0x06 ∷ (length application + 10) ∷ 0x41 ∷ 1 ∷ kind ∷ 0x45 ∷ 1 ∷ 0 ∷ 0x60 ∷ (length application + 2) ∷ 0x43 ∷ length application ∷ application
+
+container_listed : (kind : ℕ) (application : List ℕ) → kind < 256 → AreBytes application → length application ≤ 16
+    → FieldOf shortest (tree 0x06 (primitive (0x41 ∷ []) (kind ∷ []) (primitive (0x45 ∷ []) (0 ∷ []) (constructed (0x60 ∷ []) (primitive (0x43 ∷ []) application none) none)))) (application_bytes kind application)
+container_listed kind application small are few =
+    let named : List ℕ = 0x43 ∷ length application ∷ application in
+    let applied : List ℕ = 0x60 ∷ (length application + 2) ∷ named in
+    let limited : List ℕ = 0x45 ∷ 1 ∷ 0 ∷ applied in
+    let ids : objects.Spells shortest 2 (primitive (0x43 ∷ []) application none) named =
+    record {
+      size = length application ∷ [];
+      content = application;
+      after = [];
+      whole = ap (λ (s : List ℕ). 0x43 ∷ length application ∷ s) (sym (append-nil application));
+      is_tag = (omega arith, refl);
+      is_kind = refl;
+      is_length = (omega (arith, few), refl);
+      inside = (refl, are);
+      others = refl;
+    } in
+    let applications : objects.Spells shortest 1 (constructed (0x60 ∷ []) (primitive (0x43 ∷ []) application none) none) applied =
+    record {
+      size = (length application + 2) ∷ [];
+      content = named;
+      after = [];
+      whole = ap (λ (s : List ℕ). 0x60 ∷ (length application + 2) ∷ s) (sym (append-nil named));
+      is_tag = (omega arith, refl);
+      is_kind = refl;
+      is_length = (omega (arith, few), omega arith);
+      inside = (omega arith, ids);
+      others = refl;
+    } in
+    let parameters : objects.Spells shortest 1 (primitive (0x45 ∷ []) (0 ∷ []) (constructed (0x60 ∷ []) (primitive (0x43 ∷ []) application none) none)) limited =
+    record {
+      size = 1 ∷ [];
+      content = 0 ∷ [];
+      after = applied;
+      whole = refl;
+      is_tag = (omega arith, refl);
+      is_kind = refl;
+      is_length = (omega arith, refl);
+      inside = (refl, (omega arith, tt));
+      others = applications;
+    } in
+    record {
+      one = (length application + 10) ∷ 0x41 ∷ 1 ∷ kind ∷ limited;
+      whole = refl;
+      is_tree = container_shape;
+      sized =
+          record {
+            size = (length application + 10) ∷ [];
+            content = 0x41 ∷ 1 ∷ kind ∷ limited;
+            whole = refl;
+            is_length = (omega (arith, few), omega arith);
+            inside =
+                record {
+                  size = 1 ∷ [];
+                  content = kind ∷ [];
+                  after = limited;
+                  whole = refl;
+                  is_tag = (omega arith, refl);
+                  is_kind = refl;
+                  is_length = (omega arith, refl);
+                  inside = (refl, (small, tt));
+                  others = parameters;
+                };
+          };
+    }
+
+lll_field : (bmp : ℕ) (size content : List ℕ) → shape_of bmp ≡ Some Lll → IsCount 3 (length content) size → AreBytes content → FieldOf shortest (plain bmp content) (bmp ∷ (size ++ content))
+lll_field bmp size content shape count are =
+    record {
+      digits = false;
+      size = size;
+      whole = refl;
+      is_head = subst (λ (o : Option Shape). IsHead o false (length content) size) (sym shape) (refl, count);
+      is_content = are;
+    }
+
+-- the fields of any card at the end
+abbrev authorised_bytes : (kind : ℕ) → (application : List ℕ) → List ℕ
+authorised_bytes kind application =
+    0x2A ∷ 0x31 ∷ 0x32 ∷ 0x33 ∷ 0x34 ∷ 0x35 ∷ 0x36 ∷ 0x37 ∷ 0x38 ∷ 0x39 ∷ 0x30 ∷ 0x31 ∷ 0x32 ∷ 0x33 ∷ 0x34 ∷ 0x35
+    ∷ 0x3B ∷ 0x31 ∷ 0x32 ∷ 0x33 ∷ 0x34 ∷ 0x35 ∷ 0x36 ∷ 0x00 ∷ 0x00
+    ∷ 0x3C ∷ 0xF0 ∷ 0xF0 ∷ 0xF8 ∷ 0x41 ∷ 0x50 ∷ 0x50 ∷ 0x52 ∷ 0x4F ∷ 0x56 ∷ 0x45 ∷ 0x44
+    ∷ application_bytes kind application
+
+authorised_listed : (kind : ℕ) (application : List ℕ) → kind < 256 → AreBytes application → length application ≤ 16 → FieldList shortest (authorised_fields kind application) (authorised_bytes kind application)
+authorised_listed kind application small are few =
+    let container : List ℕ = application_bytes kind application in
+    let contained : FieldList shortest (tree 0x06 (primitive (0x41 ∷ []) (kind ∷ []) (primitive (0x45 ∷ []) (0 ∷ []) (constructed (0x60 ∷ []) (primitive (0x43 ∷ []) application none) none))) ∷ []) container =
+    (container, [], sym (append-nil container), container_listed kind application small are few, refl) in
+    let texted : FieldList shortest (plain 0x3C (codes "APPROVED") ∷ tree 0x06 (primitive (0x41 ∷ []) (kind ∷ []) (primitive (0x45 ∷ []) (0 ∷ []) (constructed (0x60 ∷ []) (primitive (0x43 ∷ []) application none) none))) ∷ []) (0x3C ∷ 0xF0 ∷ 0xF0 ∷ 0xF8 ∷ (codes "APPROVED" ++ container)) = (
+      0x3C ∷ 0xF0 ∷ 0xF0 ∷ 0xF8 ∷ codes "APPROVED",
+      container,
+      refl,
+      lll_field 0x3C (0xF0 ∷ 0xF0 ∷ 0xF8 ∷ []) (codes "APPROVED") text_shape (refl, (omega arith, omega arith, (omega arith, omega arith, (omega arith, omega arith, tt))), refl)
+          (omega arith, (omega arith, (omega arith, (omega arith, (omega arith, (omega arith, (omega arith, (omega arith, tt)))))))),
+      contained,
+    ) in
+    let attributed : FieldList shortest (plain 0x3B (codes "123456" ++ 0 ∷ 0 ∷ []) ∷ plain 0x3C (codes "APPROVED") ∷ tree 0x06 (primitive (0x41 ∷ []) (kind ∷ []) (primitive (0x45 ∷ []) (0 ∷ []) (constructed (0x60 ∷ []) (primitive (0x43 ∷ []) application none) none))) ∷ []) (0x3B ∷ (codes "123456" ++ 0 ∷ 0 ∷ 0x3C ∷ 0xF0 ∷ 0xF0 ∷ 0xF8 ∷ (codes "APPROVED" ++ container))) = (
+      0x3B ∷ (codes "123456" ++ 0 ∷ 0 ∷ []),
+      0x3C ∷ 0xF0 ∷ 0xF0 ∷ 0xF8 ∷ (codes "APPROVED" ++ container),
+      refl,
+      fixed_field 0x3B 8 (codes "123456" ++ 0 ∷ 0 ∷ []) attribute_shape refl
+          (omega arith, (omega arith, (omega arith, (omega arith, (omega arith, (omega arith, (omega arith, (omega arith, tt)))))))),
+      texted,
+    ) in (
+      0x2A ∷ codes "123456789012345",
+      0x3B ∷ (codes "123456" ++ 0 ∷ 0 ∷ 0x3C ∷ 0xF0 ∷ 0xF0 ∷ 0xF8 ∷ (codes "APPROVED" ++ container)),
+      refl,
+      fixed_field 0x2A 15 (codes "123456789012345") contract_shape refl
+          (omega arith, (omega arith, (omega arith, (omega arith, (omega arith, (omega arith, (omega arith, (omega arith, (omega arith, (omega arith, (omega arith, (omega arith, (omega arith, (omega arith, (omega arith, tt))))))))))))))),
+      attributed,
+    )
+
+network_listed : (more : List Field) (tail : List ℕ) → FieldList shortest more tail → FieldList shortest (plain 0x8C (0x01 ∷ []) ∷ more) (0x8C ∷ 0x01 ∷ tail)
+network_listed more tail rest = (0x8C ∷ 0x01 ∷ [], tail, refl, fixed_field 0x8C 1 (0x01 ∷ []) network_shape refl (omega arith, tt), rest)
+
+dated_listed : (more : List Field) (tail : List ℕ) → FieldList shortest more tail
+    → FieldList shortest (plain 0x0E (0x28 ∷ 0x12 ∷ []) ∷ plain 0x17 (0x00 ∷ 0x01 ∷ []) ∷ more) (0x0E ∷ 0x28 ∷ 0x12 ∷ 0x17 ∷ 0x00 ∷ 0x01 ∷ tail)
+dated_listed more tail rest =
+    let counted : FieldList shortest (plain 0x17 (0x00 ∷ 0x01 ∷ []) ∷ more) (0x17 ∷ 0x00 ∷ 0x01 ∷ tail) =
+    (0x17 ∷ 0x00 ∷ 0x01 ∷ [], tail, refl, fixed_field 0x17 2 (0x00 ∷ 0x01 ∷ []) sequence_shape refl (omega arith, (omega arith, tt)), rest) in
+    (0x0E ∷ 0x28 ∷ 0x12 ∷ [], 0x17 ∷ 0x00 ∷ 0x01 ∷ tail, refl, fixed_field 0x0E 2 (0x28 ∷ 0x12 ∷ []) expiry_shape refl (omega arith, (omega arith, tt)), counted)
 
 pub girocard_listed : FieldList shortest (card_fields Girocard)
-    (0x22 ∷ 0xF0 ∷ 0xF8 ∷ 0x67 ∷ 0x26 ∷ 0xEE ∷ 0xEE ∷ 0xEE ∷ 0xEE ∷ 0x12 ∷ 0x34 ∷ 0x19 ∷ 0x70 ∷ 0x8A ∷ 0x05 ∷ 0x8B ∷ 0xF0 ∷ 0xF9 ∷ 103 ∷ 105 ∷ 114 ∷ 111 ∷ 99 ∷ 97 ∷ 114 ∷ 100 ∷ 0 ∷ 0x8C ∷ 0x01 ∷ [])
+    (0x22 ∷ 0xF0 ∷ 0xF8 ∷ 0x67 ∷ 0x26 ∷ 0xEE ∷ 0xEE ∷ 0xEE ∷ 0xEE ∷ 0x12 ∷ 0x34 ∷ 0x19 ∷ 0x70 ∷ 0x8A ∷ 0x05 ∷ 0x8B ∷ 0xF0 ∷ 0xF9 ∷ 103 ∷ 105 ∷ 114 ∷ 111 ∷ 99 ∷ 97 ∷ 114 ∷ 100 ∷ 0 ∷ 0x8C ∷ 0x01
+    ∷ authorised_bytes 0x05 (0xA0 ∷ 0x00 ∷ 0x00 ∷ 0x03 ∷ 0x59 ∷ 0x10 ∷ 0x10 ∷ 0x02 ∷ 0x80 ∷ 0x01 ∷ []))
 girocard_listed =
-    card_listed (0x67 ∷ 0x26 ∷ 0xEE ∷ 0xEE ∷ 0xEE ∷ 0xEE ∷ 0x12 ∷ 0x34 ∷ []) (codes "girocard" ++ 0 ∷ []) (0xF0 ∷ 0xF9 ∷ []) (0x8C ∷ 0x01 ∷ []) (plain 0x8C (0x01 ∷ []) ∷ []) 0x70 0x05 refl
+    let app : List ℕ = 0xA0 ∷ 0x00 ∷ 0x00 ∷ 0x03 ∷ 0x59 ∷ 0x10 ∷ 0x10 ∷ 0x02 ∷ 0x80 ∷ 0x01 ∷ [] in
+    card_listed (0x67 ∷ 0x26 ∷ 0xEE ∷ 0xEE ∷ 0xEE ∷ 0xEE ∷ 0x12 ∷ 0x34 ∷ []) (codes "girocard" ++ 0 ∷ []) (0xF0 ∷ 0xF9 ∷ []) (0x8C ∷ 0x01 ∷ authorised_bytes 0x05 app) (plain 0x8C (0x01 ∷ []) ∷ authorised_fields 0x05 app) 0x70 0x05 refl
     (omega arith, (omega arith, (omega arith, (omega arith, (omega arith, (omega arith, (omega arith, (omega arith, tt))))))))
     (omega arith) (omega arith)
     (refl, (omega arith, omega arith, (omega arith, omega arith, tt)), refl)
-    (omega arith, (omega arith, (omega arith, (omega arith, (omega arith, (omega arith, (omega arith, (omega arith, (omega arith, tt))))))))) network_listed
+    (omega arith, (omega arith, (omega arith, (omega arith, (omega arith, (omega arith, (omega arith, (omega arith, (omega arith, tt)))))))))
+    (network_listed (authorised_fields 0x05 app) (authorised_bytes 0x05 app) (authorised_listed 0x05 app (omega arith)
+    (omega arith, (omega arith, (omega arith, (omega arith, (omega arith, (omega arith, (omega arith, (omega arith, (omega arith, (omega arith, tt)))))))))) (omega arith)))
 
 pub visa_listed : FieldList shortest (card_fields Visa)
-    (0x22 ∷ 0xF0 ∷ 0xF8 ∷ 0x40 ∷ 0x00 ∷ 0xEE ∷ 0xEE ∷ 0xEE ∷ 0xEE ∷ 0x00 ∷ 0x02 ∷ 0x19 ∷ 0x60 ∷ 0x8A ∷ 0x0A ∷ 0x8B ∷ 0xF0 ∷ 0xF5 ∷ 86 ∷ 105 ∷ 115 ∷ 97 ∷ 0 ∷ 0x0E ∷ 0x28 ∷ 0x12 ∷ 0x17 ∷ 0x00 ∷ 0x01 ∷ [])
+    (0x22 ∷ 0xF0 ∷ 0xF8 ∷ 0x40 ∷ 0x00 ∷ 0xEE ∷ 0xEE ∷ 0xEE ∷ 0xEE ∷ 0x00 ∷ 0x02 ∷ 0x19 ∷ 0x60 ∷ 0x8A ∷ 0x0A ∷ 0x8B ∷ 0xF0 ∷ 0xF5 ∷ 86 ∷ 105 ∷ 115 ∷ 97 ∷ 0 ∷ 0x0E ∷ 0x28 ∷ 0x12 ∷ 0x17 ∷ 0x00 ∷ 0x01
+    ∷ authorised_bytes 0x0A (0xA0 ∷ 0x00 ∷ 0x00 ∷ 0x00 ∷ 0x03 ∷ 0x10 ∷ 0x10 ∷ []))
 visa_listed =
-    card_listed (0x40 ∷ 0x00 ∷ 0xEE ∷ 0xEE ∷ 0xEE ∷ 0xEE ∷ 0x00 ∷ 0x02 ∷ []) (codes "Visa" ++ 0 ∷ []) (0xF0 ∷ 0xF5 ∷ []) (0x0E ∷ 0x28 ∷ 0x12 ∷ 0x17 ∷ 0x00 ∷ 0x01 ∷ []) (plain 0x0E (0x28 ∷ 0x12 ∷ []) ∷ plain 0x17 (0x00 ∷ 0x01 ∷ []) ∷ []) 0x60 0x0A refl
+    let app : List ℕ = 0xA0 ∷ 0x00 ∷ 0x00 ∷ 0x00 ∷ 0x03 ∷ 0x10 ∷ 0x10 ∷ [] in
+    card_listed (0x40 ∷ 0x00 ∷ 0xEE ∷ 0xEE ∷ 0xEE ∷ 0xEE ∷ 0x00 ∷ 0x02 ∷ []) (codes "Visa" ++ 0 ∷ []) (0xF0 ∷ 0xF5 ∷ []) (0x0E ∷ 0x28 ∷ 0x12 ∷ 0x17 ∷ 0x00 ∷ 0x01 ∷ authorised_bytes 0x0A app) (plain 0x0E (0x28 ∷ 0x12 ∷ []) ∷ plain 0x17 (0x00 ∷ 0x01 ∷ []) ∷ authorised_fields 0x0A app) 0x60 0x0A refl
     (omega arith, (omega arith, (omega arith, (omega arith, (omega arith, (omega arith, (omega arith, (omega arith, tt))))))))
     (omega arith) (omega arith)
     (refl, (omega arith, omega arith, (omega arith, omega arith, tt)), refl)
-    (omega arith, (omega arith, (omega arith, (omega arith, (omega arith, tt))))) dated_listed
+    (omega arith, (omega arith, (omega arith, (omega arith, (omega arith, tt)))))
+    (dated_listed (authorised_fields 0x0A app) (authorised_bytes 0x0A app) (authorised_listed 0x0A app (omega arith)
+    (omega arith, (omega arith, (omega arith, (omega arith, (omega arith, (omega arith, (omega arith, tt))))))) (omega arith)))
+
+-- the number of the terminal, and then the fields of the card
+pub numbered_listed : (tid : ℕ) (card : Card) (four more : List ℕ) → four ≡ digits 4 tid → tid ≤ 99999999 → FieldList shortest (card_fields card) more
+    → FieldList shortest (fields_at tid card) (0x29 ∷ four_more four more)
+numbered_listed tid card four more is few listed = terminal_listed tid four more (card_fields card) is few listed
 
 -- ---- messages with a length of one byte
 
@@ -138,10 +284,10 @@ status_framed fields bytes h few = subst (λ (c : List ℕ). Framed (status fiel
 pub line_framed : (text bytes : List ℕ) → Spells shortest (print_line 0 text) bytes → length bytes ≤ 32 → Framed (print_line 0 text) (0x06 ∷ 0xD1 ∷ []) bytes
 line_framed text bytes h few = subst (λ (c : List ℕ). Framed (print_line 0 text) c bytes) h.is_control (framed (print_line 0 text) bytes h few)
 
--- a status and the fields of a card
-pub carded_spelled : (fields : List Field) (card : Card) (content more : List ℕ) → Data shortest (status fields) content → FieldList shortest (card_fields card) more → length content + length more ≤ 200
-    → Spells shortest (status (fields ++ card_fields card)) (0x04 ∷ 0x0F ∷ length (content ++ more) ∷ (content ++ more))
-carded_spelled fields card content more f listed few =
+-- a status and more fields
+pub carded_spelled : (fields after : List Field) (content more : List ℕ) → Data shortest (status fields) content → FieldList shortest after more → length content + length more ≤ 200
+    → Spells shortest (status (fields ++ after)) (0x04 ∷ 0x0F ∷ length (content ++ more) ∷ (content ++ more))
+carded_spelled fields after content more f listed few =
     record {
       control = 0x04 ∷ 0x0F ∷ [];
       size = length (content ++ more) ∷ [];
@@ -154,7 +300,7 @@ carded_spelled fields card content more f listed few =
         refl,
         refl,
         tt,
-        list_joined shortest fields (card_fields card) content more (subst (λ (s : List ℕ). FieldList shortest fields s) (sym f.1) f.4) listed,
+        list_joined shortest fields after content more (subst (λ (s : List ℕ). FieldList shortest fields s) (sym f.1) f.4) listed,
       );
     }
 

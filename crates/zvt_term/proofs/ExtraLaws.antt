@@ -1,5 +1,5 @@
 -- The laws of orders beyond the profile.
-use Rattle.std.proofs.Common.{◌≡◌, ◌∙◌, ◌++◌, ◌∷◌, ◌&&◌, ◌||◌, Bool, true, false, cond, List, [], Option, Some, None, length, map, ap, refl, sym, subst, append-nil}
+use Rattle.std.proofs.Common.{◌≡◌, ℕ, ◌∙◌, ◌++◌, ◌∷◌, ◌&&◌, ◌||◌, Bool, true, false, cond, List, [], Option, Some, None, length, map, ap, refl, sym, subst, append-nil}
 use Rattle.std.proofs.lemmas.List.{length-map}
 use Rattle.zvt_apdu.specs.Message.{Message, ack, nack, registration, authorisation, reversal, end_of_day, abort_order, status, intermediate, print_line, text_block, completion, abort, other}
 use Rattle.zvt_stream.specs.Answered.{Answered}
@@ -39,36 +39,36 @@ plain_turn s AbortOrder v = refl
 plain_turn s Answer v = refl
 plain_turn s Unknown v = refl
 
-plain_message : (report : Report) → message_by no_extras report ≡ message_of_report report
-plain_message Ack = refl
-plain_message (Nack code) = refl
-plain_message (Registered tid currency) = refl
-plain_message (Approved amount number currency) = refl
-plain_message (Result code) = refl
-plain_message (TakenBack amount number original currency) = refl
-plain_message (Line line) = refl
-plain_message Done = refl
-plain_message (Aborted code) = refl
+plain_message : (tid : ℕ) (report : Report) → message_by tid no_extras report ≡ message_of_report report
+plain_message tid Ack = refl
+plain_message tid (Nack code) = refl
+plain_message own (Registered tid currency) = refl
+plain_message tid (Approved amount number currency) = refl
+plain_message tid (Result code) = refl
+plain_message tid (TakenBack amount number original currency) = refl
+plain_message tid (Line line) = refl
+plain_message tid Done = refl
+plain_message tid (Aborted code) = refl
 
 either_way : (b : Bool) (m n : Message) → m ≡ n → cond b m n ≡ n
 either_way true m n e = e
 either_way false m n e = refl
 
-plain_said : (reply : Response) → said_by no_extras reply ≡ map message_of_report (reports_of reply)
-plain_said Nothing = refl
-plain_said (One report) = ap (λ (m : Message). m ∷ []) (plain_message report)
-plain_said (Two first second) = ap (λ (m : Message). message_of_report first ∷ m ∷ []) (either_way (is_ack first) (message_by no_extras second) (message_of_report second) (plain_message second))
+plain_said : (tid : ℕ) (reply : Response) → said_by tid no_extras reply ≡ map message_of_report (reports_of reply)
+plain_said tid Nothing = refl
+plain_said tid (One report) = ap (λ (m : Message). m ∷ []) (plain_message tid report)
+plain_said tid (Two first second) = ap (λ (m : Message). message_of_report first ∷ m ∷ []) (either_way (is_ack first) (message_by tid no_extras second) (message_of_report second) (plain_message tid second))
 
 plain_prompt : (reply : Response) → is_delayed no_extras reply ≡ false
 plain_prompt Nothing = refl
 plain_prompt (One report) = refl
 plain_prompt (Two first second) = refl
 
-says_reports : (reply : Response) (answers : Answered) → SaysAll (said_by no_extras reply) answers → Says (reports_of reply) answers
-says_reports reply answers h =
+says_reports : (tid : ℕ) (reply : Response) (answers : Answered) → SaysAll (said_by tid no_extras reply) answers → Says (reports_of reply) answers
+says_reports tid reply answers h =
     record {
-      spelled = subst (λ (ms : List Message). Spelled answers.bytes ms []) (plain_said reply) h.spelled;
-      counted = h.counted ∙ ap length (plain_said reply) ∙ length-map (reports_of reply) message_of_report;
+      spelled = subst (λ (ms : List Message). Spelled answers.bytes ms []) (plain_said tid reply) h.spelled;
+      counted = h.counted ∙ ap length (plain_said tid reply) ∙ length-map (reports_of reply) message_of_report;
     }
 
 plain_hears : (old new : Extended) (message : Message) (answers : Answered) → old.extras ≡ no_extras → old.waits ≡ false → extended_hears old message answers new
@@ -84,13 +84,13 @@ plain_is_served old new message answers none quiet h =
     let turn : Turn = profile_turn old.extras.receipts s (asked_as message) old.served.verdict in
     let same : turn ≡ turn_of s (asked_as message) old.served.verdict =
     ap (λ (e : Extras). profile_turn e.receipts s (asked_as message) old.served.verdict) none ∙ plain_turn s (asked_as message) old.served.verdict in
-    let says : SaysAll (said_by no_extras turn.reply) answers = subst (λ (e : Extras). SaysAll (said_by e turn.reply) answers) none t.says in
+    let says : SaysAll (said_by s.tid no_extras turn.reply) answers = subst (λ (e : Extras). SaysAll (said_by s.tid e turn.reply) answers) none t.says in
     let waits : new.waits ≡ (false || is_delayed no_extras turn.reply) =
     t.waits ∙ ap (λ (b : Bool). b || is_delayed old.extras turn.reply) quiet ∙ ap (λ (e : Extras). is_delayed e turn.reply) none in (
       (
         record {
           state = t.terminal ∙ ap (λ (u : Turn). after s u) same;
-          says = says_reports (turn_of s (asked_as message) old.served.verdict).reply answers (subst (λ (u : Turn). SaysAll (said_by no_extras u.reply) answers) same says);
+          says = says_reports s.tid (turn_of s (asked_as message) old.served.verdict).reply answers (subst (λ (u : Turn). SaysAll (said_by s.tid no_extras u.reply) answers) same says);
         },
         t.verdict,
       ),

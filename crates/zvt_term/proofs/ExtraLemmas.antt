@@ -1,6 +1,5 @@
 -- The turns of orders beyond the profile add no row, and their reports can be written.
-use Rattle.std.proofs.Common.{◌≡◌, ℕ, zero, suc, ◌-◌, ◌==◌, ◌≤◌, Bool, true, false, cond, nat_le, List, [], ◌∷◌, ◌++◌, length, Option, Some, None, option_and_then, option_to_list, IfSome, slice_get, refl, sym, subst, ap, ◌∙◌, arith, append-nil}
-use Rattle.std.proofs.lemmas.Bool.{leb-true}
+use Rattle.std.proofs.Common.{◌≡◌, ℕ, zero, suc, ◌-◌, ◌==◌, ◌≤◌, Bool, true, false, cond, List, [], ◌∷◌, ◌++◌, length, Option, Some, None, option_map, option_to_list, IfSome, slice_get, refl, sym, subst, ap, ◌∙◌, arith, append-nil}
 use Rattle.zvt_term.specs.declared.messages.Asked.{Asked}
 use Rattle.zvt_term.specs.declared.messages.Asked.TheVariants.{Registration, Authorisation, Reversal, EndOfDay, AbortOrder, Answer, Unknown}
 use Rattle.zvt_term.specs.declared.messages.Report.{Report}
@@ -14,10 +13,10 @@ use Rattle.zvt_term.specs.declared.extras.Extra.{Extra}
 use Rattle.zvt_term.specs.declared.extras.Extra.TheVariants.{Service, LogOff, RepeatReceipt, Refund}
 use Rattle.zvt_term.specs.declared.refunds.Refunded.{Refunded}
 use Rattle.zvt_term.specs.Extended.{extra_turn, last_report, logs_off, new_refund, next_phase, pays_back, profile_turn, repeats, report_of_refund, report_of_row}
-use Rattle.zvt_term.specs.Ledger.{NumberedFrom}
+use Rattle.zvt_term.specs.Ledger.{NumberedFrom, IsBefore, ReverseEarlier}
 use Rattle.zvt_term.specs.Reports.{IsWritable}
 use Rattle.zvt_term.specs.Steps.{AreWritable, IsNext}
-use Rattle.zvt_term.specs.Terminal.{TerminalState, most_rows, is_ready, runs, when, after, reports_of}
+use Rattle.zvt_term.specs.Terminal.{TerminalState, is_ready, runs, when, after, reports_of}
 use Rattle.zvt_term.proofs.TurnLemmas.{AllShort, Short, Sound, goes_on-sound, numbered-short, turn-sound}
 
 -- ---- no row
@@ -52,25 +51,21 @@ same_ledger s last extra = ap (λ (row : Option Row). s.ledger ++ option_to_list
 abbrev pub AllWritable : Option Report → Type 0
 AllWritable o = IfSome o (λ report. IsWritable report)
 
-row_writable : (row : Row) → row.number ≤ 9999 → AllWritable (report_of_row row)
-row_writable row few = by_original row.reverses
+row_writable : (row : Row) → row.number ≤ 9999 → IsBefore row.reverses row.number → IsWritable (report_of_row row)
+row_writable row few before = by_original row.reverses before
   where
-    by_test : (original : ℕ) (b : Bool) → nat_le original most_rows ≡ b → AllWritable (cond b (Some (TakenBack row.amount row.number original row.currency)) None)
-    by_test original true e = (few, leb-true original most_rows e)
-    by_test original false e = tt
+    by_original : (o : Option ℕ) → IsBefore o row.number
+        → IsWritable (elim o [ None ↦ Approved row.amount row.number row.currency | Some original ↦ TakenBack row.amount row.number original row.currency ])
+    by_original None before = few
+    by_original (Some original) before = (few, omega (arith, few, before))
 
-    by_original : (o : Option ℕ)
-        → AllWritable (elim o [ None ↦ Some (Approved row.amount row.number row.currency) | Some original ↦ cond (nat_le original most_rows) (Some (TakenBack row.amount row.number original row.currency)) None ])
-    by_original None = few
-    by_original (Some original) = by_test original (nat_le original most_rows) refl
+get_writable : (rows : List Row) (k : ℕ) → AllShort rows → ReverseEarlier rows → AllWritable (option_map report_of_row (slice_get rows k))
+get_writable [] k h e = tt
+get_writable (row ∷ rows) zero h e = row_writable row h.0 e.0
+get_writable (row ∷ rows) (suc k) h e = get_writable rows k h.1 e.1
 
-get_writable : (rows : List Row) (k : ℕ) → AllShort rows → AllWritable (option_and_then report_of_row (slice_get rows k))
-get_writable [] k h = tt
-get_writable (row ∷ rows) zero h = row_writable row h.0
-get_writable (row ∷ rows) (suc k) h = get_writable rows k h.1
-
-pub last_row_writable : (rows : List Row) (row : Row) → AllShort rows → Some row ≡ slice_get rows (length rows - 1) → AllWritable (report_of_row row)
-last_row_writable rows row h e = subst (λ (o : Option Row). AllWritable (option_and_then report_of_row o)) (sym e) (get_writable rows (length rows - 1) h)
+pub last_row_writable : (rows : List Row) (row : Row) → AllShort rows → ReverseEarlier rows → Some row ≡ slice_get rows (length rows - 1) → IsWritable (report_of_row row)
+last_row_writable rows row h earlier e = subst (λ (o : Option Row). AllWritable (option_map report_of_row o)) (sym e) (get_writable rows (length rows - 1) h earlier)
 
 pub all_short : (rows : List Row) → NumberedFrom 1 rows → length rows ≤ 9999 → AllShort rows
 all_short rows numbered few =
@@ -79,13 +74,13 @@ all_short rows numbered few =
 refund_writable : (refund : Refunded) → IsWritable (report_of_refund refund)
 refund_writable refund = omega arith
 
-pub last_writable : (rows : List Row) (last : Option Refunded) → AllShort rows → AllWritable (last_report rows last)
-last_writable rows None h = get_writable rows (length rows - 1) h
-last_writable rows (Some refund) h = by_test (refund.rows == length rows)
+pub last_writable : (rows : List Row) (last : Option Refunded) → AllShort rows → ReverseEarlier rows → AllWritable (last_report rows last)
+last_writable rows None h e = get_writable rows (length rows - 1) h e
+last_writable rows (Some refund) h e = by_test (refund.rows == length rows)
   where
-    by_test : (b : Bool) → AllWritable (cond b (Some (report_of_refund refund)) (option_and_then report_of_row (slice_get rows (length rows - 1))))
+    by_test : (b : Bool) → AllWritable (cond b (Some (report_of_refund refund)) (option_map report_of_row (slice_get rows (length rows - 1))))
     by_test true = refund_writable refund
-    by_test false = get_writable rows (length rows - 1) h
+    by_test false = get_writable rows (length rows - 1) h e
 
 when_writable : (s : TerminalState) (ready : Bool) (turn : Turn) → AreWritable (reports_of turn.reply) → AreWritable (reports_of (when ready s turn).reply)
 when_writable s true turn h = h
@@ -103,7 +98,7 @@ pub extra_writable : (s : TerminalState) (last : Option Refunded) (extra : Extra
 extra_writable s last Service k = when_writable s (is_ready s) (runs s Ending Done) (tt, (tt, tt))
 extra_writable s last LogOff k = when_writable s (is_ready s) logs_off (tt, tt)
 extra_writable s last RepeatReceipt k =
-    when_writable s (is_ready s) (repeats s (last_report s.ledger last)) (repeats_writable s (last_report s.ledger last) (last_writable s.ledger last k.rows))
+    when_writable s (is_ready s) (repeats s (last_report s.ledger last)) (repeats_writable s (last_report s.ledger last) (last_writable s.ledger last k.rows k.earlier))
 extra_writable s last (Refund amount) k = when_writable s (is_ready s) (pays_back s (new_refund s last amount)) (pays_back_writable s (new_refund s last amount))
 
 -- ---- messages of the profile

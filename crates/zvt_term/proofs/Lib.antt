@@ -18,4 +18,5 @@ pub mod AmountLemmas
 pub mod DressingLemmas
 pub mod ExtraLemmas
 pub mod ExtraLaws
+pub mod Withholding
 mod Rows

@@ -166,6 +166,12 @@ tid_fields : (tid : ℕ) (rest : List ℕ) (fields : List Field) → tid ≤ 999
     → Listing (plain 0x29 (digits 4 tid) ∷ fields) (0x29 ∷ (digits 4 tid ++ rest))
 tid_fields tid rest fields h more = one_more 0x29 (digits 4 tid) rest fields (digits_field 0x29 4 tid tid_shape (omega arith)) more
 
+pub terminal_listed : (tid : ℕ) (four rest : List ℕ) (fields : List Field) → four ≡ digits 4 tid → tid ≤ 99999999 → FieldList shortest fields rest
+    → FieldList shortest (plain 0x29 (digits 4 tid) ∷ fields) (0x29 ∷ four_more four rest)
+terminal_listed tid four rest fields is few more =
+    subst (λ (s : List ℕ). FieldList shortest (plain 0x29 (digits 4 tid) ∷ fields) (0x29 ∷ four_more s rest)) (sym is)
+    (tid_fields tid rest fields few (record { listed = more })).listed
+
 pub registered_listed : (tid : ℕ) (currency : Option ℕ) (four rest : List ℕ) → four ≡ digits 4 tid → tid ≤ 99999999 → Listing (currency_field currency) rest
     → Data shortest (message_of_report (Registered tid currency)) (0x29 ∷ four_more four rest)
 registered_listed tid currency four rest is few more =

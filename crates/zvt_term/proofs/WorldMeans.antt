@@ -151,7 +151,7 @@ module _ (given : Settings) (few : FitSettings given) where
   moves-mean w (x ∷ moves) f k = moves-mean (move w x) moves f.1 (move-fit w x f.0 k) ∙ ap (λ v. fold facts.move v moves) (move-means w x f.0 k)
 
   pub new-fit : Fit (ends_with given)
-  new-fit = record { sound = (omega arith, omega arith, tt); rows = tt; kept = tt; settings = refl; asked = tt }
+  new-fit = record { sound = (omega arith, omega arith, tt, tt); rows = tt; kept = tt; settings = refl; asked = tt }
 
   pub world-means : (moves : List Move) → FitMoves moves → meaning (world_with given moves) ≡ fold facts.move (meaning (ends_with given)) moves
   world-means moves f = moves-mean (ends_with given) moves f new-fit
@@ -196,7 +196,7 @@ module _ (given : Settings) (few : FitSettings given) where
   logged-moves w (x ∷ moves) k = logged-moves (move w x) moves (logged-move w x k)
 
   pub first-holds : (Holds given) (meaning (ends_with given))
-  first-holds = record { heard = tt; sound = (omega arith, omega arith, tt); till = record { running = tt; book = tt; named = few.1 }; settings = refl; named = tt; kept = λ e. absurd cc }
+  first-holds = record { heard = tt; sound = (omega arith, omega arith, tt, tt); till = record { running = tt; book = tt; named = few.1 }; settings = refl; named = tt; kept = λ e. absurd cc }
 
   matching : (moves : List Move) → FitMoves moves → Matches (world_with given moves).till (world_with given moves).terminal.ledger
   matching moves f =

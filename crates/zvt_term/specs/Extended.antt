@@ -1,5 +1,5 @@
 -- The terminal that also accepts orders beyond the profile: its replies to them, and its refunds.
-use Rattle.std.specs.Prelude.{◌≡◌, ℕ, ◌+◌, ◌-◌, ◌==◌, ◌&&◌, ◌||◌, Bool, true, false, cond, nat_le, nat_lt, List, [], ◌∷◌, length, Option, Some, None, option_and_then, slice_get}
+use Rattle.std.specs.Prelude.{◌≡◌, ℕ, ◌+◌, ◌-◌, ◌==◌, ◌&&◌, ◌||◌, Bool, true, false, cond, nat_lt, List, [], ◌∷◌, length, Option, Some, None, option_map, slice_get}
 use Rattle.std.specs.Option.{option_or}
 use Rattle.zvt_apdu.specs.Message.{Message}
 use Rattle.zvt_stream.specs.Answered.{Answered}
@@ -61,12 +61,12 @@ report_of_refund refund = Approved refund.amount (refund_number refund.before) r
 
 -- ---- the last transaction
 
--- the status of a row; a number has four digits
-abbrev pub report_of_row : Row → Option Report
+-- the status of a row
+abbrev pub report_of_row : Row → Report
 report_of_row row =
     elim row.reverses [
-      | None ↦ Some (Approved row.amount row.number row.currency)
-      | Some original ↦ cond (nat_le original most_rows) (Some (TakenBack row.amount row.number original row.currency)) None
+      | None ↦ Approved row.amount row.number row.currency
+      | Some original ↦ TakenBack row.amount row.number original row.currency
     ]
 
 abbrev pub last_row : List Row → Option Row
@@ -74,8 +74,8 @@ last_row rows = slice_get rows (length rows - 1)
 
 -- the status of the last row of the ledger, or of the last refund if no row came after it
 abbrev pub last_report : List Row → Option Refunded → Option Report
-last_report rows None = option_and_then report_of_row (last_row rows)
-last_report rows (Some refund) = cond (refund.rows == length rows) (Some (report_of_refund refund)) (option_and_then report_of_row (last_row rows))
+last_report rows None = option_map report_of_row (last_row rows)
+last_report rows (Some refund) = cond (refund.rows == length rows) (Some (report_of_refund refund)) (option_map report_of_row (last_row rows))
 
 -- ---- turns
 
@@ -123,7 +123,7 @@ pub record HearsTurn (old : Extended) (turn : Turn) (refunded : Option Refunded)
   pub waits : new.waits ≡ (old.waits || is_delayed old.extras turn.reply)
   pub verdict : new.served.verdict ≡ old.served.verdict
   pub extras : new.extras ≡ old.extras
-  pub says : SaysAll (said_by old.extras turn.reply) answers
+  pub says : SaysAll (said_by old.served.terminal.tid old.extras turn.reply) answers
 
 abbrev pub hears_by : Option Extra → Extended → Message → Answered → Extended → Type 0
 hears_by None old message answers new =
@@ -140,9 +140,9 @@ due_in phase last = last
 abbrev pub status_due : TerminalState → Option Refunded → Option Report
 status_due s last = due_in s.phase (last_report s.ledger last)
 
-abbrev pub said_of : Extras → Option Report → List Message
-said_of extras None = []
-said_of extras (Some report) = message_by extras report ∷ []
+abbrev pub said_of : (tid : ℕ) → Extras → Option Report → List Message
+said_of tid extras None = []
+said_of tid extras (Some report) = message_by tid extras report ∷ []
 
 -- The status that comes after an intermediate status is said.
 pub record Releases (old : Extended) (answers : Answered) (new : Extended) : Type 0 where
@@ -150,7 +150,7 @@ pub record Releases (old : Extended) (answers : Answered) (new : Extended) : Typ
   pub refund : new.refund ≡ old.refund
   pub waits : new.waits ≡ false
   pub extras : new.extras ≡ old.extras
-  pub says : SaysAll (said_of old.extras (status_due old.served.terminal old.refund)) answers
+  pub says : SaysAll (said_of old.served.terminal.tid old.extras (status_due old.served.terminal old.refund)) answers
 
 abbrev pub is_answer : Asked → Bool
 is_answer Answer = true

@@ -1,5 +1,5 @@
 -- The rows of the ledger, and the tests on them.
-use Rattle.std.specs.Prelude.{◌≡◌, ℕ, ◌+◌, ◌==◌, ◌&&◌, Bool, true, false, List, [], ◌∷◌, Option, Some, None}
+use Rattle.std.specs.Prelude.{◌≡◌, ℕ, ◌+◌, ◌<◌, ◌==◌, ◌&&◌, Bool, true, false, List, [], ◌∷◌, Option, Some, None, slice_get}
 use Rattle.std.specs.List.{find, list_any}
 use Rattle.zvt_till.specs.Statuses.{spells}
 use Rattle.zvt_term.specs.declared.ledger.Row.{Row}
@@ -26,3 +26,18 @@ is_taken_back original rows = list_any (takes_back original) rows
 abbrev pub NumberedFrom : ℕ → List Row → Type 0
 NumberedFrom n [] = Unit {0}
 NumberedFrom n (row ∷ rows) = (row.number ≡ n) × NumberedFrom (n + 1) rows
+
+-- what is reversed, if anything, is a row of the ledger
+abbrev pub IsRowOf : List Row → Option ℕ → Type 0
+IsRowOf rows None = Unit {0}
+IsRowOf rows (Some original) = (k : ℕ) × (row : Row) × (slice_get rows k ≡ Some row) × (row.number ≡ original)
+
+-- what is reversed, if anything, has a smaller number
+abbrev pub IsBefore : Option ℕ → ℕ → Type 0
+IsBefore None number = Unit {0}
+IsBefore (Some original) number = original < number
+
+-- each row reverses none or an earlier one
+abbrev pub ReverseEarlier : List Row → Type 0
+ReverseEarlier [] = Unit {0}
+ReverseEarlier (row ∷ rows) = IsBefore row.reverses row.number × ReverseEarlier rows

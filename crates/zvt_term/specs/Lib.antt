@@ -8,6 +8,7 @@ pub mod Served
 pub mod Extras
 pub mod Dressing
 pub mod Extended
+pub mod Withheld
 pub mod World
 pub mod Simulation
 pub mod Orderly

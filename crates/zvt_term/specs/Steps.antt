@@ -10,6 +10,7 @@ use Rattle.zvt_term.specs.declared.turns.Verdict.{Verdict}
 use Rattle.zvt_term.specs.declared.terminal.Input.{Input}
 use Rattle.zvt_term.specs.declared.terminal.Input.TheVariants.{Message as MessageIn, View, Lost, Malformed}
 use Rattle.zvt_term.specs.Asking.{asked_as}
+use Rattle.zvt_term.specs.Ledger.{IsRowOf}
 use Rattle.zvt_term.specs.Reports.{message_of_report, IsWritable}
 use Rattle.zvt_term.specs.Terminal.{TerminalState, most_rows, next_number, lost_terminal, turn_of, state_after, reports_to}
 
@@ -30,10 +31,10 @@ pub record Says (reports : List Report) (answers : Answered) : Type 0 where
   pub spelled : Spelled answers.bytes (map message_of_report reports) []
   pub counted : answers.count ≡ length reports
 
--- a row has the next number, and there is room for it
+-- a row has the next number, there is room for it, and what it reverses is a row of the ledger
 abbrev pub IsNext : TerminalState → Option Row → Type 0
 IsNext s None = Unit {0}
-IsNext s (Some row) = (length s.ledger < most_rows) × (row.number ≡ next_number s)
+IsNext s (Some row) = (length s.ledger < most_rows) × (row.number ≡ next_number s) × IsRowOf s.ledger row.reverses
 
 -- A request is processed and answered.
 pub record HearsAsked (verdict : Verdict) (old : TerminalState) (asked : Asked) (answers : Answered) (new : TerminalState) : Type 0 where

@@ -2,7 +2,7 @@
 ghost use Rattle.std.specs.Prelude.{◌≡◌, ◌≤◌, IfSome, true, false, length};
 ghost use Rattle.std.specs.Option.{option_or};
 ghost use Rattle.zvt_term.specs.Extended.{last_report, logs_off, report_of_row};
-ghost use Rattle.zvt_term.specs.Ledger.{NumberedFrom};
+ghost use Rattle.zvt_term.specs.Ledger.{NumberedFrom, ReverseEarlier};
 ghost use Rattle.zvt_term.specs.Reports.{IsWritable};
 
 use crate::asked::asked_view;
@@ -33,22 +33,21 @@ pub struct Extended {
 }
 
 /// Returns the status of a row.
-fn report_of_row(row: &Row) -> Option<Report>
+fn report_of_row(row: &Row) -> Report
     ensures { result ≡ report_of_row row.now }
 {
     match row.reverses {
-        None => Some(Report::Approved {
+        None => Report::Approved {
             amount: row.amount,
             number: row.number,
             currency: row.currency,
-        }),
-        Some(original) if usize::from(original) <= MAX_LEDGER_ROWS => Some(Report::TakenBack {
+        },
+        Some(original) => Report::TakenBack {
             amount: row.amount,
             number: row.number,
             original,
             currency: row.currency,
-        }),
-        Some(_) => None,
+        },
     }
 }
 
@@ -56,12 +55,13 @@ fn report_of_row(row: &Row) -> Option<Report>
 fn last_report(rows: &[Row], refund: &Option<Refunded>) -> Option<Report>
     requires most { length rows.now ≤ 9999 }
     requires numbered { NumberedFrom 1 rows.now }
+    requires earlier { ReverseEarlier rows.now }
     ensures report { result ≡ last_report rows.now refund.now }
     ensures writable { IfSome result (λ report. IsWritable report) }
 {
     match refund {
         Some(refund) if refund.rows == rows.len() => Some(refund.report()),
-        _ => report_of_row(rows.last()?),
+        _ => Some(report_of_row(rows.last()?)),
     }
 }
 
@@ -181,7 +181,7 @@ impl Extended {
         self.served.terminal.make(turn)?;
         self.refund = refund.or(self.refund);
         self.waits = self.waits || is_delayed(&self.extras, &turn.reply);
-        Ok(answers_by(&self.extras, &turn.reply))
+        Ok(answers_by(self.served.terminal.tid(), &self.extras, &turn.reply))
     }
 
     /// Processes an order beyond the profile and returns the replies.
@@ -246,7 +246,11 @@ impl Extended {
         self.waits = false;
         match self.status_due() {
             None => Answers::new(),
-            Some(report) => answers_by(&self.extras, &Response::One(report)),
+            Some(report) => answers_by(
+                self.served.terminal.tid(),
+                &self.extras,
+                &Response::One(report),
+            ),
         }
     }
 }

@@ -3,6 +3,7 @@ ghost use Rattle.zvt_term.specs.Extended.{ExtrasKeepLedger, PlainIsServed, Repea
 ghost use Rattle.zvt_term.specs.World.{WorldsMatch};
 ghost use Rattle.zvt_term.specs.Orderly.{OrderlyWorldsAccount};
 ghost use Rattle.zvt_term.specs.Returned.{OrderlyWorldsKeepReversals};
+ghost use Rattle.zvt_term.specs.Withheld.{WithheldIsDue};
 
 /// Even if messages arrive twice, late or never, each entry of the till's book corresponds to an approval of its own
 /// in the terminal's ledger. This and the next two laws are about tills whose reversals must be named.
@@ -34,4 +35,10 @@ pub fn extras_keep_ledger()
 /// A repeat receipt changes nothing except the order in progress.
 pub fn repeats_change_nothing()
     ensures { RepeatsChangeNothing }
+{}
+
+/// After every sequence of messages and lost lines, a terminal waits exactly while an intermediate status stands in place
+/// of a status, and then that very status is due.
+pub fn withheld_is_due()
+    ensures { WithheldIsDue }
 {}

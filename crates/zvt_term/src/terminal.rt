@@ -1,7 +1,7 @@
 //! The terminal: its reaction to each message, and its ledger.
 ghost use Rattle.std.specs.Prelude.{◌≡◌, ◌≤◌, length, IfOk, IsOk, OnOk, OnErr, ◌++◌, option_to_list, Some, None};
 ghost use Rattle.std.specs.Prelude.{if◌then◌else◌};
-ghost use Rattle.zvt_term.specs.Ledger.{NumberedFrom};
+ghost use Rattle.zvt_term.specs.Ledger.{NumberedFrom, ReverseEarlier};
 
 use crate::answers::answers_of;
 use crate::asked::{asked, asked_view};
@@ -82,8 +82,17 @@ impl Terminal {
         ensures rows { result.now ≡ self.now.ledger }
         ensures most { length result.now ≤ MAX_LEDGER_ROWS }
         ensures numbered { NumberedFrom 1 result.now }
+        ensures earlier { ReverseEarlier result.now }
     {
         self.ledger.as_slice()
+    }
+
+    /// Returns the terminal's number.
+    pub(crate) fn tid(&self) -> u32
+        ensures number { result ≡ self.now.tid }
+        ensures most { result ≤ 99999999 }
+    {
+        self.tid
     }
 
     /// Returns the currency that the terminal keeps.

@@ -28,7 +28,7 @@ fn number_digits(number: u16) -> [u8; 2]
 }
 
 /// Returns the terminal's number as four bytes of digits.
-fn tid_digits(tid: u32) -> [u8; 4]
+pub(crate) fn tid_digits(tid: u32) -> [u8; 4]
     requires { tid ≤ 99999999 }
     ensures { result ≡ digits 4 tid }
 {
