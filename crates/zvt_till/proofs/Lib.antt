@@ -1,6 +1,6 @@
 mod Digits
 mod Absences
-pub mod UsedTraces
+pub mod UsedTraceLemmas
 pub mod Segments
 pub mod Summaries
 pub mod Payment

@@ -19,7 +19,7 @@ use Rattle.zvt_till.specs.Restoring.{OnceBelow, CanStand}
 use Rattle.zvt_till.specs.UsedTraces.{has, AreTracesOf}
 use Rattle.zvt_till.specs.Till.{TillState, entry_after, book_after, unclear_after, meet_running, meet}
 use Rattle.zvt_till.specs.View.{CanEnd, CanEndRunning}
-use Rattle.zvt_till.proofs.UsedTraces.{read_is}
+use Rattle.zvt_till.proofs.UsedTraceLemmas.{read_is}
 use Rattle.zvt_till.proofs.DistinctLemmas.{once-changed}
 use Rattle.zvt_till.proofs.BookStepLemmas.{same-row}
 

@@ -37,7 +37,7 @@ pub struct Entry {
 impl Entry {
     /// Records how a reversal of the payment ended. The entry does not change after a decline, or after a refusal or an
     /// abort with a code other than B4.
-    pub(crate) fn end_reversal(&mut self, outcome: &Outcome)
+    pub fn end_reversal(&mut self, outcome: &Outcome)
         ensures { self.new ≡ entry_after self.old outcome.now }
     {
         match outcome {

@@ -1,8 +1,8 @@
 //! Events on a till's line, and which of them end an order.
 //!
-//! `ends`, `force_after` and `is_positive` are `#[inline(always)]`: an audit calls them for each happening.
+//! `begun`, `ends`, `force_after` and `is_positive` are `#[inline(always)]`: an audit calls them for each happening.
 ghost use Rattle.std.specs.Prelude.{◌≡◌};
-ghost use Rattle.zvt_till.specs.Segments.{ends, force_after, is_positive};
+ghost use Rattle.zvt_till.specs.Segments.{begun, ends, force_after, is_positive};
 
 use crate::messages::Heard;
 use zvt_bcd::{Amount, Currency};
@@ -29,6 +29,18 @@ pub enum Happening {
     /// The bytes were not a message, and the line is given up.
     Malformed,
     Lost,
+}
+
+/// Returns the order that this event begins, if any. Cancel begins none.
+#[inline(always)]
+pub fn begun(happening: &Happening) -> Option<Sent>
+    ensures { result ≡ begun happening.now }
+{
+    match happening {
+        Happening::Sent(Sent::Cancel) => None,
+        Happening::Sent(order) => Some(*order),
+        _ => None,
+    }
 }
 
 /// Returns whether this event ends the running order. `positive` says whether the terminal has accepted the order:

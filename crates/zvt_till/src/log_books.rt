@@ -2,12 +2,12 @@
 //!
 //! Functions that an audit calls for every event are `#[inline(always)]`.
 ghost use Rattle.std.specs.Prelude.{◌≡◌, ◌++◌, ◌∷◌, [], ◌||◌, List, OnOk};
-ghost use Rattle.zvt_till.specs.Segments.{begun, in_force, is_positive, status_of};
+ghost use Rattle.zvt_till.specs.Segments.{in_force, is_positive, status_of};
 ghost use Rattle.zvt_till.specs.Books.{books};
 ghost use Rattle.zvt_till.specs.Outcomes.{note, note_if};
 ghost use Rattle.zvt_till.specs.Judging.{books_value, written, paying, opened, IsJudged, KnowsTraces};
 
-use crate::happenings::{Happening, Sent, ends};
+use crate::happenings::{Happening, Sent, begun, ends};
 use crate::messages::{Heard, StatusFacts};
 use crate::orders::Order;
 use crate::outcomes::{Cause, Outcome, outcome_by};
@@ -45,18 +45,6 @@ pub struct OpenPayment {
     pub currency: Option<Currency>,
     pub positive: bool,
     pub statuses: Statuses,
-}
-
-/// Returns the order that this event begins, if any. Cancel begins none.
-#[inline(always)]
-fn begun(happening: &Happening) -> Option<Sent>
-    ensures { result ≡ begun happening.now }
-{
-    match happening {
-        Happening::Sent(Sent::Cancel) => None,
-        Happening::Sent(order) => Some(*order),
-        _ => None,
-    }
 }
 
 /// Returns the payment that the order begins under this currency, if it is one.

@@ -1,7 +1,7 @@
 use Rattle.std.proofs.Common.{◌≡◌, ◌<◌, rules, arith, sym, ap, ◌∙◌, length}
 use Rattle.std.proofs.lemmas.Grind.{common_steps}
 use Rattle.zvt_till.specs.Books.{Booked}
-use Rattle.zvt_till.proofs.UsedTraces.{used-changed, read_is}
+use Rattle.zvt_till.proofs.UsedTraceLemmas.{used-changed, read_is}
 use Rattle.zvt_till.proofs.DistinctLemmas.{once-changed}
 use Rattle.zvt_till.proofs.BookStepLemmas.{same-row}
 use Rattle.zvt_till.proofs.till.Till.finish.Goals as goal

@@ -1,5 +1,5 @@
 use Rattle.std.proofs.Common.{arith, get_or, ap, ◌∙◌, ◌/◌}
-use Rattle.zvt_till.proofs.UsedTraces.{has-bit, has-after}
+use Rattle.zvt_till.proofs.UsedTraceLemmas.{has-bit, has-after}
 use Rattle.zvt_till.proofs.used_traces.UsedTraces.contains.Goals as goal
 
 pub returns-in-Some : goal.returns-in-Some

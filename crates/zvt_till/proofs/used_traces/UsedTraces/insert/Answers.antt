@@ -1,6 +1,6 @@
 use Rattle.std.proofs.Common.{arith, ◌∙◌, ◌<◌, ◌/◌, length}
 use Rattle.std.proofs.lemmas.Grind.{common_steps, get_or_default_zero}
-use Rattle.zvt_till.proofs.UsedTraces.{has-inserted}
+use Rattle.zvt_till.proofs.UsedTraceLemmas.{has-inserted}
 use Rattle.zvt_till.proofs.used_traces.UsedTraces.insert.Goals as goal
 
 pub returns-clause-has : goal.returns-clause-has

@@ -1,7 +1,7 @@
 use Rattle.std.proofs.Common.{◌≡◌, length, arith, ap, ◌∙◌, vec_len}
 use Rattle.std.proofs.lemmas.Grind.{common_steps}
 use Rattle.zvt_till.specs.UsedTraces.{has}
-use Rattle.zvt_till.proofs.UsedTraces.{has-grown}
+use Rattle.zvt_till.proofs.UsedTraceLemmas.{has-grown}
 use Rattle.zvt_till.proofs.used_traces.UsedTraces.reserve_for.Goals as goal
 
 pub returns-in_ok-resize-clause-has : goal.returns-in_ok-resize-clause-has
