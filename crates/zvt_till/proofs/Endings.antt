@@ -70,7 +70,7 @@ pub record Shut (ss : List Segment) (the_book : List Entry) (the_unclear : List 
   pub book : the_book ≡ entries_of ss
   pub unclear : the_unclear ≡ settled (books_of ss).unclear
 
-shut-payment : (force : Option ℕ) (closed : List Segment) (a : ℕ) (hs : List Happening) (h : Happening) (p : Bool)
+pub shut-payment : (force : Option ℕ) (closed : List Segment) (a : ℕ) (hs : List Happening) (h : Happening) (p : Bool)
     → end_of (hs ++ h ∷ []) ≡ Some (record { before = hs; by = h }) → ends p h ≡ true → Placed (length (rows closed)) closed
     → let out : Outcome = outcome_by (entries_of closed) (PayOrder a) (summary (Some (Payment (charge_of (begun_by force (Pay a)) a))) (statuses hs)) h in
     Shut (closed ++ seg (begun_by force (Pay a)) (hs ++ h ∷ []) ∷ []) (book_after (entries_of closed) (PayOrder a) out) (unclear_after (loose closed) (PayOrder a) out)
@@ -94,7 +94,7 @@ shut-payment force closed a hs h p e n placed =
     }
 
 -- an order that books nothing and takes nothing back
-shut-plain : (closed : List Segment) (o : Opening) (hs : List Happening) (end : Option Ended) → end_of hs ≡ end
+pub shut-plain : (closed : List Segment) (o : Opening) (hs : List Happening) (end : Option Ended) → end_of hs ≡ end
     → judge_end (books_of closed) o end ≡ books_of closed → ((place : ℕ) (row : Booked) → reverses_end place row o end ≡ false) → ((place : ℕ) (row : Booked) (before : Doubt) → doubt_end place row before o end ≡ before)
     → Shut (closed ++ seg o hs ∷ []) (entries_of closed) (loose closed)
 shut-plain closed o hs end e worth idle stays =
@@ -114,7 +114,7 @@ changed-alike f g same es i = by_entry (slice_get es i)
     by_entry None = refl
     by_entry (Some x) = ap (λ y. slice_set es i y) (same x)
 
-shut-reversal : (rules : Rules) (force : Option ℕ) (closed : List Segment) (e : ℕ) (hs : List Happening) (h : Happening)
+pub shut-reversal : (rules : Rules) (force : Option ℕ) (closed : List Segment) (e : ℕ) (hs : List Happening) (h : Happening)
     → end_of (hs ++ h ∷ []) ≡ Some (record { before = hs; by = h }) → e < length (rows closed)
     → let st : Statuses = summary (demand_of rules force (entries_of closed) (loose closed) (ReverseOrder e)) (statuses hs) in
     let o : Opening = opened_after rules.reversal_by_receipt closed (begun_by force (Reverse e)) in
