@@ -1,0 +1,4 @@
+pub mod Chapters
+pub mod Day
+pub mod Judging
+pub mod Laws

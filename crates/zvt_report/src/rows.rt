@@ -1,0 +1,29 @@
+//! The rows of a report.
+use zvt_bcd::{Amount, Trace};
+use zvt_till::{Outcome, Sent};
+
+/// What a status information with result 00 and exactly one amount states.
+#[derive(Clone, Copy, Debug, PartialEq, Eq)]
+pub struct Approval {
+    /// The line of the trace at which the status information ends, counted from 1.
+    pub line: u64,
+    pub amount: Amount,
+    /// The trace number, if there is exactly one.
+    pub trace: Option<Trace>,
+    /// The receipt number, if there is exactly one.
+    pub receipt: Option<[u8; 2]>,
+}
+
+/// An order of the till, and what became of it.
+#[derive(Clone, Copy, Debug, PartialEq, Eq)]
+pub struct OrderRow {
+    pub order: Sent,
+    /// The line of the trace at which the order's message ends, counted from 1.
+    pub first: u64,
+    /// The line at which the order ended, or the last one before the next order.
+    pub last: u64,
+    /// How the order ended. An order that did not end is unclear.
+    pub outcome: Outcome,
+    /// The first approval that the terminal stated before the end.
+    pub approval: Option<Approval>,
+}
