@@ -17,7 +17,7 @@ use Rattle.zvt_till.specs.declared.outcomes.Cause.{Cause}
 use Rattle.zvt_till.specs.declared.outcomes.Cause.TheVariants.{NoStatus, Conflict, AmountDiffers, NoTrace, TraceUsed, AbortAfterApproval, Line, Malformed, Unfinished, WrongCurrency}
 use Rattle.zvt_trace.specs.declared.fault.Tally.{Tally}
 use Rattle.zvt_audit.specs.Ends.{Lines}
-use Rattle.serde_json.specs.Data.{Data, Members, object, string, no_members, member}
+use Rattle.serde_json.specs.Data.{Data, object, no_members, member}
 use Rattle.zvt_json.specs.Strings.{count_value, hex_value}
 use Rattle.zvt_text.specs.Meanings.{command_name}
 use Rattle.zvt_audit.specs.Json.{amount_part, booked_text, booked_value, books_json, line_part, name_part, rows_text, summary_text, summary_value, trace_of, trace_part, unclear_text, unclear_value, unfollowed_text, unfollowed_value, with_amount, with_name, with_trace}

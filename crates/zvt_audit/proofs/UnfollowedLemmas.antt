@@ -11,7 +11,7 @@ use Rattle.zvt_till.specs.declared.happenings.Happening.TheVariants.{Connected, 
 use Rattle.zvt_till.specs.declared.happenings.Sent.{Sent}
 use Rattle.zvt_till.specs.declared.happenings.Sent.TheVariants.{Foreign}
 use Rattle.zvt_till.proofs.Segments.{list_any-snoc}
-use Rattle.zvt_audit.specs.Unfollowed.{Finds, FindsBy, accepted, approval_by, approval_of, before_end, found_then, found_with, is_unfollowed_from, settled_by, unfollowed_at, unfollowed_in, unfollowed_order, with_approval, with_unfollowed}
+use Rattle.zvt_audit.specs.Unfollowed.{Finds, FindsBy, accepted, approval_by, approval_of, before_end, found_then, is_unfollowed_from, settled_by, unfollowed_at, unfollowed_in, unfollowed_order, with_approval, with_unfollowed}
 use Rattle.zvt_audit.specs.Happened.{happened_by, happenings_of, ordered, paid}
 use Rattle.zvt_field.specs.Named.{amount_of}
 use Rattle.zvt_trace.specs.TraceEvent.{At, on}

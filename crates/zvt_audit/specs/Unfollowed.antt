@@ -2,7 +2,7 @@
 use Rattle.std.specs.Prelude.{◌≡◌, ℕ, Bool, true, false, cond, not, is_some, ◌&&◌, ◌||◌, if◌then◌else◌, Option, Some, None, List, [], ◌∷◌, ◌++◌, nat_eq, nat_lt, refl, slice_index}
 use Rattle.std.specs.List.{filter_map, slice_get}
 use Rattle.std.specs.Option.{option_and_then, option_map}
-use Rattle.zvt_field.specs.Grammar.{Field, plain}
+use Rattle.zvt_field.specs.Grammar.{plain}
 use Rattle.zvt_field.specs.Named.{amount_of}
 use Rattle.zvt_apdu.specs.Message.{Message, ack, nack, registration, authorisation, reversal, end_of_day, abort_order, status, intermediate, print_line, text_block, completion, abort, other}
 use Rattle.zvt_apdu.specs.Views.{control_of}
