@@ -36,7 +36,7 @@ class Audit:
     def __init__(self, trace, loose=False, is_open=False):
         self.booked, self.unclear, self.messages, self.bad, self.passed, self.unfollowed = [], [], 0, 0, 0, []
         self.lines_of_booked, self.lines_of_unclear = [], []
-        self.amount, self.statuses, self.taken_up, self.currency, self.named = None, [], False, None, set()
+        self.amount, self.statuses, self.taken_up, self.currency, self.named, self.order = None, [], False, None, set(), None
         self.sides = {sign: json_model.Side(name, loose, is_open) for sign, name in json_model.SIDES.items()}
         self.malformed, self.is_open = False, is_open
         for number, row in json_model.lines_of(trace):
@@ -88,19 +88,33 @@ class Audit:
             return
         self.ends("Unfinished", message["line"])
         if message.get("control") in UNFOLLOWED:
-            self.unfollowed.append({"control": message["control"], "line": message["line"], "name": json_model.COMMANDS[message["control"]]})
+            self.order = {"control": message["control"], "line": message["line"], "name": json_model.COMMANDS[message["control"]]}
         if message["kind"] == "Authorisation" and amount_of(message) is None:
-            self.unfollowed.append({"control": "0601", "line": message["line"]})
+            self.order = {"control": "0601", "line": message["line"]}
+        if self.order:
+            self.unfollowed.append(self.order)
+            self.taken_up = False
         if message["kind"] == "Authorisation":
             self.amount, self.statuses, self.taken_up = amount_of(message), [], False
         if message["kind"] == "Registration":
             self.currency = message.get("currency")
             self.named |= {self.currency} - {None}
 
+    def answered(self, kind, message):
+        """What an answer says of the order that runs and is not followed: the first approval of an amount counts."""
+        self.taken_up |= kind == "Ack"
+        if kind == "Status" and only(message, RESULT) == "00" and amount_of(message):
+            trace = only(message, TRACE)
+            self.order |= {"approved": amount_of(message)} | ({} if trace is None else {"trace": int(trace)})
+        if "approved" in self.order or kind in ("Completion", "Abort") or kind == "Nack" and not self.taken_up:
+            self.order = None
+
     def heard(self, message):
+        kind = "Ack" if message["kind"] == "Nack" and message["code"] == "00" else message["kind"]
+        if self.order:
+            self.answered(kind, message)
         if self.amount is None:
             return
-        kind = "Ack" if message["kind"] == "Nack" and message["code"] == "00" else message["kind"]
         if kind == "Status":
             self.statuses.append(self.class_of(message))
         elif kind == "Ack":
@@ -143,11 +157,11 @@ class Audit:
         return "TraceUsed" if self.statuses[0][0] in [trace for _, trace, _ in self.booked] else None
 
     def ends(self, cause, line):
-        """The payment that runs, if one does, is over at this line, and unclear where there is a cause."""
+        """The order that runs, if one does, is over at this line. A payment is unclear where there is a cause."""
         if self.amount and cause:
             self.unclear.append((self.amount, cause))
             self.lines_of_unclear.append(line)
-        self.amount = None
+        self.amount = self.order = None
 
     def total(self):
         return sum(amount for amount, _, _ in self.booked)
@@ -160,6 +174,14 @@ class Audit:
         yield from ({"unfollowed": order} for order in self.unfollowed)
         currency = {"currency": min(self.named)} if len(self.named) == 1 else {}
         yield {"bad": self.bad, **currency, "messages": self.messages, "total": self.total()}
+
+
+def note_of(order):
+    """What standard error says of an order that is not followed."""
+    control, name = order["control"], order.get("name", "payment without one amount")
+    approved = f"; approved {order['approved']}" if "approved" in order else ""
+    trace = f", trace {order['trace']:06}" if "trace" in order else ""
+    return f"zvt: line {order['line']} of the trace: {control[:2]} {control[2:]} ({name}) is not followed{approved}{trace}"
 
 
 def text_of(said):

@@ -6,7 +6,7 @@
 PROGRAM is the one that `rt ci` built, unless another is named. With `--text` what a program without `--json` writes is
 compared alone. The traces are those of examples/, the journals of fifteen dialogues, random dialogues of payments whose
 messages are left out, doubled, changed, cut and refused, and the hostile traces of `random_traces.py`. Of `audit --check` the
-status is compared: 1 where a payment is unclear, or an order is not followed. The counts of `--json` are those that standard error says. The lines of
+status is compared: 1 where a payment is unclear, or an order is not followed. The counts of `--json` and the orders that are not followed are those that standard error says. The lines of
 books in docs/JSON.md are held too. The status is 1 where anything differs.
 """
 import concurrent.futures
@@ -28,6 +28,7 @@ TEXT_ALONE = "--text" in sys.argv[1:2]
 WORDS = sys.argv[2 if TEXT_ALONE else 1:]
 PROGRAM = program(WORDS)
 SEED, DIALOGUES, HOSTILE = 20261126, 1500, 300
+UNFOLLOWED = [bytes.fromhex(control) for control in sorted(audit_model.UNFOLLOWED)]
 CAUSES = {"NoStatus", "Conflict", "AmountDiffers", "NoTrace", "TraceUsed", "AbortAfterApproval", "Line", "Malformed", "Unfinished", "WrongCurrency"}
 
 
@@ -69,7 +70,8 @@ class Dialogue:
         order = b"\x04" + digits(amount, 6) + self.chance.choice((b"", b"\x49\x09\x78"))
         if self.odd(0.05):
             order = self.chance.choice((b"", order + order, b"\x04" + bytes(6)))
-        self.say(">", message(AUTHORISATION, order))
+        kind = AUTHORISATION if not self.odd(0.2) else self.chance.choice(UNFOLLOWED)
+        self.say(">", message(kind, order))
         self.number += not self.odd(0.1)
         heard = [ACK, *(message(STATUS, self.fields(amount)) for _ in range(self.chance.choice((0, 1, 1, 1, 1, 2)))), message(b"\x06\xD1", b"\0OK")]
         if self.odd(0.2):
@@ -101,7 +103,7 @@ class Dialogue:
 
 class Trial:
     def __init__(self):
-        self.wrong, self.audits, self.causes, self.booked, self.passed = 0, 0, set(), 0, 0
+        self.wrong, self.audits, self.causes, self.booked, self.passed, self.approved = 0, 0, set(), 0, 0, 0
 
     def differs(self, *what):
         self.wrong += 1
@@ -122,6 +124,13 @@ class Trial:
         if found != ([(audit.messages, audit.bad)] if audit.bad else []):
             self.differs("the counts", found, "instead of", audit.messages, audit.bad)
 
+    def told(self, audit, noted):
+        """The orders that standard error says are not followed, with what was approved for each."""
+        found = [line for line in noted.splitlines() if " is not followed" in line]
+        if found != [audit_model.note_of(order) for order in audit.unfollowed]:
+            self.differs("the orders", found, "instead of", audit.unfollowed)
+        self.approved += sum("approved" in order for order in audit.unfollowed)
+
     def hold(self, trace, words=()):
         self.hold_by(trace, words)
         if not TEXT_ALONE:
@@ -141,7 +150,9 @@ class Trial:
         checked = 1 if audit.unclear or audit.unfollowed else status
         self.passed += audit.passed
         text = "".join(audit_model.text_of(one) + "\n" for one in said if "unfollowed" not in one).encode()
-        self.counted(audit, self.run(words, trace, (status, text)))
+        noted = self.run(words, trace, (status, text))
+        self.counted(audit, noted)
+        self.told(audit, noted)
         if not TEXT_ALONE:
             lines = "".join(json_model.json_of(one) + "\n" for one in said).encode()
             self.counted(audit, self.run(["--json", *words], trace, (status, lines)))
@@ -184,9 +195,11 @@ def main():
     documented(trial)
     with concurrent.futures.ThreadPoolExecutor(min(4, os.cpu_count() or 1)) as pool:
         list(pool.map(lambda one: trial.hold(*one), list(traces(random.Random(SEED)))))
+    if not trial.approved:
+        trial.differs("nothing is approved for an order that is not followed")
     if trial.causes != CAUSES:
         trial.differs("no payment is unclear by", CAUSES - trial.causes)
-    print(f"{'NOT AS EXPECTED' if trial.wrong else 'ok'}: {trial.audits} audits, {trial.booked} payments booked, {len(trial.causes)} causes, {trial.passed} messages passed over"
+    print(f"{'NOT AS EXPECTED' if trial.wrong else 'ok'}: {trial.audits} audits, {trial.booked} payments booked, {len(trial.causes)} causes, {trial.passed} messages passed over, {trial.approved} approvals of orders that are not followed"
           f"{', the text alone' if TEXT_ALONE else ''}: {trial.wrong} wrong")
     return 1 if trial.wrong else 0
 

@@ -109,6 +109,18 @@ done
 notes "payments without an amount" 0 "total 0" "zvt: line 1 of the trace: 06 01 (payment without one amount) is not followed
 zvt: line 3 of the trace: 06 01 (payment without one amount) is not followed
 $lacks" '> 06 01 00\n< 80 00 00\n> 06 01 00\n< 80 00 00\n' audit
+refund='> 06 31 03 00 00 00\n< 80 00 00\n' amount='04 00 00 00 00 05 00' trace='0B 00 00 19'
+note="zvt: line 1 of the trace: 06 31 (refund) is not followed"
+notes "an approved refund" 0 "total 0" "$note; approved 500, trace 000019
+$lacks" "$refund< 04 0F 0D 27 00 $amount $trace\n< 06 0F 00\n" audit
+notes "a refund that is approved after it was declined" 0 "total 0" "$note; approved 500, trace 000019
+$lacks" "$refund< 04 0F 02 27 6C\n< 04 0F 0D 27 00 $amount $trace\n" audit
+notes "an approved refund without a trace number" 0 "total 0" "$note; approved 500
+$lacks" "$refund< 04 0F 09 27 00 $amount\n" audit
+notes "a declined refund" 0 "total 0" "$note
+$lacks" "$refund< 04 0F 0D 27 6C $amount $trace\n< 06 0F 00\n" audit
+notes "a status after the end of a refund" 0 "total 0" "$note
+$lacks" "$refund< 06 0F 00\n< 04 0F 0D 27 00 $amount $trace\n" audit
 for low in 20 21 26 32 70; do
     notes "the command 06 $low" 0 "total 0" "" "> 06 $low 03 00 00 00\n< 80 00 00\n" "audit --check"
 done

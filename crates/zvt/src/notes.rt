@@ -71,12 +71,25 @@ impl OrderNote {
 
 impl fmt::Display for OrderNote {
     fn fmt<W: fmt::Write>(&self, f: &mut fmt::Formatter<W>) -> fmt::Result {
-        let UnfollowedOrder { line, high, low } = self.order;
+        let UnfollowedOrder {
+            line,
+            high,
+            low,
+            approved,
+        } = self.order;
         let name = command_name(high, low).unwrap_or("payment without one amount");
         write!(
             f,
             "line {line} of the trace: {high:02X} {low:02X} ({name}) is not followed"
-        )
+        )?;
+        let Some(approval) = approved else {
+            return Ok(());
+        };
+        write!(f, "; approved {}", approval.amount.get())?;
+        match approval.trace {
+            Some(trace) => write!(f, ", trace {:06}", trace.get()),
+            None => Ok(()),
+        }
     }
 }
 

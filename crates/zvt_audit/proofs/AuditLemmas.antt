@@ -1,6 +1,6 @@
 -- The books of what a walk emits.
-use Rattle.std.proofs.Common.{◌≡◌, inl, inr, ℕ, ◌≤◌, Bool, true, false, not, ◌&&◌, ◌||◌, List, [], ◌∷◌, ◌++◌, Option, Some, None, Result, Ok, Err, length, refl, sym, ◌∙◌, ap, subst, append_assoc, append-nil}
-use Rattle.std.specs.List.{flat_map}
+use Rattle.std.proofs.Common.{◌≡◌, inl, inr, ℕ, ◌≤◌, Bool, true, false, not, ◌&&◌, ◌||◌, List, [], ◌∷◌, ◌++◌, Option, Some, None, Result, Ok, Err, length, refl, sym, ◌∙◌, ap, ap₂, subst, append_assoc, append-nil}
+use Rattle.std.specs.Option.{option_map}
 use Rattle.std.specs.Io.KnownBytes.{Appends, Keeps}
 use Rattle.std.specs.Prelude.{IfSome}
 use Rattle.std.specs.Str.Lines.{lines}
@@ -28,24 +28,23 @@ use Rattle.zvt_audit.specs.Ends.{AreEndLines, lines_of}
 use Rattle.zvt_audit.specs.Json.{books_in}
 use Rattle.zvt_text.specs.declared.form.Form.{Form}
 use Rattle.zvt_text.specs.declared.form.Form.TheVariants.{Text}
-use Rattle.zvt_audit.specs.Happened.{happenings_of, log_of}
-use Rattle.zvt_audit.specs.Orders.{are_swapped, is_order_from, orders_from, unfollowed_at, unfollowed_in, with_unfollowed}
+use Rattle.zvt_audit.specs.Happened.{happened_by, happenings_of, log_of}
+use Rattle.zvt_audit.specs.Orders.{are_swapped, is_order_from, orders_from}
+use Rattle.zvt_audit.specs.Unfollowed.{found_then, found_with, settled_by, unfollowed_in, with_unfollowed}
 use Rattle.zvt_audit.specs.declared.auditor.Auditor.{Auditor}
 use Rattle.zvt_audit.specs.declared.by_control.ByControl.{ByControl}
 use Rattle.zvt_audit.specs.declared.currencies.NamedCurrency.{NamedCurrency}
 use Rattle.zvt_audit.specs.declared.currencies.NamedCurrency.TheVariants.{Absent}
 use Rattle.zvt_audit.specs.declared.summary.AuditSummary.{AuditSummary}
 use Rattle.zvt_audit.specs.declared.orders.Orders.{Orders}
-use Rattle.zvt_audit.specs.declared.orders.UnfollowedOrder.{UnfollowedOrder}
+use Rattle.zvt_audit.specs.declared.unfollowed.UnfollowedOrder.{UnfollowedOrder}
+use Rattle.zvt_audit.specs.declared.unfollowed.Waiting.{Waiting}
 use Rattle.zvt_audit.proofs.EndLemmas.{log_more}
 use Rattle.zvt_audit.proofs.BecomeLemmas.{takes_more, takes_none}
 use Rattle.zvt_audit.proofs.ControlLemmas.{all_seen, seen_whole}
 use Rattle.zvt_audit.proofs.CurrencyLemmas.{after_all, all_agreed, one_more}
 
 -- ---- what is heard
-
-abbrev happened_by : List At → List Happening
-happened_by events = flat_map (λ (event : At). happenings_of event.trace_event) events
 
 taken : (events : List At) (old new : Auditor) → HearsAll hears old events new → Takes old.books new.books (happened_by events)
 taken [] old new same = subst (λ (s : Auditor). Takes old.books s.books []) (sym same) (takes_none old.books)
@@ -76,15 +75,14 @@ terminal_noticed [] old new same = subst (λ (s : Auditor). s.orders.terminal �
 terminal_noticed (event ∷ events) old new some =
     terminal_noticed events some.0 new some.2 ∙ ap (λ (o : Orders). o.terminal || orders_from FromTerminal events) some.1.1 ∙ or_more old.orders.terminal (is_order_from FromTerminal event.trace_event) (orders_from FromTerminal events)
 
-with_more : (orders : List UnfollowedOrder) (order : Option UnfollowedOrder) → with_unfollowed orders order ≡ orders ++ with_unfollowed [] order
-with_more orders None = sym (append-nil orders)
-with_more orders (Some order) = refl
+-- the orders of all events are found, those after the ones that were found before
+all_found : (events : List At) (old new : Auditor) → HearsAll hears old events new → found_then new.unfollowed [] ≡ found_with old.unfollowed events
+all_found [] old new same = subst (λ (s : Auditor). found_then s.unfollowed [] ≡ found_with old.unfollowed []) (sym same) (sym (append-nil (found_then old.unfollowed [])))
+all_found (event ∷ events) old new some = all_found events some.0 new some.2 ∙ some.1.4 events
 
-unfollowed_noticed : (events : List At) (old new : Auditor) → HearsAll hears old events new → new.unfollowed.items ≡ old.unfollowed.items ++ unfollowed_in events
-unfollowed_noticed [] old new same = subst (λ (s : Auditor). s.unfollowed.items ≡ old.unfollowed.items ++ []) (sym same) (sym (append-nil old.unfollowed.items))
-unfollowed_noticed (event ∷ events) old new some =
-    let own = unfollowed_at event.line event.trace_event in
-    unfollowed_noticed events some.0 new some.2 ∙ ap (λ (l : List UnfollowedOrder). l ++ unfollowed_in events) (some.1.4 ∙ with_more old.unfollowed.items own) ∙ append_assoc old.unfollowed.items (with_unfollowed [] own) (unfollowed_in events)
+found_first : (events : List At) (connected : Auditor) → IsConnected connected → found_with connected.unfollowed events ≡ unfollowed_in events
+found_first events connected start =
+    ap₂ (λ (l : List UnfollowedOrder) (o : Option Waiting). with_unfollowed l (option_map (settled_by (happened_by events)) o) ++ unfollowed_in events) start.5 start.6
 
 swapped : (events : List At) (old new : Auditor) → old.orders.till ≡ false → old.orders.terminal ≡ false → HearsAll hears old events new
     → (not new.orders.till && new.orders.terminal) ≡ are_swapped events
@@ -149,17 +147,17 @@ module _ (r : Reading) (scope : Scope) (trace : List ℕ) (form : Form) (tally :
   by (Err TooLong) never = absurd never
   by (Err Read) never = absurd never
 
-  pub audited_events : (answer : Result AuditSummary TraceFault) → ((log : List Happening) → HasJudged log closed.books → AnswersBooks form log tally closed.orders closed.unfollowed.items (agreed closed.named) (lines_of closed.ends) passed old new answer)
+  pub audited_events : (answer : Result AuditSummary TraceFault) → ((log : List Happening) → HasJudged log closed.books → AnswersBooks form log tally closed.orders (found_then closed.unfollowed []) (agreed closed.named) (lines_of closed.ends) passed old new answer)
       → AnswersReadBy r scope form trace old new answer
   audited_events answer closes =
-      let unfollowed : closed.unfollowed.items ≡ unfollowed_in done = unfollowed_noticed done connected closed heard ∙ ap (λ (l : List UnfollowedOrder). l ++ unfollowed_in done) start.5 in
+      let unfollowed : found_then closed.unfollowed [] ≡ unfollowed_in done = all_found done connected closed heard ∙ found_first done connected start in
       by answer
       (subst (λ (l : List UnfollowedOrder). AnswersBooks form (log_of done) tally closed.orders l (one_currency (currencies_of done)) (lines_of closed.ends) passed old new answer) unfollowed
-      (subst (λ (c : Option ℕ). AnswersBooks form (log_of done) tally closed.orders closed.unfollowed.items c (lines_of closed.ends) passed old new answer) (currency_heard done connected closed start.3 heard) (closes (log_of done) (log_judged done connected closed start.0 heard))))
+      (subst (λ (c : Option ℕ). AnswersBooks form (log_of done) tally closed.orders (found_then closed.unfollowed []) c (lines_of closed.ends) passed old new answer) (currency_heard done connected closed start.3 heard) (closes (log_of done) (log_judged done connected closed start.0 heard))))
 
 pub audited : (r : Reading) (scope : Scope) (trace : List ℕ) (form : Form) (tally : Tally) (answer : Result AuditSummary TraceFault) (old new : Option (List ℕ)) (connected closed : ByControl Auditor)
     → StartsIn scope connected → AnswersWalk r hears_by wants_memory_by scope (lines trace) connected closed (Ok tally)
-    → ((log : List Happening) → HasJudged log closed.listener.books → AnswersBooks form log tally closed.listener.orders closed.listener.unfollowed.items (agreed closed.listener.named) (lines_of closed.listener.ends) closed.passed old new answer)
+    → ((log : List Happening) → HasJudged log closed.listener.books → AnswersBooks form log tally closed.listener.orders (found_then closed.listener.unfollowed []) (agreed closed.listener.named) (lines_of closed.listener.ends) closed.passed old new answer)
     → AnswersReadBy r scope form trace old new answer
 audited r scope trace form tally answer old new connected closed starts walked closes =
     let all = all_seen hears scope walked.0 connected closed starts.1 walked.2 in

@@ -17,11 +17,12 @@ use Rattle.zvt_till.specs.declared.outcomes.Cause.{Cause}
 use Rattle.zvt_till.specs.declared.outcomes.Cause.TheVariants.{NoStatus, Conflict, AmountDiffers, NoTrace, TraceUsed, AbortAfterApproval, Line, Malformed, Unfinished, WrongCurrency}
 use Rattle.zvt_trace.specs.declared.fault.Tally.{Tally}
 use Rattle.zvt_audit.specs.Ends.{Lines}
-use Rattle.serde_json.specs.Data.{Data, Members, object, string, no_members, member}
+use Rattle.serde_json.specs.Data.{Data, object, no_members, member}
 use Rattle.zvt_json.specs.Strings.{count_value, hex_value}
 use Rattle.zvt_text.specs.Meanings.{command_name}
-use Rattle.zvt_audit.specs.Json.{booked_text, booked_value, books_json, line_part, name_part, rows_text, summary_text, summary_value, unclear_text, unclear_value, unfollowed_text, unfollowed_value, with_name}
-use Rattle.zvt_audit.specs.declared.orders.UnfollowedOrder.{UnfollowedOrder}
+use Rattle.zvt_audit.specs.Json.{amount_part, booked_text, booked_value, books_json, line_part, name_part, rows_text, summary_text, summary_value, trace_of, trace_part, unclear_text, unclear_value, unfollowed_text, unfollowed_value, with_amount, with_name, with_trace}
+use Rattle.zvt_audit.specs.declared.unfollowed.Approval.{Approval}
+use Rattle.zvt_audit.specs.declared.unfollowed.UnfollowedOrder.{UnfollowedOrder}
 use Rattle.zvt_audit.specs.Sums.{sum_json, sum_value}
 use Rattle.zvt_audit.specs.Booked.{total}
 use Rattle.zvt_audit.specs.declared.sum.Sum.{Sum}
@@ -128,36 +129,76 @@ all_said f g ends same [] = refl
 all_said f g ends same (entry ∷ entries) = ap₂ (λ (a b : List ℕ). a ++ b) (same entry.1 (slice_get ends entry.0)) (all_said f g ends same entries)
 
 -- a text part by part, from the left and from the right
-grouped_order : (p c l n e z : List ℕ) → p ++ c ++ l ++ n ++ e ++ z ≡ p ++ (c ++ (l ++ (n ++ (e ++ z))))
-grouped_order p c l n e z = simp append_assoc
+grouped_order : (p a k c l n m t z : List ℕ) → p ++ a ++ k ++ c ++ l ++ n ++ m ++ t ++ z ≡ p ++ (a ++ (k ++ (c ++ (l ++ (n ++ (m ++ (t ++ z)))))))
+grouped_order p a k c l n m t z = simp append_assoc
 
-grouped_named : (p c l n k m q z : List ℕ) → p ++ c ++ l ++ n ++ (k ++ m ++ q) ++ z ≡ p ++ (c ++ (l ++ (n ++ (k ++ (m ++ (q ++ z))))))
-grouped_named p c l n k m q z = simp append_assoc
+abbrev order_object : (line : ℕ) (control : List ℕ) (name : Option (List ℕ)) → Option Approval → Data
+order_object line control name approved =
+    object (member (codes "unfollowed") (object (with_amount approved (member (codes "control") (hex_value control) (member (codes "line") (count_value line) (with_name name (with_trace (trace_of approved) no_members)))))) no_members)
 
-abbrev order_object : (line : ℕ) (control : List ℕ) → Members → Data
-order_object line control name = object (member (codes "unfollowed") (object (member (codes "control") (hex_value control) (member (codes "line") (count_value line) name))) no_members)
+-- the parts that may be left out, each with what comes after it
+abbrev amount_then : Option Approval → List ℕ → List ℕ
+amount_then None rest = rest
+amount_then (Some approval) rest = codes "\"approved\":" ++ (decimal approval.amount ++ ((44 ∷ []) ++ rest))
 
-unnamed_nested : (line : ℕ) (control : List ℕ) → codes "{\"unfollowed\":{\"control\":\"" ++ (escape (encode_upper control) ++ (codes "\",\"line\":" ++ (decimal line ++ ([] ++ (codes "}}" ++ 10 ∷ []))))) ≡ line_text (order_object line control no_members)
-unfolding escape_byte
-unnamed_nested line control = simp append_assoc
+amount_first : (approved : Option Approval) (rest : List ℕ) → amount_part approved ++ rest ≡ amount_then approved rest
+amount_first None rest = refl
+amount_first (Some approval) rest =
+    append_assoc (codes "\"approved\":" ++ decimal approval.amount) (44 ∷ []) rest ∙ append_assoc (codes "\"approved\":") (decimal approval.amount) ((44 ∷ []) ++ rest)
 
-named_nested : (line : ℕ) (control name : List ℕ)
-    → codes "{\"unfollowed\":{\"control\":\"" ++ (escape (encode_upper control) ++ (codes "\",\"line\":" ++ (decimal line ++ (codes ",\"name\":\"" ++ (escape name ++ ((34 ∷ []) ++ (codes "}}" ++ 10 ∷ []))))))) ≡ line_text (order_object line control (member (codes "name") (string name) no_members))
-unfolding escape_byte
-named_nested line control name = simp append_assoc
+abbrev name_then : Option (List ℕ) → List ℕ → List ℕ
+name_then None rest = rest
+name_then (Some name) rest = codes ",\"name\":\"" ++ (escape name ++ ((34 ∷ []) ++ rest))
 
-order_said : (line : ℕ) (control : List ℕ) (name : Option (List ℕ)) → IsPlain name
-    → codes "{\"unfollowed\":{\"control\":\"" ++ escape (encode_upper control) ++ codes "\",\"line\":" ++ decimal line ++ name_part name ++ (codes "}}" ++ 10 ∷ []) ≡ line_text (order_object line control (with_name name no_members))
-order_said line control None plain = grouped_order (codes "{\"unfollowed\":{\"control\":\"") (escape (encode_upper control)) (codes "\",\"line\":") (decimal line) [] (codes "}}" ++ 10 ∷ []) ∙ unnamed_nested line control
-order_said line control (Some name) plain =
+name_next : (name : Option (List ℕ)) → IsPlain name → (rest : List ℕ) → name_part name ++ rest ≡ name_then name rest
+name_next None plain rest = refl
+name_next (Some name) plain rest =
     let same : escape name ≡ name = plain in
-    grouped_named (codes "{\"unfollowed\":{\"control\":\"") (escape (encode_upper control)) (codes "\",\"line\":") (decimal line) (codes ",\"name\":\"") name (34 ∷ []) (codes "}}" ++ 10 ∷ [])
-    ∙ ap (λ (l : List ℕ). codes "{\"unfollowed\":{\"control\":\"" ++ (escape (encode_upper control) ++ (codes "\",\"line\":" ++ (decimal line ++ (codes ",\"name\":\"" ++ (l ++ ((34 ∷ []) ++ (codes "}}" ++ 10 ∷ [])))))))) (sym same)
-    ∙ named_nested line control name
+    append_assoc (codes ",\"name\":\"" ++ name) (34 ∷ []) rest ∙ append_assoc (codes ",\"name\":\"") name ((34 ∷ []) ++ rest) ∙ ap (λ (l : List ℕ). codes ",\"name\":\"" ++ (l ++ ((34 ∷ []) ++ rest))) (sym same)
+
+abbrev trace_then : Option ℕ → List ℕ → List ℕ
+trace_then None rest = rest
+trace_then (Some trace) rest = codes ",\"trace\":" ++ (decimal trace ++ rest)
+
+trace_next : (trace : Option ℕ) (rest : List ℕ) → trace_part trace ++ rest ≡ trace_then trace rest
+trace_next None rest = refl
+trace_next (Some trace) rest = append_assoc (codes ",\"trace\":") (decimal trace) rest
+
+-- the text up to the name, and what comes after that
+abbrev order_to : (line : ℕ) (control : List ℕ) → List ℕ → List ℕ
+order_to line control rest = codes "\"control\":\"" ++ (escape (encode_upper control) ++ (codes "\",\"line\":" ++ (decimal line ++ rest)))
+
+abbrev order_parts : (line : ℕ) (control : List ℕ) (name : Option (List ℕ)) → Option Approval → List ℕ
+order_parts line control name approved = codes "{\"unfollowed\":{" ++ amount_then approved (order_to line control (name_then name (trace_then (trace_of approved) (codes "}}" ++ 10 ∷ []))))
+
+not_approved : (line : ℕ) (control : List ℕ) (name : Option (List ℕ)) → order_parts line control name None ≡ line_text (order_object line control name None)
+unfolding escape_byte
+not_approved line control None = simp append_assoc
+not_approved line control (Some name) = simp append_assoc
+
+is_approved : (line : ℕ) (control : List ℕ) (name : Option (List ℕ)) (amount : ℕ) (trace : Option ℕ)
+    → order_parts line control name (Some (record { amount = amount; trace = trace })) ≡ line_text (order_object line control name (Some (record { amount = amount; trace = trace })))
+unfolding escape_byte
+is_approved line control None amount None = simp append_assoc
+is_approved line control None amount (Some trace) = simp append_assoc
+is_approved line control (Some name) amount None = simp append_assoc
+is_approved line control (Some name) amount (Some trace) = simp append_assoc
+
+order_said : (line : ℕ) (control : List ℕ) (name : Option (List ℕ)) (approved : Option Approval) → order_parts line control name approved ≡ line_text (order_object line control name approved)
+order_said line control name None = not_approved line control name
+order_said line control name (Some approval) = is_approved line control name approval.amount approval.trace
 
 unfollowed_said : (order : UnfollowedOrder) → unfollowed_text order ≡ line_text (unfollowed_value order)
 unfolding unfollowed_text
-unfollowed_said order = order_said order.line (order.high ∷ order.low ∷ []) (command_name order.high order.low) (command_plain order.high order.low)
+unfollowed_said order =
+    let control = order.high ∷ order.low ∷ [] in
+    let name = command_name order.high order.low in
+    let last = codes "}}" ++ 10 ∷ [] in
+    grouped_order (codes "{\"unfollowed\":{") (amount_part order.approved) (codes "\"control\":\"") (escape (encode_upper control)) (codes "\",\"line\":") (decimal order.line) (name_part name) (trace_part (trace_of order.approved)) last
+    ∙ ap (λ (l : List ℕ). codes "{\"unfollowed\":{" ++ (amount_part order.approved ++ order_to order.line control l))
+    (ap (λ (l : List ℕ). name_part name ++ l) (trace_next (trace_of order.approved) last) ∙ name_next name (command_plain order.high order.low) (trace_then (trace_of order.approved) last))
+    ∙ ap (λ (l : List ℕ). codes "{\"unfollowed\":{" ++ l) (amount_first order.approved (order_to order.line control (name_then name (trace_then (trace_of order.approved) last))))
+    ∙ order_said order.line control name order.approved
 
 each_said : (orders : List UnfollowedOrder) → flat_map unfollowed_text orders ≡ flat_map (λ order. line_text (unfollowed_value order)) orders
 each_said [] = refl

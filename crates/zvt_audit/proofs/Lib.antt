@@ -8,3 +8,4 @@ pub mod HearLemmas
 pub mod JsonLemmas
 pub mod LineLemmas
 pub mod ReadOnLemmas
+pub mod UnfollowedLemmas

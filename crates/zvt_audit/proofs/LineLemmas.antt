@@ -25,13 +25,14 @@ use Rattle.zvt_audit.specs.Audited.{AnswersBooks, AnswersReadBy, IsConnected, he
 use Rattle.zvt_audit.specs.ByControl.{HearsBy, at_by, event_for, passed_after, seen, shortest_of, taken_as}
 use Rattle.zvt_audit.specs.Currencies.{agreed}
 use Rattle.zvt_audit.specs.Ends.{Lines, lines_of}
+use Rattle.zvt_audit.specs.Unfollowed.{found_then}
 use Rattle.zvt_audit.specs.Line.{AnswersLine, IsNew, books_scope, hears_line, with_tally}
 use Rattle.zvt_trace.specs.Resuming.{side_scope}
 use Rattle.zvt_audit.specs.declared.auditor.Auditor.{Auditor}
 use Rattle.zvt_audit.specs.declared.line.LineAudit.{LineAudit}
 use Rattle.zvt_audit.specs.declared.line.LineBooks.{LineBooks}
 use Rattle.zvt_audit.specs.declared.orders.Orders.{Orders}
-use Rattle.zvt_audit.specs.declared.orders.UnfollowedOrder.{UnfollowedOrder}
+use Rattle.zvt_audit.specs.declared.unfollowed.UnfollowedOrder.{UnfollowedOrder}
 use Rattle.zvt_audit.specs.declared.summary.AuditSummary.{AuditSummary}
 use Rattle.zvt_audit.proofs.AuditLemmas.{audited_events}
 use Rattle.zvt_audit.proofs.BecomeLemmas.{becomes_same}
@@ -45,14 +46,14 @@ by_heard (event ∷ events) old new (middle, heard, rest) = (middle.auditor, hea
 
 -- a piece that is not read changes nothing, and no more does a message that is cut off
 unread_same : (s : Auditor) (line : ℕ) (from : Direction) → hears s (on line (trace_event.unread from)) s
-unread_same s line from = becomes_same s line (trace_event.unread from) refl refl refl refl refl
+unread_same s line from = becomes_same s line (trace_event.unread from) refl refl refl (λ later. refl) refl
 
 cut_same : (s : Auditor) (event : TraceEvent) (line : ℕ) → IsCut event → hears s (on line event) s
 cut_same s (trace_event.message from m) line never = absurd never
 cut_same s (trace_event.refused from head byte place why) line never = absurd never
 cut_same s (trace_event.unread from) line never = absurd never
 cut_same s (trace_event.resumed from size) line never = absurd never
-cut_same s (trace_event.cut_off from head have) line is = becomes_same s line (trace_event.cut_off from head have) refl refl refl refl refl
+cut_same s (trace_event.cut_off from head have) line is = becomes_same s line (trace_event.cut_off from head have) refl refl refl (λ later. refl) refl
 cut_same s trace_event.lost line never = absurd never
 
 -- a line that is read on is never refused
@@ -104,17 +105,17 @@ of_events events = record { messages = messages_in events; bad = bad_in events }
 module _ (r : Reading) (scope : Scope) (trace : List ℕ) (events : List At) (whole : WholeTrace r scope (lines trace) events) (start now : Auditor) (new : IsConnected start) (heard : HearsAll hears start (seen scope events) now)
     (passed : ℕ) (counted : passed ≡ passed_after scope 0 events) (tally : Tally) (before after : Option (List ℕ)) where
   abbrev Closes : Result AuditSummary TraceFault → Type 0
-  Closes answer = (log : List Happening) → HasJudged log now.books → AnswersBooks Text log tally now.orders now.unfollowed.items (agreed now.named) (lines_of now.ends) passed before after answer
+  Closes answer = (log : List Happening) → HasJudged log now.books → AnswersBooks Text log tally now.orders (found_then now.unfollowed []) (agreed now.named) (lines_of now.ends) passed before after answer
 
-  told : (answer : Result AuditSummary TraceFault) → ((log : List Happening) → HasJudged log now.books → AnswersBooks Text log (of_events events) now.orders now.unfollowed.items (agreed now.named) (lines_of now.ends) passed before after answer)
+  told : (answer : Result AuditSummary TraceFault) → ((log : List Happening) → HasJudged log now.books → AnswersBooks Text log (of_events events) now.orders (found_then now.unfollowed []) (agreed now.named) (lines_of now.ends) passed before after answer)
       → AnswersReadBy r scope Text trace before after answer
   told answer closes = audited_events r scope trace Text (of_events events) events whole (record { messages = refl; bad = refl }) start now new heard passed counted before after answer closes
 
   written : (found : AuditSummary) → Closes (Ok found) → AnswersReadBy r scope Text trace before after (Ok (with_tally (of_events events) (line_books found)))
-  written found closes = told (Ok (with_tally (of_events events) (line_books found))) (λ log judged. any_tally tally (of_events events) log now.orders now.unfollowed.items (agreed now.named) (lines_of now.ends) passed before after found (closes log judged))
+  written found closes = told (Ok (with_tally (of_events events) (line_books found))) (λ log judged. any_tally tally (of_events events) log now.orders (found_then now.unfollowed []) (agreed now.named) (lines_of now.ends) passed before after found (closes log judged))
 
   failed : (fault : TraceFault) → Closes (Err fault) → AnswersReadBy r scope Text trace before after (Err fault)
-  failed fault closes = told (Err fault) (λ log judged. no_tally tally (of_events events) log now.orders now.unfollowed.items (agreed now.named) (lines_of now.ends) passed before after fault (closes log judged))
+  failed fault closes = told (Err fault) (λ log judged. no_tally tally (of_events events) log now.orders (found_then now.unfollowed []) (agreed now.named) (lines_of now.ends) passed before after fault (closes log judged))
 
 -- The events of a line's trace as its books are read, what is seen of them heard, and the messages that were passed over.
 abbrev Heard : Reading → (reads_on : Bool) → (trace : List ℕ) → (start now : LineAudit) → Type 0
@@ -141,10 +142,10 @@ module _ (r : Reading) (reads_on : Bool) (trace : List ℕ) (events : List At) (
   all : Heard r reads_on trace start now
   all = heard_as_read r reads_on trace events start now new whole heard
 
-  pub line_written : (found : AuditSummary) → ((log : List Happening) → HasJudged log now.auditor.listener.listener.books → AnswersBooks Text log tally now.auditor.listener.listener.orders now.auditor.listener.listener.unfollowed.items (agreed now.auditor.listener.listener.named) (lines_of now.auditor.listener.listener.ends) now.auditor.passed before after (Ok found))
+  pub line_written : (found : AuditSummary) → ((log : List Happening) → HasJudged log now.auditor.listener.listener.books → AnswersBooks Text log tally now.auditor.listener.listener.orders (found_then now.auditor.listener.listener.unfollowed []) (agreed now.auditor.listener.listener.named) (lines_of now.auditor.listener.listener.ends) now.auditor.passed before after (Ok found))
       → AnswersLine r reads_on trace before after (Ok (line_books found))
   line_written found closes = (of_events all.0, written r (books_scope reads_on) trace all.0 all.1 start.auditor.listener.listener now.auditor.listener.listener new.0 all.2 now.auditor.passed all.3 tally before after found closes)
 
-  pub line_failed : (fault : TraceFault) → ((log : List Happening) → HasJudged log now.auditor.listener.listener.books → AnswersBooks Text log tally now.auditor.listener.listener.orders now.auditor.listener.listener.unfollowed.items (agreed now.auditor.listener.listener.named) (lines_of now.auditor.listener.listener.ends) now.auditor.passed before after (Err fault))
+  pub line_failed : (fault : TraceFault) → ((log : List Happening) → HasJudged log now.auditor.listener.listener.books → AnswersBooks Text log tally now.auditor.listener.listener.orders (found_then now.auditor.listener.listener.unfollowed []) (agreed now.auditor.listener.listener.named) (lines_of now.auditor.listener.listener.ends) now.auditor.passed before after (Err fault))
       → AnswersLine r reads_on trace before after (Err fault)
   line_failed fault closes = failed r (books_scope reads_on) trace all.0 all.1 start.auditor.listener.listener now.auditor.listener.listener new.0 all.2 now.auditor.passed all.3 tally before after fault closes

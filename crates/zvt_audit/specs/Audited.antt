@@ -1,5 +1,5 @@
 -- What an audit answers and writes.
-use Rattle.std.specs.Prelude.{◌≡◌, ℕ, ◌<◌, ◌≤◌, Bool, false, not, ◌&&◌, List, [], ◌∷◌, ◌++◌, length, Option, Result, Ok, Err}
+use Rattle.std.specs.Prelude.{◌≡◌, ℕ, ◌<◌, ◌≤◌, Bool, false, not, ◌&&◌, List, [], ◌∷◌, ◌++◌, length, Option, None, Result, Ok, Err}
 use Rattle.std.specs.Io.KnownBytes.{Appends, IsAtEnd, Keeps}
 use Rattle.std.specs.Str.Lines.{lines}
 use Rattle.zvt_grammar.specs.Reading.{Reading, shortest}
@@ -24,13 +24,14 @@ use Rattle.zvt_audit.specs.Currencies.{currencies_of, named_after, named_by, one
 use Rattle.zvt_audit.specs.Ends.{AreEndLines, Lines, lines_of}
 use Rattle.zvt_audit.specs.Happened.{happenings_of, log_of}
 use Rattle.zvt_audit.specs.Json.{books_in}
-use Rattle.zvt_audit.specs.Orders.{are_swapped, noticed, unfollowed_at, unfollowed_in, with_unfollowed}
+use Rattle.zvt_audit.specs.Orders.{are_swapped, noticed}
+use Rattle.zvt_audit.specs.Unfollowed.{Finds, FindsBy, unfollowed_in}
 use Rattle.zvt_text.specs.declared.form.Form.{Form}
 use Rattle.zvt_audit.specs.declared.auditor.Auditor.{Auditor}
 use Rattle.zvt_audit.specs.declared.by_control.ByControl.{ByControl}
 use Rattle.zvt_audit.specs.declared.currencies.NamedCurrency.TheVariants.{Absent}
 use Rattle.zvt_audit.specs.declared.orders.Orders.{Orders}
-use Rattle.zvt_audit.specs.declared.orders.UnfollowedOrder.{UnfollowedOrder}
+use Rattle.zvt_audit.specs.declared.unfollowed.UnfollowedOrder.{UnfollowedOrder}
 use Rattle.zvt_audit.specs.declared.summary.AuditSummary.{AuditSummary}
 
 -- the books of a log, after these further happenings
@@ -41,7 +42,7 @@ Takes old new happened = (log : List Happening) → HasJudged log old → HasJud
 abbrev pub IsConnected : Auditor → Type 0
 IsConnected auditor =
     HasJudged (Connected ∷ []) auditor.books × (auditor.orders.till ≡ false) × (auditor.orders.terminal ≡ false) × (auditor.named ≡ Absent)
-    × AreEndLines [] (lines_of auditor.ends) × (auditor.unfollowed.items ≡ [])
+    × AreEndLines [] (lines_of auditor.ends) × (auditor.unfollowed.settled.items ≡ []) × (auditor.unfollowed.waiting ≡ None)
 
 -- each event keeps its line, also after an event of this line
 abbrev pub KeepsEnds : Auditor → List Happening → (line : ℕ) → Auditor → Type 0
@@ -52,14 +53,14 @@ KeepsEnds old happened line new =
 -- what an auditor becomes by what happened at a line that is no order
 abbrev pub BecomesBy : Auditor → List Happening → (line : ℕ) → Auditor → Type 0
 BecomesBy old happened line new =
-    Takes old.books new.books happened × (new.orders ≡ old.orders) × (new.named ≡ old.named) × KeepsEnds old happened line new × (new.unfollowed.items ≡ old.unfollowed.items)
+    Takes old.books new.books happened × (new.orders ≡ old.orders) × (new.named ≡ old.named) × KeepsEnds old happened line new × FindsBy old.unfollowed happened new.unfollowed
 
 -- what an auditor becomes by an event
 abbrev pub Becomes : Auditor → At → Auditor → Type 0
 Becomes old event new =
     Takes old.books new.books (happenings_of event.trace_event) × (new.orders ≡ noticed old.orders event.trace_event)
     × (new.named ≡ named_after old.named (named_by event.trace_event)) × KeepsEnds old (happenings_of event.trace_event) event.line new
-    × (new.unfollowed.items ≡ with_unfollowed old.unfollowed.items (unfollowed_at event.line event.trace_event))
+    × Finds old.unfollowed event new.unfollowed
 
 -- orders came from where the terminal is said to be, and none from where the till is
 abbrev pub has_swapped : Orders → Bool

@@ -55,6 +55,9 @@ happenings_of (trace_event.resumed from size) = []
 happenings_of (trace_event.cut_off from head have) = []
 happenings_of trace_event.lost = Lost ∷ Connected ∷ []
 
+abbrev pub happened_by : List At → List Happening
+happened_by events = flat_map (λ (event : At). happenings_of event.trace_event) events
+
 -- the log of a till that is connected, and then lives through the events
 abbrev pub log_of : List At → List Happening
-log_of events = Connected ∷ flat_map (λ (event : At). happenings_of event.trace_event) events
+log_of events = Connected ∷ happened_by events

@@ -1,6 +1,7 @@
 -- The books of a trace as JSON. The members of an object come in the order of their names.
 use Rattle.std.specs.Prelude.{ℕ, List, [], ◌∷◌, ◌++◌, Option, Some, None, codes}
 use Rattle.std.specs.List.{enumerate_from, flat_map, slice_get}
+use Rattle.std.specs.Option.{option_and_then}
 use Rattle.std.specs.Fmt.{decimal}
 use Rattle.hex.specs.Hex.{encode_upper}
 use Rattle.json.specs.Print.{escape}
@@ -14,7 +15,8 @@ use Rattle.zvt_trace.specs.declared.fault.Tally.{Tally}
 use Rattle.zvt_audit.specs.Booked.{books_text, total}
 use Rattle.zvt_text.specs.Meanings.{command_name}
 use Rattle.zvt_audit.specs.Ends.{Lines}
-use Rattle.zvt_audit.specs.declared.orders.UnfollowedOrder.{UnfollowedOrder}
+use Rattle.zvt_audit.specs.declared.unfollowed.Approval.{Approval}
+use Rattle.zvt_audit.specs.declared.unfollowed.UnfollowedOrder.{UnfollowedOrder}
 use Rattle.zvt_text.specs.declared.form.Form.{Form}
 use Rattle.zvt_text.specs.declared.form.Form.TheVariants.{Text, Json}
 
@@ -54,14 +56,29 @@ summary_value tally currency total = object (member (codes "bad") (count_value t
 abbrev pub rows_text : {A : Type 0} → (A → Option ℕ → List ℕ) → (ends : List ℕ) → List A → List ℕ
 rows_text text ends rows = flat_map (λ entry. text entry.1 (slice_get ends entry.0)) (enumerate_from 0 rows)
 
--- an order that is not followed: its control bytes, its line, and its name, if the control bytes have one
 abbrev pub with_name : Option (List ℕ) → Members → Members
 with_name None later = later
 with_name (Some name) later = member (codes "name") (string name) later
 
+-- the amount that the terminal approved, if it did, and what comes after it
+abbrev pub with_amount : Option Approval → Members → Members
+with_amount None later = later
+with_amount (Some approval) later = member (codes "approved") (count_value approval.amount) later
+
+-- the trace number of the approval, if there is one, and what comes after it
+abbrev pub with_trace : Option ℕ → Members → Members
+with_trace None later = later
+with_trace (Some trace) later = member (codes "trace") (count_value trace) later
+
+abbrev pub trace_of : Option Approval → Option ℕ
+trace_of approved = option_and_then (λ (approval : Approval). approval.trace) approved
+
+-- an order that is not followed: what the terminal approved for it, its control bytes, its line, and its name, if the control bytes have one
 abbrev pub order_value : UnfollowedOrder → Data
 order_value order =
-    object (member (codes "control") (hex_value (order.high ∷ order.low ∷ [])) (member (codes "line") (count_value order.line) (with_name (command_name order.high order.low) no_members)))
+    object
+    (with_amount order.approved
+    (member (codes "control") (hex_value (order.high ∷ order.low ∷ [])) (member (codes "line") (count_value order.line) (with_name (command_name order.high order.low) (with_trace (trace_of order.approved) no_members)))))
 
 abbrev pub unfollowed_value : UnfollowedOrder → Data
 unfollowed_value order = object (member (codes "unfollowed") (order_value order) no_members)
@@ -98,9 +115,18 @@ abbrev pub name_part : Option (List ℕ) → List ℕ
 name_part None = []
 name_part (Some name) = codes ",\"name\":\"" ++ name ++ 34 ∷ []
 
+abbrev pub amount_part : Option Approval → List ℕ
+amount_part None = []
+amount_part (Some approval) = codes "\"approved\":" ++ decimal approval.amount ++ 44 ∷ []
+
+abbrev pub trace_part : Option ℕ → List ℕ
+trace_part None = []
+trace_part (Some trace) = codes ",\"trace\":" ++ decimal trace
+
 unfoldable pub unfollowed_text : UnfollowedOrder → List ℕ
 unfollowed_text order =
-    codes "{\"unfollowed\":{\"control\":\"" ++ escape (encode_upper (order.high ∷ order.low ∷ [])) ++ codes "\",\"line\":" ++ decimal order.line ++ name_part (command_name order.high order.low) ++ (codes "}}" ++ 10 ∷ [])
+    codes "{\"unfollowed\":{" ++ amount_part order.approved ++ codes "\"control\":\"" ++ escape (encode_upper (order.high ∷ order.low ∷ [])) ++ codes "\",\"line\":" ++ decimal order.line
+    ++ name_part (command_name order.high order.low) ++ trace_part (trace_of order.approved) ++ (codes "}}" ++ 10 ∷ [])
 
 abbrev pub currency_part : Option ℕ → List ℕ
 currency_part None = []

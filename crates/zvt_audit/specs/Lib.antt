@@ -9,4 +9,5 @@ pub mod Json
 pub mod Laws
 pub mod Orders
 pub mod Sums
+pub mod Unfollowed
 pub mod Line

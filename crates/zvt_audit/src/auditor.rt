@@ -2,7 +2,8 @@
 use crate::currencies::NamedCurrency;
 use crate::ends::{Ends, can_end};
 use crate::happened::ordered;
-use crate::orders::{Orders, UnfollowedOrder, add_unfollowed};
+use crate::orders::Orders;
+use crate::unfollowed::Unfollowed;
 use std::alloc::AllocError;
 use zvt_apdu::{ApduView, Kind};
 use zvt_till::{Bookkeeping, Happening};
@@ -14,7 +15,7 @@ use zvt_trace::{Direction, Listener, ListenerError, TraceEvent};
 pub(crate) struct Auditor {
     pub(crate) books: Bookkeeping,
     pub(crate) orders: Orders,
-    pub(crate) unfollowed: Vec<UnfollowedOrder>,
+    pub(crate) unfollowed: Unfollowed,
     pub(crate) named: NamedCurrency,
     pub(crate) ends: Ends,
 }
@@ -70,7 +71,7 @@ impl Auditor {
         ensures { OnOk result (Becomes self.old (on line (trace_event.message FromTill apdu.now)) self.new) }
     {
         self.orders.notice(Direction::FromTill, apdu);
-        add_unfollowed(&mut self.unfollowed, line, apdu)?;
+        self.unfollowed.notice(line, apdu)?;
         self.named.notice(apdu.currency());
         match ordered(apdu) {
             Some(order) => {
@@ -88,6 +89,7 @@ impl Auditor {
     {
         self.orders.notice(Direction::FromTerminal, apdu);
         self.books.hear(apdu)?;
+        self.unfollowed.hear(apdu)?;
         if can_end(apdu.kind()) {
             self.ends.notice(&self.books, line)
         } else {
@@ -101,6 +103,7 @@ impl Auditor {
         ensures { OnOk result (BecomesBy self.old (Malformed ∷ []) line self.new) }
     {
         self.books.take(&Happening::Malformed)?;
+        self.unfollowed.take(&Happening::Malformed)?;
         self.ends.notice(&self.books, line)
     }
 
@@ -111,6 +114,7 @@ impl Auditor {
     {
         self.books.take(&Happening::Lost)?;
         self.books.take(&Happening::Connected)?;
+        self.unfollowed.take(&Happening::Lost)?;
         self.ends.notice(&self.books, line)
     }
 }

@@ -5,7 +5,7 @@ ghost use Rattle.zvt_audit.specs.Ends.{lines_of};
 ghost use Rattle.zvt_audit.specs.Json.{books_in};
 
 use crate::ends::Ends;
-use crate::orders::UnfollowedOrder;
+use crate::unfollowed::UnfollowedOrder;
 use crate::{booked, objects};
 use std::alloc::AllocError;
 use zvt_bcd::Currency;

@@ -15,9 +15,10 @@ mod objects;
 mod orders;
 mod sum;
 mod summary;
+mod unfollowed;
 
 pub use follow::{Audit, follow_audit};
 pub use line::{LineAudit, LineBooks};
-pub use orders::UnfollowedOrder;
 pub use sum::Sum;
 pub use summary::{AuditSummary, audit_trace};
+pub use unfollowed::{Approval, UnfollowedOrder};

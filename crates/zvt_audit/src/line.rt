@@ -10,8 +10,8 @@ ghost use Rattle.zvt_audit.specs.Line.{AnswersLine, IsNew, hears_line};
 
 use crate::auditor::Auditor;
 use crate::by_control::ByControl;
-use crate::orders::UnfollowedOrder;
 use crate::summary::{connected, write_books};
+use crate::unfollowed::UnfollowedOrder;
 use std::alloc::{AllocError, Global};
 use zvt_io::Sink;
 use zvt_text::Form;

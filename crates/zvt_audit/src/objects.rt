@@ -8,11 +8,11 @@ ghost use Rattle.zvt_text.specs.Writing.{Adds};
 ghost use Rattle.zvt_till.specs.Judging.{books_value, row_value};
 ghost use Rattle.zvt_audit.specs.Ends.{lines_of};
 ghost use Rattle.zvt_audit.specs.Json.{booked_text, books_json, currency_part, line_part, receipt_part, summary_text};
-ghost use Rattle.zvt_audit.specs.Json.{name_part, unclear_text, unfollowed_text};
+ghost use Rattle.zvt_audit.specs.Json.{amount_part, name_part, trace_of, trace_part, unclear_text, unfollowed_text};
 
 use crate::booked::total;
 use crate::ends::Ends;
-use crate::orders::UnfollowedOrder;
+use crate::unfollowed::{Approval, UnfollowedOrder};
 use std::alloc::AllocError;
 use zvt_bcd::{Amount, Currency};
 use zvt_text::{Text, command_name};
@@ -113,13 +113,41 @@ fn unfollowed_rows(text: &mut Text, orders: &[UnfollowedOrder]) -> Result<(), Al
 fn unfollowed_row(text: &mut Text, order: &UnfollowedOrder) -> Result<(), AllocError>
     ensures { OnOk result (text.new ≡ text.old ++ unfollowed_text order.now) }
 {
-    let UnfollowedOrder { line, high, low } = *order;
-    text.word(b"{\"unfollowed\":{\"control\":\"")?;
-    digits(text, &[high, low])?;
+    text.word(b"{\"unfollowed\":{")?;
+    approved_amount(text, order.approved)?;
+    text.word(b"\"control\":\"")?;
+    digits(text, &[order.high, order.low])?;
     text.word(b"\",\"line\":")?;
-    text.number(line)?;
-    name(text, high, low)?;
+    text.number(order.line)?;
+    name(text, order.high, order.low)?;
+    approved_trace(text, order.approved)?;
     text.word(b"}}\n")
+}
+
+/// Adds the amount that the terminal approved, if it did.
+fn approved_amount(text: &mut Text, approved: Option<Approval>) -> Result<(), AllocError>
+    ensures { OnOk result (text.new ≡ text.old ++ amount_part approved) }
+{
+    let Some(approval) = approved else {
+        return Ok(());
+    };
+    text.word(b"\"approved\":")?;
+    text.number(approval.amount.get())?;
+    text.push(b',')
+}
+
+/// Adds the trace number of the approval, if it has one.
+fn approved_trace(text: &mut Text, approved: Option<Approval>) -> Result<(), AllocError>
+    ensures { OnOk result (text.new ≡ text.old ++ trace_part (trace_of approved)) }
+{
+    let Some(approval) = approved else {
+        return Ok(());
+    };
+    let Some(trace) = approval.trace else {
+        return Ok(());
+    };
+    text.word(b",\"trace\":")?;
+    text.number(trace.get())
 }
 
 /// Adds the name of the command with these control bytes, if it has one.

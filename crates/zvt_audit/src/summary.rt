@@ -1,5 +1,5 @@
 //! The books of a whole trace.
-ghost use Rattle.std.specs.Prelude.{◌≡◌, ◌<◌, ◌≤◌, List, length, Err, IfOk};
+ghost use Rattle.std.specs.Prelude.{◌≡◌, ◌<◌, ◌≤◌, [], List, length, Err, IfOk};
 ghost use Rattle.zvt_grammar.specs.Lengths.{reading_of};
 ghost use Rattle.zvt_trace.specs.Written.{limit};
 ghost use Rattle.zvt_till.specs.Judging.{HasJudged};
@@ -7,12 +7,14 @@ ghost use Rattle.zvt_till.specs.declared.happenings.Happening.{Happening};
 ghost use Rattle.zvt_audit.specs.Audited.{AnswersBooks, AnswersReadBy, StartsIn};
 ghost use Rattle.zvt_audit.specs.Currencies.{agreed};
 ghost use Rattle.zvt_audit.specs.Ends.{lines_of};
+ghost use Rattle.zvt_audit.specs.Unfollowed.{found_then};
 
 use crate::auditor::Auditor;
 use crate::by_control::ByControl;
 use crate::currencies::NamedCurrency;
 use crate::ends::Ends;
-use crate::orders::{Orders, UnfollowedOrder};
+use crate::orders::Orders;
+use crate::unfollowed::{Unfollowed, UnfollowedOrder};
 use crate::{booked, form};
 use std::alloc::{AllocError, Global};
 use zvt_grammar::Lengths;
@@ -76,7 +78,7 @@ pub(crate) fn connected(alloc: Global, scope: Scope) -> Result<ByControl<Auditor
         listener: Auditor {
             books,
             orders: Orders::none(),
-            unfollowed: Vec::new(alloc),
+            unfollowed: Unfollowed::none(alloc),
             named: NamedCurrency::none(),
             ends: Ends::none(alloc),
         },
@@ -94,7 +96,7 @@ pub(crate) fn write_books<W: Sink>(
     writer: &mut W,
 ) -> Result<AuditSummary, TraceFault>
     ensures writes { (log : List Happening) → HasJudged log audit.listener.books → AnswersBooks form log tally
-        audit.listener.orders audit.listener.unfollowed.items (agreed audit.listener.named)
+        audit.listener.orders (found_then audit.listener.unfollowed []) (agreed audit.listener.named)
         (lines_of audit.listener.ends) audit.passed (W.written writer.old) (W.written writer.new) result }
     ensures write { result ≡ Err TraceFault.Write → W.failures writer.old < W.failures writer.new }
     ensures read { result ≡ Err TraceFault.Read → ⊥ }
@@ -105,7 +107,7 @@ pub(crate) fn write_books<W: Sink>(
         ..
     } = audit;
     let swapped = auditor.orders.are_swapped();
-    let unfollowed = auditor.unfollowed;
+    let unfollowed = auditor.unfollowed.close()?;
     let currency = auditor.named.agreed();
     let found = auditor.books.close()?;
     let mut text = Text::new(alloc);
