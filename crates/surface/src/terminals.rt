@@ -71,11 +71,13 @@ fn extended(alloc: Global) -> bool {
         card: Some(Card::Girocard),
         receipts: Receipts::Blocks,
         intermediate: true,
+        delay: 100,
     };
     let mut terminal = Extended::new(alloc, 1, Verdict::Approve, extras);
     let refused = terminal.hear(alloc, &apdu).is_ok() && terminal.refund.is_none();
+    let idle = terminal.elapse().is_ok() && terminal.held.is_none();
     let plain = Extended::new(alloc, 1, Verdict::Approve, Extras::none());
-    refused && !plain.resting() && matches!(extra_of(&apdu), Some(Extra::Refund(Some(_))))
+    refused && idle && !plain.resting() && matches!(extra_of(&apdu), Some(Extra::Refund(Some(_))))
 }
 
 fn hears(terminal: &mut Terminal, apdu: &Apdu) -> bool {

@@ -21,12 +21,12 @@ use Rattle.zvt_term.specs.declared.extras.Receipts.TheVariants.{Lines}
 use Rattle.zvt_term.specs.declared.extended.Extended.{Extended}
 use Rattle.zvt_term.specs.Asking.{asked_as}
 use Rattle.zvt_term.specs.Dressing.{SaysAll, is_ack, is_delayed, message_by, said_by}
-use Rattle.zvt_term.specs.Extended.{ExtrasKeepLedger, HearsTurn, PlainIsServed, RepeatsChangeNothing, extended_hears, extra_turn, heard_extra, hears_by, hears_or_releases, is_answer, last_report, profile_turn, refund_by, repeats}
+use Rattle.zvt_term.specs.Extended.{ExtrasKeepLedger, HearsTurn, PlainIsServed, RepeatsChangeNothing, asked_turn, extended_hears, extra_turn, heard_extra, hears_by, hears_or_releases, hears_while, holds_or_hears, is_answer, is_held, last_report, profile_turn, refund_by, repeats, window_turn}
 use Rattle.zvt_term.specs.Extras.{extra_of, no_extras}
 use Rattle.zvt_term.specs.Reports.{message_of_report}
 use Rattle.zvt_term.specs.Steps.{Says}
 use Rattle.zvt_term.specs.Terminal.{TerminalState, after, is_ready, reports_of, turn_of, when}
-use Rattle.zvt_term.proofs.ExtraLemmas.{same_ledger}
+use Rattle.zvt_term.proofs.ExtraLemmas.{same_ledger, window_ledger}
 
 -- ---- without extras
 
@@ -71,31 +71,46 @@ says_reports tid reply answers h =
       counted = h.counted ∙ ap length (plain_said tid reply) ∙ length-map (reports_of reply) message_of_report;
     }
 
-plain_hears : (old new : Extended) (message : Message) (answers : Answered) → old.extras ≡ no_extras → old.waits ≡ false → extended_hears old message answers new
-    → HearsTurn old (profile_turn old.extras.receipts old.served.terminal (asked_as message) old.served.verdict) None answers new
-plain_hears old new message answers none quiet h =
-    subst (λ (e : Extras). hears_by (heard_extra e message) old message answers new) none
-    (subst (λ (b : Bool). hears_or_releases (b && is_answer (asked_as message)) old message answers new) quiet h)
+plain_prompts : (asked : Asked) (reply : Response) → is_held no_extras asked reply ≡ false
+plain_prompts (Registration currency) reply = refl
+plain_prompts (Authorisation amount named) reply = refl
+plain_prompts (Reversal receipt) reply = refl
+plain_prompts EndOfDay reply = refl
+plain_prompts AbortOrder reply = refl
+plain_prompts Answer reply = refl
+plain_prompts Unknown reply = refl
+
+plain_hears : (old new : Extended) (message : Message) (answers : Answered) → old.extras ≡ no_extras → old.waits ≡ false → old.held ≡ None → extended_hears old message answers new
+    → HearsTurn old (profile_turn old.extras.receipts old.served.terminal (asked_as message) old.served.verdict) None None answers new
+plain_hears old new message answers none quiet free h =
+    let asked : Asked = asked_as message in
+    let reply : Response = (asked_turn old asked).reply in
+    let unheld : is_held old.extras asked reply ≡ false = ap (λ (e : Extras). is_held e asked reply) none ∙ plain_prompts asked reply in
+    let begun : hears_or_releases (old.waits && is_answer asked) old message answers new = subst (λ (p : Option Asked). hears_while p old message answers new) free h in
+    subst (λ (b : Bool). holds_or_hears b old asked answers new) unheld
+    (subst (λ (e : Extras). hears_by (heard_extra e message) old message answers new) none
+    (subst (λ (b : Bool). hears_or_releases (b && is_answer asked) old message answers new) quiet begun))
 
 pub plain_is_served : PlainIsServed
-plain_is_served old new message answers none quiet h =
-    let t = plain_hears old new message answers none quiet h in
+plain_is_served old new message answers none quiet free h =
+    let t = plain_hears old new message answers none quiet free h in
     let s : TerminalState = old.served.terminal in
     let turn : Turn = profile_turn old.extras.receipts s (asked_as message) old.served.verdict in
     let same : turn ≡ turn_of s (asked_as message) old.served.verdict =
     ap (λ (e : Extras). profile_turn e.receipts s (asked_as message) old.served.verdict) none ∙ plain_turn s (asked_as message) old.served.verdict in
     let says : SaysAll (said_by s.tid no_extras turn.reply) answers = subst (λ (e : Extras). SaysAll (said_by s.tid e turn.reply) answers) none t.says in
     let waits : new.waits ≡ (false || is_delayed no_extras turn.reply) =
-    t.waits ∙ ap (λ (b : Bool). b || is_delayed old.extras turn.reply) quiet ∙ ap (λ (e : Extras). is_delayed e turn.reply) none in (
+    t.made.waits ∙ ap (λ (b : Bool). b || is_delayed old.extras turn.reply) quiet ∙ ap (λ (e : Extras). is_delayed e turn.reply) none in (
       (
         record {
-          state = t.terminal ∙ ap (λ (u : Turn). after s u) same;
+          state = t.made.terminal ∙ ap (λ (u : Turn). after s u) same;
           says = says_reports s.tid (turn_of s (asked_as message) old.served.verdict).reply answers (subst (λ (u : Turn). SaysAll (said_by s.tid no_extras u.reply) answers) same says);
         },
-        t.verdict,
+        t.made.verdict,
       ),
-      t.extras ∙ none,
+      t.made.extras ∙ none,
       waits ∙ plain_prompt turn.reply,
+      t.made.held,
     )
 
 -- ---- orders beyond the profile
@@ -122,16 +137,19 @@ neither : (b : Bool) → (b && false) ≡ false
 neither true = refl
 neither false = refl
 
-extra_hears : (old new : Extended) (extra : Extra) (message : Message) (answers : Answered) → heard_extra old.extras message ≡ Some extra → extended_hears old message answers new
-    → HearsTurn old (extra_turn old.served.terminal old.refund extra) (refund_by old.served.terminal old.refund extra) answers new
+extra_hears : (old new : Extended) (extra : Extra) (message : Message) (answers : Answered) → heard_extra old.extras message ≡ Some extra → hears_while None old message answers new
+    → HearsTurn old (extra_turn old.served.terminal old.refund extra) (refund_by old.served.terminal old.refund extra) None answers new
 extra_hears old new extra message answers is h =
     let turns : (old.waits && is_answer (asked_as message)) ≡ false =
     ap (λ (b : Bool). old.waits && b) (no_answer old.extras.extended message extra is) ∙ neither old.waits in
     subst (λ (o : Option Extra). hears_by o old message answers new) is (subst (λ (b : Bool). hears_or_releases b old message answers new) turns h)
 
 pub extras_keep_ledger : ExtrasKeepLedger
-extras_keep_ledger old new extra message answers is h =
-    ap (λ (t : TerminalState). t.ledger) (extra_hears old new extra message answers is h).terminal ∙ same_ledger old.served.terminal old.refund extra
+extras_keep_ledger old new extra message answers is h = by_held old.held h
+  where
+    by_held : (held : Option Asked) → hears_while held old message answers new → new.served.terminal.ledger ≡ old.served.terminal.ledger
+    by_held None h = ap (λ (t : TerminalState). t.ledger) (extra_hears old new extra message answers is h).made.terminal ∙ same_ledger old.served.terminal old.refund extra
+    by_held (Some payment) h = ap (λ (t : TerminalState). t.ledger) h.made.terminal ∙ window_ledger old.served.terminal (asked_as message)
 
 same_rows : (s : TerminalState) (p : Phase) → record s { phase = p; ledger = s.ledger ++ [] } ≡ record s { phase = p }
 same_rows s p = ap (λ (l : List Row). record s { phase = p; ledger = l }) (append-nil s.ledger)
@@ -141,10 +159,23 @@ repeats_stay s true None = same_rows s _
 repeats_stay s true (Some report) = same_rows s _
 repeats_stay s false report = same_rows s _
 
+window_stays : (s : TerminalState) (asked : Asked) → after s (window_turn s asked) ≡ record s { phase = (window_turn s asked).phase }
+window_stays s (Registration currency) = same_rows s _
+window_stays s (Authorisation amount named) = same_rows s _
+window_stays s (Reversal receipt) = same_rows s _
+window_stays s EndOfDay = same_rows s _
+window_stays s AbortOrder = same_rows s _
+window_stays s Answer = same_rows s _
+window_stays s Unknown = same_rows s _
+
 pub repeats_change_nothing : RepeatsChangeNothing
-repeats_change_nothing old new message answers is h =
-    let s : TerminalState = old.served.terminal in
-    let t = extra_hears old new RepeatReceipt message answers is h in
-    let stay : after s (extra_turn s old.refund RepeatReceipt) ≡ record s { phase = (extra_turn s old.refund RepeatReceipt).phase } =
-    repeats_stay s (is_ready s) (last_report s.ledger old.refund) in
-    (t.terminal ∙ (stay ∙ ap (λ (p : Phase). record s { phase = p }) (sym (ap (λ (u : TerminalState). u.phase) t.terminal))), t.refund)
+repeats_change_nothing old new message answers is h = by_held old.held h
+  where
+    alone : (turn : Turn) → after old.served.terminal turn ≡ record old.served.terminal { phase = turn.phase } → new.served.terminal ≡ after old.served.terminal turn → new.served.terminal ≡ record old.served.terminal { phase = new.served.terminal.phase }
+    alone turn stay e = e ∙ (stay ∙ ap (λ (p : Phase). record old.served.terminal { phase = p }) (sym (ap (λ (u : TerminalState). u.phase) e)))
+
+    by_held : (held : Option Asked) → hears_while held old message answers new → (new.served.terminal ≡ record old.served.terminal { phase = new.served.terminal.phase }) × (new.refund ≡ old.refund)
+    by_held None h =
+        let t = (extra_hears old new RepeatReceipt message answers is h).made in
+        (alone (extra_turn old.served.terminal old.refund RepeatReceipt) (repeats_stay old.served.terminal (is_ready old.served.terminal) (last_report old.served.terminal.ledger old.refund)) t.terminal, t.refund)
+    by_held (Some payment) h = (alone (window_turn old.served.terminal (asked_as message)) (window_stays old.served.terminal (asked_as message)) h.made.terminal, h.made.refund)

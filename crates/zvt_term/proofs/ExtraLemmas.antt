@@ -1,4 +1,4 @@
--- The turns of orders beyond the profile add no row, and their reports can be written.
+-- The turns of orders beyond the profile, and those while a payment is held, add no row, and their reports can be written.
 use Rattle.std.proofs.Common.{◌≡◌, ℕ, zero, suc, ◌-◌, ◌==◌, ◌≤◌, Bool, true, false, cond, List, [], ◌∷◌, ◌++◌, length, Option, Some, None, option_map, option_to_list, IfSome, slice_get, refl, sym, subst, ap, ◌∙◌, arith, append-nil}
 use Rattle.zvt_term.specs.declared.messages.Asked.{Asked}
 use Rattle.zvt_term.specs.declared.messages.Asked.TheVariants.{Registration, Authorisation, Reversal, EndOfDay, AbortOrder, Answer, Unknown}
@@ -12,12 +12,14 @@ use Rattle.zvt_term.specs.declared.extras.Receipts.{Receipts}
 use Rattle.zvt_term.specs.declared.extras.Extra.{Extra}
 use Rattle.zvt_term.specs.declared.extras.Extra.TheVariants.{Service, LogOff, RepeatReceipt, Refund}
 use Rattle.zvt_term.specs.declared.refunds.Refunded.{Refunded}
-use Rattle.zvt_term.specs.Extended.{extra_turn, last_report, logs_off, new_refund, next_phase, pays_back, profile_turn, repeats, report_of_refund, report_of_row}
+use Rattle.zvt_term.specs.declared.extended.Extended.{Extended}
+use Rattle.zvt_term.specs.Inside.{IsSound}
+use Rattle.zvt_term.specs.Extended.{asked_turn, extra_turn, last_report, logs_off, new_refund, next_phase, pays_back, profile_turn, repeats, report_of_refund, report_of_row, window_turn}
 use Rattle.zvt_term.specs.Ledger.{NumberedFrom, IsBefore, ReverseEarlier}
 use Rattle.zvt_term.specs.Reports.{IsWritable}
 use Rattle.zvt_term.specs.Steps.{AreWritable, IsNext}
 use Rattle.zvt_term.specs.Terminal.{TerminalState, is_ready, runs, when, after, reports_of}
-use Rattle.zvt_term.proofs.TurnLemmas.{AllShort, Short, Sound, goes_on-sound, numbered-short, turn-sound}
+use Rattle.zvt_term.proofs.TurnLemmas.{AllShort, Short, Sound, goes_on-sound, numbered-short, short-before, turn-sound}
 
 -- ---- no row
 
@@ -111,3 +113,37 @@ profile_sound receipts s EndOfDay v = turn-sound s EndOfDay v
 profile_sound receipts s AbortOrder v = turn-sound s AbortOrder v
 profile_sound receipts s Answer v = goes_on-sound s (next_phase receipts s.phase)
 profile_sound receipts s Unknown v = turn-sound s Unknown v
+
+pub asked_next : (t : Extended) (asked : Asked) → IsNext t.served.terminal (asked_turn t asked).row
+asked_next t asked = (profile_sound t.extras.receipts t.served.terminal asked t.served.verdict).next
+
+pub asked_writable : (t : Extended) (asked : Asked) → IsSound (after t.served.terminal (asked_turn t asked)) → AreWritable (reports_of (asked_turn t asked).reply)
+asked_writable t asked sound =
+    (profile_sound t.extras.receipts t.served.terminal asked t.served.verdict).writable (short-before t.served.terminal (asked_turn t asked) refl sound)
+
+-- ---- messages while a payment is held
+
+pub window_no_row : (s : TerminalState) (asked : Asked) → (window_turn s asked).row ≡ None
+window_no_row s (Registration currency) = refl
+window_no_row s (Authorisation amount named) = refl
+window_no_row s (Reversal receipt) = refl
+window_no_row s EndOfDay = refl
+window_no_row s AbortOrder = refl
+window_no_row s Answer = refl
+window_no_row s Unknown = refl
+
+pub window_next : (s : TerminalState) (asked : Asked) → IsNext s (window_turn s asked).row
+window_next s asked = subst (λ (row : Option Row). IsNext s row) (sym (window_no_row s asked)) tt
+
+pub window_writable : (s : TerminalState) (asked : Asked) → AreWritable (reports_of (window_turn s asked).reply)
+window_writable s (Registration currency) = (tt, tt)
+window_writable s (Authorisation amount named) = (tt, tt)
+window_writable s (Reversal receipt) = (tt, tt)
+window_writable s EndOfDay = (tt, tt)
+window_writable s AbortOrder = (tt, (tt, tt))
+window_writable s Answer = (tt, tt)
+window_writable s Unknown = (tt, tt)
+
+-- the ledger after such a turn
+pub window_ledger : (s : TerminalState) (asked : Asked) → (after s (window_turn s asked)).ledger ≡ s.ledger
+window_ledger s asked = ap (λ (row : Option Row). s.ledger ++ option_to_list row) (window_no_row s asked) ∙ append-nil s.ledger

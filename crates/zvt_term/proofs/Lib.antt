@@ -18,5 +18,7 @@ pub mod AmountLemmas
 pub mod DressingLemmas
 pub mod ExtraLemmas
 pub mod ExtraLaws
+pub mod HeldLaws
+pub mod Owing
 pub mod Withholding
 mod Rows

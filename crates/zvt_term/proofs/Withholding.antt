@@ -1,277 +1,42 @@
 -- The status that a terminal withholds is the status that is due.
-use Rattle.std.proofs.Common.{◌≡◌, ◌∙◌, ℕ, ◌+◌, ◌-◌, ◌≤◌, ◌==◌, ◌&&◌, ◌||◌, Bool, true, false, cond, is_some, nat_lt, List, [], ◌∷◌, ◌++◌, length, Option, Some, None, option_map, option_to_list, slice_get, ap, refl, sym, subst, arith, length-append, append-nil}
-use Rattle.std.proofs.lemmas.Bool.{cond-true, eq-eqb, eqb-true}
+use Rattle.std.proofs.Common.{◌≡◌, ◌∙◌, ◌&&◌, ◌||◌, Bool, true, false, cond, is_some, nat_lt, List, [], ◌∷◌, Option, Some, None, ap, refl, sym, subst}
 use Rattle.std.specs.Option.{option_or}
 use Rattle.zvt_apdu.specs.Message.{Message}
 use Rattle.zvt_stream.specs.Answered.{Answered}
-use Rattle.zvt_till.specs.declared.messages.CurrencyFact.{CurrencyFact}
 use Rattle.zvt_term.specs.declared.messages.Asked.{Asked}
 use Rattle.zvt_term.specs.declared.messages.Asked.TheVariants.{Registration, Authorisation, Reversal, EndOfDay, AbortOrder, Answer, Unknown}
 use Rattle.zvt_term.specs.declared.messages.Report.{Report}
-use Rattle.zvt_term.specs.declared.messages.Report.TheVariants.{Ack, Nack, Registered, Approved, Result, TakenBack, Done, Aborted}
+use Rattle.zvt_term.specs.declared.messages.Report.TheVariants.{Ack, Aborted}
 use Rattle.zvt_term.specs.declared.messages.Response.{Response}
 use Rattle.zvt_term.specs.declared.messages.Response.TheVariants.{Nothing, One, Two}
 use Rattle.zvt_term.specs.declared.ledger.Row.{Row}
-use Rattle.zvt_term.specs.declared.turns.Phase.{Phase}
-use Rattle.zvt_term.specs.declared.turns.Phase.TheVariants.{Idle, Printing, Completing, Aborting, Ending}
 use Rattle.zvt_term.specs.declared.turns.Turn.{Turn}
-use Rattle.zvt_term.specs.declared.turns.Verdict.{Verdict}
-use Rattle.zvt_term.specs.declared.turns.Verdict.TheVariants.{Approve, Decline}
 use Rattle.zvt_term.specs.declared.extras.Extra.{Extra}
-use Rattle.zvt_term.specs.declared.extras.Extra.TheVariants.{Service, LogOff, RepeatReceipt, Refund}
 use Rattle.zvt_term.specs.declared.extras.Extras.{Extras}
-use Rattle.zvt_term.specs.declared.extras.Receipts.{Receipts}
 use Rattle.zvt_term.specs.declared.refunds.Refunded.{Refunded}
 use Rattle.zvt_term.specs.declared.extended.Extended.{Extended}
 use Rattle.zvt_term.specs.declared.served.Served.{Served}
 use Rattle.zvt_term.specs.Asking.{asked_as}
-use Rattle.zvt_term.specs.Dressing.{is_ack, is_delayed, is_status}
-use Rattle.zvt_term.specs.Extended.{ExtendedLoses, HearsTurn, Releases, count_refunds, extended_hears, extra_turn, heard_extra, hears_by, hears_or_releases, is_answer, last_report, last_row, logs_off, new_extended, new_refund, next_phase, pays_back, profile_turn, refund_by, repeats, report_of_refund, report_of_row, status_due}
-use Rattle.zvt_term.specs.Ledger.{approval_by, is_taken_back}
-use Rattle.zvt_term.specs.Terminal.{TerminalState, aborts, after, authorises, closes, decides, goes_on, has_capacity, is_idle, is_ready, most_rows, next_number, refuses, registers, reverses, reverses_found, runs, stays, takes_back_row, takes_currency, when}
-use Rattle.zvt_term.specs.Withheld.{Lives, WithheldIsDue, turn_by, turn_on, withheld_after, withheld_by}
-use Rattle.zvt_term.proofs.TurnLemmas.{taken_back}
+use Rattle.zvt_term.specs.Dressing.{is_delayed}
+use Rattle.zvt_term.specs.Extended.{ExtendedLoses, MakesTurn, Releases, asked_turn, elapses_while, extended_elapses, extended_hears, extra_turn, heard_extra, held_after, hears_by, hears_or_releases, hears_while, holds_or_hears, is_accepted, is_answer, is_held, new_extended, refund_by, status_due, window_turn}
+use Rattle.zvt_term.specs.Terminal.{TerminalState, after, authorises, is_idle, stays, when}
+use Rattle.zvt_term.specs.Withheld.{Event, Heard, Elapsed, Lost, Lives, WithheldIsDue, turn_by, withheld_after, withheld_by, withheld_later, withheld_then, withheld_while}
+use Rattle.zvt_term.proofs.Owing.{IsOwed, IsWithin, Owes, Stays, aborts_owes, extra_owes, extra_stays, neither, not_ready, profile_owes, profile_stays, refuses_owes, silent}
 
--- ---- rows and refunds
+-- ---- any event
 
--- the last refund came no later than the last row
-abbrev pub IsWithin : Option Refunded → List Row → Type 0
-IsWithin None rows = Unit {0}
-IsWithin (Some refund) rows = refund.rows ≤ length rows
+-- while a payment is held, nothing is withheld
+abbrev pub IsFree : Option Asked → Option Report → Type 0
+IsFree held withheld = (payment : Asked) → held ≡ Some payment → withheld ≡ None
 
-within-append : (last : Option Refunded) (rows more : List Row) → IsWithin last rows → IsWithin last (rows ++ more)
-within-append None rows more h = tt
-within-append (Some refund) rows more h = omega (arith, h, length-append rows more)
-
-at_end : (rows : List Row) (row : Row) → slice_get (rows ++ row ∷ []) (length rows) ≡ Some row
-at_end [] row = refl
-at_end (first ∷ rows) row = at_end rows row
-
-last_appended : (rows : List Row) (row : Row) → last_row (rows ++ row ∷ []) ≡ Some row
-last_appended rows row =
-    let size : length (rows ++ row ∷ []) - 1 ≡ length rows = omega (arith, length-append rows (row ∷ [])) in
-    ap (λ (k : ℕ). slice_get (rows ++ row ∷ []) k) size ∙ at_end rows row
-
--- a new row is the last transaction
-row_reported : (last : Option Refunded) (rows : List Row) (row : Row) → IsWithin last rows → last_report (rows ++ row ∷ []) last ≡ Some (report_of_row row)
-row_reported None rows row h = ap (λ (o : Option Row). option_map report_of_row o) (last_appended rows row)
-row_reported (Some refund) rows row h = by_test (refund.rows == length (rows ++ row ∷ [])) refl
-  where
-    by_test : (b : Bool) → (refund.rows == length (rows ++ row ∷ [])) ≡ b
-        → cond b (Some (report_of_refund refund)) (option_map report_of_row (last_row (rows ++ row ∷ []))) ≡ Some (report_of_row row)
-    by_test true e = absurd (omega (arith, h, eqb-true refund.rows (length (rows ++ row ∷ [])) e, length-append rows (row ∷ [])))
-    by_test false e = ap (λ (o : Option Row). option_map report_of_row o) (last_appended rows row)
-
--- a new refund is the last transaction
-refund_reported : (refund : Refunded) (rows : List Row) → refund.rows ≡ length rows → last_report (rows ++ []) (Some refund) ≡ Some (report_of_refund refund)
-refund_reported refund rows e =
-    let same : refund.rows ≡ length (rows ++ []) = e ∙ ap length (sym (append-nil rows)) in
-    cond-true _ _ _ (eq-eqb refund.rows (length (rows ++ [])) same)
-
--- ---- a turn of a terminal that withholds nothing
-
--- what is withheld, if anything, is due in an order
-abbrev pub IsOwed : TerminalState → Option Refunded → Option Report → Type 0
-IsOwed s last None = Unit {0}
-IsOwed s last (Some report) = (is_idle s.phase ≡ false) × (status_due s last ≡ Some report)
-
-pub record Owes (s : TerminalState) (last refunded : Option Refunded) (turn : Turn) : Type 0 where
-  pub within : IsWithin (option_or refunded last) (after s turn).ledger
-  pub owed : (extras : Extras) → IsOwed (after s turn) (option_or refunded last) (withheld_by extras turn.reply)
-
-never : (x y : Bool) (report : Report) → cond (x && (y && false)) (Some report) None ≡ None
-never true true report = refl
-never true false report = refl
-never false y report = refl
-
--- a reply without a status withholds nothing
-silent : (extras : Extras) (first second : Report) → is_status second ≡ false → withheld_by extras (Two first second) ≡ None
-silent extras first second e =
-    ap (λ (b : Bool). cond (extras.intermediate && (is_ack first && b)) (Some second) None) e ∙ never extras.intermediate (is_ack first) second
-
-owes_nothing : (s : TerminalState) (last : Option Refunded) (turn : Turn) → IsWithin last s.ledger → ((extras : Extras) → withheld_by extras turn.reply ≡ None) → Owes s last None turn
-owes_nothing s last turn h e =
-    record {
-      within = within-append last s.ledger (option_to_list turn.row) h;
-      owed = λ extras. subst (λ (o : Option Report). IsOwed (after s turn) last o) (sym (e extras)) tt;
-    }
-
-owed_second : (s : TerminalState) (last : Option Refunded) (first second : Report) (extras : Extras) → is_idle s.phase ≡ false → status_due s last ≡ Some second
-    → IsOwed s last (withheld_by extras (Two first second))
-owed_second s last first second extras runs due = by_test (is_delayed extras (Two first second))
-  where
-    by_test : (b : Bool) → IsOwed s last (cond b (Some second) None)
-    by_test true = (runs, due)
-    by_test false = tt
-
-refuses_owes : (s : TerminalState) (last : Option Refunded) (code : ℕ) → IsWithin last s.ledger → Owes s last None (refuses s code)
-refuses_owes s last code h = owes_nothing s last (refuses s code) h (λ extras. refl)
-
-aborts_owes : (s : TerminalState) (last : Option Refunded) (code : ℕ) → IsWithin last s.ledger → Owes s last None (aborts s code)
-aborts_owes s last code h = owes_nothing s last (aborts s code) h (λ extras. silent extras Ack (Aborted code) refl)
-
-when_owes : (s : TerminalState) (last : Option Refunded) (ready : Bool) (turn : Turn) → IsWithin last s.ledger → Owes s last None turn → Owes s last None (when ready s turn)
-when_owes s last true turn h o = o
-when_owes s last false turn h o = refuses_owes s last 131 h
-
-decides_owes : (s : TerminalState) (last : Option Refunded) (amount : ℕ) (v : Verdict) → IsWithin last s.ledger → Owes s last None (decides s amount v)
-decides_owes s last amount Approve h =
-    let row : Row = record { number = next_number s; amount = amount; currency = s.currency; reverses = None } in
-    record {
-      within = within-append last s.ledger (row ∷ []) h;
-      owed = λ extras. owed_second (after s (decides s amount Approve)) last Ack (Approved amount (next_number s) s.currency) extras refl (row_reported last s.ledger row h);
-    }
-decides_owes s last amount (Decline code) h =
-    record {
-      within = within-append last s.ledger [] h;
-      owed = λ extras. owed_second (after s (decides s amount (Decline code))) last Ack (Result code) extras refl refl;
-    }
-
-authorises_owes : (s : TerminalState) (last : Option Refunded) (amount : Option ℕ) (named : CurrencyFact) (v : Verdict) → IsWithin last s.ledger → Owes s last None (authorises s amount named v)
-authorises_owes s last None named v h = refuses_owes s last 255 h
-authorises_owes s last (Some amount) named v h = by_both (has_capacity s) (takes_currency s.currency named)
-  where
-    by_both : (a b : Bool) → Owes s last None (cond a (cond b (decides s amount v) (refuses s 111)) (refuses s 255))
-    by_both true true = decides_owes s last amount v h
-    by_both true false = refuses_owes s last 111 h
-    by_both false b = refuses_owes s last 255 h
-
-taken_back_owes : (s : TerminalState) (last : Option Refunded) (row : Row) → IsWithin last s.ledger → Owes s last None (taken_back s row)
-taken_back_owes s last row h =
-    let next : Row = record { number = next_number s; amount = row.amount; currency = s.currency; reverses = Some row.number } in
-    record {
-      within = within-append last s.ledger (next ∷ []) h;
-      owed = λ extras. owed_second (after s (taken_back s row)) last Ack (TakenBack row.amount (next_number s) row.number s.currency) extras refl (row_reported last s.ledger next h);
-    }
-
-takes_back_owes : (s : TerminalState) (last : Option Refunded) (row : Row) → IsWithin last s.ledger → Owes s last None (takes_back_row s row)
-takes_back_owes s last row h = by_both (is_taken_back row.number s.ledger) (has_capacity s)
-  where
-    by_both : (a b : Bool) → Owes s last None (cond a (aborts s 180) (cond b (taken_back s row) (aborts s 255)))
-    by_both true b = aborts_owes s last 180 h
-    by_both false true = taken_back_owes s last row h
-    by_both false false = aborts_owes s last 255 h
-
-found_owes : (s : TerminalState) (last : Option Refunded) (row : Option Row) → IsWithin last s.ledger → Owes s last None (reverses_found s row)
-found_owes s last None h = aborts_owes s last 181 h
-found_owes s last (Some row) h = takes_back_owes s last row h
-
-reverses_owes : (s : TerminalState) (last : Option Refunded) (receipt : Option (List ℕ)) → IsWithin last s.ledger → Owes s last None (reverses s receipt)
-reverses_owes s last None h = aborts_owes s last 181 h
-reverses_owes s last (Some receipt) h = found_owes s last (approval_by receipt s.ledger) h
-
-closes_owes : (s : TerminalState) (last : Option Refunded) → IsWithin last s.ledger → Owes s last None (closes s)
-closes_owes s last h =
-    record { within = within-append last s.ledger [] h; owed = λ extras. owed_second (after s (closes s)) last Ack (Result 0) extras refl refl }
-
-goes_on_owes : (s : TerminalState) (last : Option Refunded) (phase : Phase) → IsWithin last s.ledger → Owes s last None (goes_on s phase)
-goes_on_owes s last Idle h = owes_nothing s last (goes_on s Idle) h (λ extras. refl)
-goes_on_owes s last (Printing line) h = owes_nothing s last (goes_on s (Printing line)) h (λ extras. refl)
-goes_on_owes s last Completing h = owes_nothing s last (goes_on s Completing) h (λ extras. refl)
-goes_on_owes s last (Aborting code) h = owes_nothing s last (goes_on s (Aborting code)) h (λ extras. refl)
-goes_on_owes s last Ending h = owes_nothing s last (goes_on s Ending) h (λ extras. refl)
-
-profile_owes : (receipts : Receipts) (s : TerminalState) (last : Option Refunded) (asked : Asked) (v : Verdict) → IsWithin last s.ledger → Owes s last None (profile_turn receipts s asked v)
-profile_owes receipts s last (Registration currency) v h =
-    when_owes s last (is_idle s.phase) (registers s currency) h (owes_nothing s last (registers s currency) h (λ extras. silent extras Ack (Registered s.tid currency) refl))
-profile_owes receipts s last (Authorisation amount named) v h = when_owes s last (is_ready s) (authorises s amount named v) h (authorises_owes s last amount named v h)
-profile_owes receipts s last (Reversal receipt) v h = when_owes s last (is_ready s) (reverses s receipt) h (reverses_owes s last receipt h)
-profile_owes receipts s last EndOfDay v h = when_owes s last (is_ready s) (closes s) h (closes_owes s last h)
-profile_owes receipts s last AbortOrder v h = owes_nothing s last (stays s (One Ack)) h (λ extras. refl)
-profile_owes receipts s last Answer v h = goes_on_owes s last (next_phase receipts s.phase) h
-profile_owes receipts s last Unknown v h = refuses_owes s last 131 h
-
-repeats_owes : (s : TerminalState) (last : Option Refunded) (report : Option Report) → last_report s.ledger last ≡ report → IsWithin last s.ledger → Owes s last None (repeats s report)
-repeats_owes s last None e h = aborts_owes s last 131 h
-repeats_owes s last (Some report) e h =
-    record {
-      within = within-append last s.ledger [] h;
-      owed = λ extras. owed_second (after s (repeats s (Some report))) last Ack report extras refl (ap (λ (rows : List Row). last_report rows last) (append-nil s.ledger) ∙ e);
-    }
-
--- a new refund counts the rows before it
-refund_rows : (s : TerminalState) (last : Option Refunded) (amount : Option ℕ) (refund : Refunded) → new_refund s last amount ≡ Some refund → refund.rows ≡ length s.ledger
-refund_rows s last None refund e = absurd cc
-refund_rows s last (Some amount) refund e = by_test (nat_lt (count_refunds last + length s.ledger) most_rows) e
-  where
-    by_test : (b : Bool) → cond b (Some (record { before = count_refunds last; amount = amount; currency = s.currency; rows = length s.ledger })) None ≡ Some refund → refund.rows ≡ length s.ledger
-    by_test true e =
-        let same : record { before = count_refunds last; amount = amount; currency = s.currency; rows = length s.ledger } ≡ refund = cc in
-        ap (λ (r : Refunded). r.rows) (sym same)
-    by_test false e = absurd cc
-
-pays_back_owes : (s : TerminalState) (last refunded : Option Refunded) → ((refund : Refunded) → refunded ≡ Some refund → refund.rows ≡ length s.ledger) → IsWithin last s.ledger
-    → Owes s last refunded (pays_back s refunded)
-pays_back_owes s last None e h = refuses_owes s last 255 h
-pays_back_owes s last (Some refund) e h =
-    let rows : refund.rows ≡ length s.ledger = e refund refl in
-    record {
-      within = omega (arith, rows, length-append s.ledger []);
-      owed = λ extras. owed_second (after s (pays_back s (Some refund))) (Some refund) Ack (report_of_refund refund) extras refl (refund_reported refund s.ledger rows);
-    }
-
-refunds_owes : (s : TerminalState) (last : Option Refunded) (amount : Option ℕ) (ready : Bool) → IsWithin last s.ledger
-    → Owes s last (cond ready (new_refund s last amount) None) (when ready s (pays_back s (new_refund s last amount)))
-refunds_owes s last amount true h = pays_back_owes s last (new_refund s last amount) (refund_rows s last amount) h
-refunds_owes s last amount false h = refuses_owes s last 131 h
-
-extra_owes : (s : TerminalState) (last : Option Refunded) (extra : Extra) → IsWithin last s.ledger → Owes s last (refund_by s last extra) (extra_turn s last extra)
-extra_owes s last Service h = when_owes s last (is_ready s) (runs s Ending Done) h (owes_nothing s last (runs s Ending Done) h (λ extras. silent extras Ack Done refl))
-extra_owes s last LogOff h = when_owes s last (is_ready s) logs_off h (owes_nothing s last logs_off h (λ extras. refl))
-extra_owes s last RepeatReceipt h =
-    when_owes s last (is_ready s) (repeats s (last_report s.ledger last)) h (repeats_owes s last (last_report s.ledger last) refl h)
-extra_owes s last (Refund amount) h = refunds_owes s last amount (is_ready s) h
-
--- ---- a turn of a terminal that withholds a status
-
--- nothing changes, and nothing more is withheld
-pub record Stays (s : TerminalState) (refunded : Option Refunded) (turn : Turn) : Type 0 where
-  pub same : after s turn ≡ s
-  pub none : refunded ≡ None
-  pub quiet : (extras : Extras) → withheld_by extras turn.reply ≡ None
-
-same_state : (s : TerminalState) (reply : Response) → after s (stays s reply) ≡ s
-same_state s reply = ap (λ (rows : List Row). record s { ledger = rows }) (append-nil s.ledger)
-
-refuses_stays : (s : TerminalState) (code : ℕ) → Stays s None (refuses s code)
-refuses_stays s code = record { same = same_state s (One (Nack code)); none = refl; quiet = λ extras. refl }
-
-when_stays : (s : TerminalState) (ready : Bool) (turn : Turn) → ready ≡ false → Stays s None (when ready s turn)
-when_stays s ready turn e = subst (λ (b : Bool). Stays s None (when b s turn)) (sym e) (refuses_stays s 131)
-
-neither : (b : Bool) → (b && false) ≡ false
-neither true = refl
-neither false = refl
-
-not_ready : (s : TerminalState) → is_idle s.phase ≡ false → is_ready s ≡ false
-not_ready s e = ap (λ (b : Bool). s.registered && b) e ∙ neither s.registered
-
-profile_stays : (receipts : Receipts) (s : TerminalState) (asked : Asked) (v : Verdict) → is_idle s.phase ≡ false → is_answer asked ≡ false → Stays s None (profile_turn receipts s asked v)
-profile_stays receipts s (Registration currency) v e unanswered = when_stays s (is_idle s.phase) (registers s currency) e
-profile_stays receipts s (Authorisation amount named) v e unanswered = when_stays s (is_ready s) (authorises s amount named v) (not_ready s e)
-profile_stays receipts s (Reversal receipt) v e unanswered = when_stays s (is_ready s) (reverses s receipt) (not_ready s e)
-profile_stays receipts s EndOfDay v e unanswered = when_stays s (is_ready s) (closes s) (not_ready s e)
-profile_stays receipts s AbortOrder v e unanswered = record { same = same_state s (One Ack); none = refl; quiet = λ extras. refl }
-profile_stays receipts s Answer v e unanswered = absurd cc
-profile_stays receipts s Unknown v e unanswered = refuses_stays s 131
-
-refund_stays : (s : TerminalState) (last : Option Refunded) (amount : Option ℕ) (ready : Bool) → ready ≡ false
-    → Stays s (cond ready (new_refund s last amount) None) (when ready s (pays_back s (new_refund s last amount)))
-refund_stays s last amount ready e =
-    subst (λ (b : Bool). Stays s (cond b (new_refund s last amount) None) (when b s (pays_back s (new_refund s last amount)))) (sym e) (refuses_stays s 131)
-
-extra_stays : (s : TerminalState) (last : Option Refunded) (extra : Extra) → is_idle s.phase ≡ false → Stays s (refund_by s last extra) (extra_turn s last extra)
-extra_stays s last Service e = when_stays s (is_ready s) (runs s Ending Done) (not_ready s e)
-extra_stays s last LogOff e = when_stays s (is_ready s) logs_off (not_ready s e)
-extra_stays s last RepeatReceipt e = when_stays s (is_ready s) (repeats s (last_report s.ledger last)) (not_ready s e)
-extra_stays s last (Refund amount) e = refund_stays s last amount (is_ready s) (not_ready s e)
-
--- ---- any message
+unheld_free : (held : Option Asked) (withheld : Option Report) → held ≡ None → IsFree held withheld
+unheld_free held withheld e payment is = absurd cc
 
 pub record Keeps (terminal : Extended) (withheld : Option Report) : Type 0 where
   pub within : IsWithin terminal.refund terminal.served.terminal.ledger
   pub waits : terminal.waits ≡ is_some withheld
   pub owed : IsOwed terminal.served.terminal terminal.refund withheld
+  pub free : IsFree terminal.held withheld
 
 delayed_some : (b : Bool) (report : Report) → b ≡ is_some (cond b (Some report) None)
 delayed_some true report = refl
@@ -288,9 +53,9 @@ or_none None = refl
 or_none (Some report) = refl
 
 -- a terminal that withholds nothing makes a turn
-first_withheld : (old new : Extended) (turn : Turn) (refunded : Option Refunded) (answers : Answered) → HearsTurn old turn refunded answers new → Keeps old None
-    → Owes old.served.terminal old.refund refunded turn → Keeps new (option_or (withheld_by old.extras turn.reply) None)
-first_withheld old new turn refunded answers h k o =
+first_withheld : (old new : Extended) (turn : Turn) (refunded : Option Refunded) (held : Option Asked) → MakesTurn old turn refunded held new → Keeps old None
+    → Owes old.served.terminal old.refund refunded turn → IsFree held (withheld_by old.extras turn.reply) → Keeps new (withheld_then old None turn.reply)
+first_withheld old new turn refunded held h k o free =
     let s = old.served.terminal in
     let withheld : Option Report = withheld_by old.extras turn.reply in
     let waits : new.waits ≡ is_some withheld = h.waits ∙ ap (λ (b : Bool). b || is_delayed old.extras turn.reply) k.waits ∙ withheld_some old.extras turn.reply in
@@ -299,12 +64,13 @@ first_withheld old new turn refunded answers h k o =
     (subst (λ (r : Option Refunded). IsOwed (after s turn) r withheld) (sym h.refund) (o.owed old.extras)) in
     let within : IsWithin new.refund new.served.terminal.ledger =
     subst (λ (t : TerminalState). IsWithin new.refund t.ledger) (sym h.terminal) (subst (λ (r : Option Refunded). IsWithin r (after s turn).ledger) (sym h.refund) o.within) in
-    subst (λ (w : Option Report). Keeps new w) (or_none withheld) (record { within = within; waits = waits; owed = owed })
+    let frees : IsFree new.held withheld = subst (λ (p : Option Asked). IsFree p withheld) (sym h.held) free in
+    subst (λ (w : Option Report). Keeps new w) (or_none withheld) (record { within = within; waits = waits; owed = owed; free = frees })
 
 -- a terminal that withholds a status makes a turn
-still_withheld : (old new : Extended) (turn : Turn) (refunded : Option Refunded) (answers : Answered) (report : Report) → HearsTurn old turn refunded answers new → Keeps old (Some report)
-    → Stays old.served.terminal refunded turn → Keeps new (option_or (withheld_by old.extras turn.reply) (Some report))
-still_withheld old new turn refunded answers report h k o =
+still_withheld : (old new : Extended) (turn : Turn) (refunded : Option Refunded) (report : Report) → MakesTurn old turn refunded None new → Keeps old (Some report)
+    → Stays old.served.terminal refunded turn → Keeps new (withheld_then old (Some report) turn.reply)
+still_withheld old new turn refunded report h k o =
     let same : new.served.terminal ≡ old.served.terminal = h.terminal ∙ o.same in
     let refund : new.refund ≡ old.refund = h.refund ∙ ap (λ (r : Option Refunded). option_or r old.refund) o.none in
     let waits : new.waits ≡ true = h.waits ∙ ap (λ (b : Bool). b || is_delayed old.extras turn.reply) k.waits in
@@ -312,53 +78,133 @@ still_withheld old new turn refunded answers report h k o =
     subst (λ (t : TerminalState). IsOwed t new.refund (Some report)) (sym same) (subst (λ (r : Option Refunded). IsOwed old.served.terminal r (Some report)) (sym refund) k.owed) in
     let within : IsWithin new.refund new.served.terminal.ledger =
     subst (λ (t : TerminalState). IsWithin new.refund t.ledger) (sym same) (subst (λ (r : Option Refunded). IsWithin r old.served.terminal.ledger) (sym refund) k.within) in
-    subst (λ (w : Option Report). Keeps new (option_or w (Some report))) (sym (o.quiet old.extras)) (record { within = within; waits = waits; owed = owed })
+    subst (λ (w : Option Report). Keeps new (option_or w (Some report))) (sym (o.quiet old.extras))
+    (record { within = within; waits = waits; owed = owed; free = unheld_free new.held (Some report) h.held })
+
+none_free : (held : Option Asked) → IsFree held None
+none_free held payment is = refl
+
+-- a terminal whose ledger and refunds stay, and that withholds nothing
+quiet_keeps : (old new : Extended) (withheld : Option Report) → Keeps old withheld → new.served.terminal.ledger ≡ old.served.terminal.ledger → new.refund ≡ old.refund → new.waits ≡ false
+    → Keeps new None
+quiet_keeps old new withheld k ledger refund waits =
+    record {
+      within =
+          subst (λ (rows : List Row). IsWithin new.refund rows) (sym ledger)
+          (subst (λ (r : Option Refunded). IsWithin r old.served.terminal.ledger) (sym refund) k.within);
+      waits = waits;
+      owed = tt;
+      free = none_free new.held;
+    }
+
+-- ---- payments that are held
+
+-- while an order runs, no payment is held
+runs_unheld : (terminal : Extended) (asked : Asked) → is_idle terminal.served.terminal.phase ≡ false → is_held terminal.extras asked (asked_turn terminal asked).reply ≡ false
+runs_unheld terminal (Registration currency) e = refl
+runs_unheld terminal (Authorisation amount named) e =
+    let s : TerminalState = terminal.served.terminal in
+    subst (λ (b : Bool). (nat_lt 0 terminal.extras.delay && is_accepted (when b s (authorises s amount named terminal.served.verdict)).reply) ≡ false) (sym (not_ready s e))
+    (neither (nat_lt 0 terminal.extras.delay))
+runs_unheld terminal (Reversal receipt) e = refl
+runs_unheld terminal EndOfDay e = refl
+runs_unheld terminal AbortOrder e = refl
+runs_unheld terminal Answer e = refl
+runs_unheld terminal Unknown e = refl
+
+window_owes : (s : TerminalState) (last : Option Refunded) (asked : Asked) → IsWithin last s.ledger → Owes s last None (window_turn s asked)
+window_owes s last (Registration currency) h = refuses_owes s last 131 h
+window_owes s last (Authorisation amount named) h = refuses_owes s last 131 h
+window_owes s last (Reversal receipt) h = refuses_owes s last 131 h
+window_owes s last EndOfDay h = refuses_owes s last 131 h
+window_owes s last AbortOrder h = aborts_owes s last 108 h
+window_owes s last Answer h = refuses_owes s last 131 h
+window_owes s last Unknown h = refuses_owes s last 131 h
+
+window_quiet : (s : TerminalState) (extras : Extras) (asked : Asked) → withheld_by extras (window_turn s asked).reply ≡ None
+window_quiet s extras (Registration currency) = refl
+window_quiet s extras (Authorisation amount named) = refl
+window_quiet s extras (Reversal receipt) = refl
+window_quiet s extras EndOfDay = refl
+window_quiet s extras AbortOrder = silent extras Ack (Aborted 108) refl
+window_quiet s extras Answer = refl
+window_quiet s extras Unknown = refl
+
+window_keeps : (old new : Extended) (asked : Asked) (held : Option Asked) → Keeps old None → MakesTurn old (window_turn old.served.terminal asked) None held new
+    → Keeps new (withheld_then old None (window_turn old.served.terminal asked).reply)
+window_keeps old new asked held k h =
+    first_withheld old new (window_turn old.served.terminal asked) None held h k (window_owes old.served.terminal old.refund asked k.within)
+    (λ payment is. window_quiet old.served.terminal old.extras asked)
+
+elapses_keeps : (old new : Extended) (asked : Asked) → Keeps old None → MakesTurn old (asked_turn old asked) None None new → Keeps new (withheld_then old None (asked_turn old asked).reply)
+elapses_keeps old new asked k h =
+    first_withheld old new (asked_turn old asked) None None h k (profile_owes old.extras.receipts old.served.terminal old.refund asked old.served.verdict k.within)
+    (unheld_free None (withheld_by old.extras (asked_turn old asked).reply) refl)
+
+-- ---- messages
+
+-- a message of the profile, while nothing is withheld
+asked_keeps : (old new : Extended) (message : Message) (answers : Answered) (b : Bool) → Keeps old None → holds_or_hears b old (asked_as message) answers new
+    → Keeps new (withheld_then old None (cond b (stays old.served.terminal (One Ack)) (asked_turn old (asked_as message))).reply)
+asked_keeps old new message answers true k h =
+    quiet_keeps old new None k (ap (λ (s : Served). s.terminal.ledger) h.served) h.refund (h.waits ∙ k.waits)
+asked_keeps old new message answers false k h = elapses_keeps old new (asked_as message) k h.made
 
 hears_keeps : (old new : Extended) (message : Message) (answers : Answered) (withheld : Option Report) (extra : Option Extra) → (old.waits && is_answer (asked_as message)) ≡ false
-    → Keeps old withheld → hears_by extra old message answers new → Keeps new (option_or (withheld_by old.extras (turn_by extra old message).reply) withheld)
+    → Keeps old withheld → hears_by extra old message answers new → Keeps new (withheld_then old withheld (turn_by extra old message).reply)
 hears_keeps old new message answers None None unanswered k h =
-    first_withheld old new _ None answers h k (profile_owes old.extras.receipts old.served.terminal old.refund (asked_as message) old.served.verdict k.within)
+    asked_keeps old new message answers (is_held old.extras (asked_as message) (asked_turn old (asked_as message)).reply) k h
 hears_keeps old new message answers None (Some extra) unanswered k h =
-    first_withheld old new _ (refund_by old.served.terminal old.refund extra) answers h k (extra_owes old.served.terminal old.refund extra k.within)
+    first_withheld old new _ (refund_by old.served.terminal old.refund extra) None h.made k (extra_owes old.served.terminal old.refund extra k.within)
+    (unheld_free None (withheld_by old.extras (extra_turn old.served.terminal old.refund extra).reply) refl)
 hears_keeps old new message answers (Some report) None unanswered k h =
-    let not_answer : is_answer (asked_as message) ≡ false = ap (λ (b : Bool). b && is_answer (asked_as message)) (sym k.waits) ∙ unanswered in
-    still_withheld old new _ None answers report h k (profile_stays old.extras.receipts old.served.terminal (asked_as message) old.served.verdict k.owed.0 not_answer)
+    let asked : Asked = asked_as message in
+    let not_answer : is_answer asked ≡ false = ap (λ (b : Bool). b && is_answer asked) (sym k.waits) ∙ unanswered in
+    let unheld : is_held old.extras asked (asked_turn old asked).reply ≡ false = runs_unheld old asked k.owed.0 in
+    let heard : holds_or_hears false old asked answers new = subst (λ (b : Bool). holds_or_hears b old asked answers new) unheld h in
+    subst (λ (b : Bool). Keeps new (withheld_then old (Some report) (cond b (stays old.served.terminal (One Ack)) (asked_turn old asked)).reply)) (sym unheld)
+    (still_withheld old new (asked_turn old asked) None report heard.made k (profile_stays old.extras.receipts old.served.terminal asked old.served.verdict k.owed.0 not_answer))
 hears_keeps old new message answers (Some report) (Some extra) unanswered k h =
-    still_withheld old new _ (refund_by old.served.terminal old.refund extra) answers report h k (extra_stays old.served.terminal old.refund extra k.owed.0)
+    still_withheld old new _ (refund_by old.served.terminal old.refund extra) report h.made k (extra_stays old.served.terminal old.refund extra k.owed.0)
 
 releases_keeps : (old new : Extended) (answers : Answered) (withheld : Option Report) → Keeps old withheld → Releases old answers new → Keeps new None
-releases_keeps old new answers withheld k h =
-    record {
-      within =
-          subst (λ (rows : List Row). IsWithin new.refund rows) (sym (ap (λ (s : Served). s.terminal.ledger) h.served))
-          (subst (λ (r : Option Refunded). IsWithin r old.served.terminal.ledger) (sym h.refund) k.within);
-      waits = h.waits;
-      owed = tt;
-    }
+releases_keeps old new answers withheld k h = quiet_keeps old new withheld k (ap (λ (s : Served). s.terminal.ledger) h.served) h.refund h.waits
 
 loses_keeps : (old new : Extended) (withheld : Option Report) → Keeps old withheld → ExtendedLoses old new → Keeps new None
-loses_keeps old new withheld k h =
-    record {
-      within =
-          subst (λ (t : TerminalState). IsWithin new.refund t.ledger) (sym h.served.0)
-          (subst (λ (r : Option Refunded). IsWithin r old.served.terminal.ledger) (sym h.refund) k.within);
-      waits = h.waits;
-      owed = tt;
-    }
+loses_keeps old new withheld k h = quiet_keeps old new withheld k (ap (λ (t : TerminalState). t.ledger) h.served.0) h.refund h.waits
 
 message_keeps : (old new : Extended) (message : Message) (answers : Answered) (withheld : Option Report) → Keeps old withheld → extended_hears old message answers new
     → Keeps new (withheld_after old withheld message)
-message_keeps old new message answers withheld k h = by_test (old.waits && is_answer (asked_as message)) refl h
+message_keeps old new message answers withheld k h = by_held old.held refl h
   where
     by_test : (b : Bool) → (old.waits && is_answer (asked_as message)) ≡ b → hears_or_releases b old message answers new
-        → Keeps new (cond b None (option_or (withheld_by old.extras (turn_on old message).reply) withheld))
+        → Keeps new (cond b None (withheld_then old withheld (turn_by (heard_extra old.extras message) old message).reply))
     by_test true e released = releases_keeps old new answers withheld k released
     by_test false e heard = hears_keeps old new message answers withheld (heard_extra old.extras message) e k heard
 
-lives_keeps : (events : List (Option Message)) (before withheld : Option Report) (old new : Extended) → Keeps old before → Lives events before old withheld new → Keeps new withheld
+    by_held : (held : Option Asked) → old.held ≡ held → hears_while held old message answers new → Keeps new (withheld_while held old withheld message)
+    by_held None e h = by_test (old.waits && is_answer (asked_as message)) refl h
+    by_held (Some payment) e h =
+        let none : withheld ≡ None = k.free payment e in
+        subst (λ (w : Option Report). Keeps new (withheld_then old w (window_turn old.served.terminal (asked_as message)).reply)) (sym none)
+        (window_keeps old new (asked_as message) (held_after payment (asked_as message)) (subst (λ (w : Option Report). Keeps old w) none k) h.made)
+
+elapse_keeps : (old new : Extended) (answers : Answered) (withheld : Option Report) → Keeps old withheld → extended_elapses old answers new → Keeps new (withheld_later old.held old withheld)
+elapse_keeps old new answers withheld k h = by_held old.held refl h
+  where
+    by_held : (held : Option Asked) → old.held ≡ held → elapses_while held old answers new → Keeps new (withheld_later held old withheld)
+    by_held None e h = subst (λ (t : Extended). Keeps t withheld) (sym h.0) k
+    by_held (Some payment) e h =
+        let none : withheld ≡ None = k.free payment e in
+        subst (λ (w : Option Report). Keeps new (withheld_then old w (asked_turn old payment).reply)) (sym none)
+        (elapses_keeps old new payment (subst (λ (w : Option Report). Keeps old w) none k) h.0)
+
+lives_keeps : (events : List Event) (before withheld : Option Report) (old new : Extended) → Keeps old before → Lives events before old withheld new → Keeps new withheld
 lives_keeps [] before withheld old new k h = subst (λ (t : Extended). Keeps t withheld) (sym h.1) (subst (λ (w : Option Report). Keeps old w) (sym h.0) k)
-lives_keeps (None ∷ events) before withheld old new k h = lives_keeps events None withheld h.0 new (loses_keeps old h.0 before k h.1) h.2
-lives_keeps (Some message ∷ events) before withheld old new k h =
+lives_keeps (Lost ∷ events) before withheld old new k h = lives_keeps events None withheld h.0 new (loses_keeps old h.0 before k h.1) h.2
+lives_keeps (Elapsed ∷ events) before withheld old new k h =
+    lives_keeps events (withheld_later old.held old before) withheld h.0 new (elapse_keeps old h.0 h.1 before k h.2) h.3
+lives_keeps (Heard message ∷ events) before withheld old new k h =
     lives_keeps events (withheld_after old before message) withheld h.0 new (message_keeps old h.0 message h.1 before k h.2) h.3
 
 due_of : (terminal : Extended) (withheld : Option Report) (report : Report) → IsOwed terminal.served.terminal terminal.refund withheld → withheld ≡ Some report
@@ -367,5 +213,5 @@ due_of terminal withheld report owed e = let is : IsOwed terminal.served.termina
 
 pub withheld_is_due : WithheldIsDue
 withheld_is_due tid verdict extras events withheld terminal h =
-    let k = lives_keeps events None withheld (new_extended tid verdict extras) terminal (record { within = tt; waits = refl; owed = tt }) h in
+    let k = lives_keeps events None withheld (new_extended tid verdict extras) terminal (record { within = tt; waits = refl; owed = tt; free = none_free None }) h in
     (k.waits, λ report e. due_of terminal withheld report k.owed e)

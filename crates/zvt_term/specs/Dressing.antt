@@ -1,6 +1,6 @@
 -- The messages of a terminal with extras: a card's fields in the status of a transaction, receipts as text blocks, and
 -- intermediate statuses.
-use Rattle.std.specs.Prelude.{◌≡◌, ℕ, ◌+◌, ◌&&◌, Bool, true, false, cond, Option, Some, None, List, [], ◌∷◌, ◌++◌, length, codes}
+use Rattle.std.specs.Prelude.{◌≡◌, ℕ, ◌+◌, ◌&&◌, Bool, true, false, cond, Option, Some, None, List, [], ◌∷◌, ◌++◌, drop, length, codes}
 use Rattle.zvt_tlv.specs.Grammar.{none, primitive, constructed}
 use Rattle.zvt_apdu.specs.Briefs.{digits}
 use Rattle.zvt_field.specs.Grammar.{Field, plain, tree}
@@ -113,6 +113,10 @@ please_wait = ack [] ∷ intermediate 0x0E [] ∷ []
 -- the messages that a terminal sends in place of these reports
 abbrev pub said_by : (tid : ℕ) → Extras → Response → List Message
 said_by tid extras reply = cond (is_delayed extras reply) please_wait (messages_by tid extras reply)
+
+-- the messages that follow the acknowledgement of an order
+abbrev pub said_later : (tid : ℕ) → Extras → Response → List Message
+said_later tid extras reply = drop 1 (said_by tid extras reply)
 
 -- one message more
 pub record AddsMessage (message : Message) (old new : Answered) : Type 0 where

@@ -10,7 +10,7 @@ use Rattle.zvt_term.specs.declared.extras.Extras.{Extras}
 use Rattle.zvt_term.specs.declared.extras.Receipts.TheVariants.{Lines}
 
 abbrev pub no_extras : Extras
-no_extras = record { extended = false; card = None; receipts = Lines; intermediate = false }
+no_extras = record { extended = false; card = None; receipts = Lines; intermediate = false; delay = 0 }
 
 -- digits of an amount that is not zero
 abbrev pub amount_in : List ℕ → Option ℕ

@@ -12,5 +12,8 @@ pub(crate) const ALREADY_REVERSED: u8 = 0xB4;
 /// Result code: the reversal names no approval.
 pub(crate) const NO_APPROVAL: u8 = 0xB5;
 
+/// Result code: the till aborted the payment.
+pub(crate) const ABORTED_BY_TILL: u8 = 0x6C;
+
 /// Any other failure.
 pub(crate) const SYSTEM_ERROR: u8 = 0xFF;

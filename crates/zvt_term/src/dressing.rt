@@ -5,7 +5,7 @@ ghost use Rattle.zvt_apdu.specs.Message.{ack, intermediate, print_line, status};
 ghost use Rattle.zvt_field.specs.Grammar.{Field};
 ghost use Rattle.zvt_stream.specs.Apdus.{Spells};
 ghost use Rattle.zvt_term.specs.Dressing.{AddsMessage, SaysAll, block, carded, fields_at, is_delayed, is_status};
-ghost use Rattle.zvt_term.specs.Dressing.{message_by, said_by, with_fields};
+ghost use Rattle.zvt_term.specs.Dressing.{message_by, said_by, said_later, with_fields};
 ghost use Rattle.zvt_term.specs.Reports.{IsWritable};
 ghost use Rattle.zvt_term.specs.Steps.{AreWritable};
 ghost use Rattle.zvt_term.specs.Terminal.{reports_of};
@@ -193,6 +193,25 @@ pub(crate) fn answers_by(tid: u32, extras: &Extras, reply: &Response) -> Answers
             add(&mut answers, second, tid, extras);
         }
         Response::Two(_, _) => return answers_of(reply),
+    }
+    answers
+}
+
+/// Returns the bytes of the messages that follow the acknowledgement of an order.
+pub(crate) fn later_answers(tid: u32, extras: &Extras, reply: &Response) -> Answers
+    requires tid { tid ≤ 99999999 }
+    requires writable { AreWritable (reports_of reply.now) }
+    ensures { SaysAll (said_later tid extras.now reply.now) result }
+{
+    let mut answers = Answers::new();
+    if is_delayed(extras, reply) {
+        add_wait(&mut answers);
+        return answers;
+    }
+    match reply {
+        Response::Nothing | Response::One(_) => {}
+        Response::Two(Report::Ack, second) => add(&mut answers, second, tid, extras),
+        Response::Two(_, second) => return answers_of(&Response::One(*second)),
     }
     answers
 }

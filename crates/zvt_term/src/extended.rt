@@ -1,4 +1,4 @@
-//! A terminal that also accepts orders beyond the profile.
+//! A terminal that does more than the profile has: it accepts further orders, and may hold payments before it decides.
 ghost use Rattle.std.specs.Prelude.{◌≡◌, ◌≤◌, IfSome, true, false, length};
 ghost use Rattle.std.specs.Option.{option_or};
 ghost use Rattle.zvt_term.specs.Extended.{last_report, logs_off, report_of_row};
@@ -30,6 +30,8 @@ pub struct Extended {
     pub refund: Option<Refunded>,
     /// Whether it has sent an intermediate status, and sends the status itself after the next reply.
     pub waits: bool,
+    /// The payment that it holds: it has acknowledged the order, and decides it when the delay is over.
+    pub held: Option<Asked>,
 }
 
 /// Returns the status of a row.
@@ -66,10 +68,11 @@ fn last_report(rows: &[Row], refund: &Option<Refunded>) -> Option<Report>
 }
 
 impl Extended {
-    ghost use Rattle.std.specs.Prelude.{◌≡◌, IfOk, OnErr, None, IsOk};
+    ghost use Rattle.std.specs.Prelude.{◌≡◌, IfOk, OnOk, OnErr, None, IsOk};
     ghost use Rattle.zvt_stream.specs.Answered.{Answered};
-    ghost use Rattle.zvt_term.specs.Extended.{HearsTurn, Releases, extra_turn, heard_extra, new_extended, new_refund};
-    ghost use Rattle.zvt_term.specs.Extended.{next_phase, pays_back, profile_turn, refund_by, repeats, status_due};
+    ghost use Rattle.zvt_term.specs.Extended.{HearsTurn, MakesTurn, Releases, asked_turn, extra_turn, heard_extra};
+    ghost use Rattle.zvt_term.specs.Extended.{hears_asked, new_extended, new_refund, next_phase, pays_back, refund_by};
+    ghost use Rattle.zvt_term.specs.Extended.{repeats, status_due};
     ghost use Rattle.zvt_term.specs.Inside.{IsSound};
     ghost use Rattle.zvt_term.specs.Steps.{AreWritable, IsNext};
     ghost use Rattle.zvt_term.specs.Terminal.{after, reports_of};
@@ -87,6 +90,7 @@ impl Extended {
             extras,
             refund: None,
             waits: false,
+            held: None,
         }
     }
 
@@ -170,29 +174,53 @@ impl Extended {
         }
     }
 
-    /// Makes a turn with its refund, if it has one, and returns the replies.
-    fn make(&mut self, turn: &Turn, refund: Option<Refunded>) -> Result<Answers, AllocError>
+    /// Makes a turn with its refund, if it has one, and holds this payment then, if one is given.
+    pub(crate) fn make(
+        &mut self,
+        turn: &Turn,
+        refund: Option<Refunded>,
+        held: Option<Asked>,
+    ) -> Result<(), AllocError>
         requires next { IsNext self.old.served.terminal turn.now.row }
         requires writable { IsSound (after self.old.served.terminal turn.now)
             → AreWritable (reports_of turn.now.reply) }
-        ensures made { IfOk result (λ answers. HearsTurn self.old turn.now refund answers self.new) }
+        ensures made { OnOk result (MakesTurn self.old turn.now refund held self.new) }
+        ensures writable { OnOk result (AreWritable (reports_of turn.now.reply)) }
         ensures err { OnErr result (self.new ≡ self.old) }
     {
         self.served.terminal.make(turn)?;
         self.refund = refund.or(self.refund);
         self.waits = self.waits || is_delayed(&self.extras, &turn.reply);
+        self.held = held;
+        Ok(())
+    }
+
+    /// Makes a turn like [`make`](Extended::make), and returns the replies.
+    pub(crate) fn hear_turn(
+        &mut self,
+        turn: &Turn,
+        refund: Option<Refunded>,
+        held: Option<Asked>,
+    ) -> Result<Answers, AllocError>
+        requires next { IsNext self.old.served.terminal turn.now.row }
+        requires writable { IsSound (after self.old.served.terminal turn.now)
+            → AreWritable (reports_of turn.now.reply) }
+        ensures made { IfOk result (λ answers. HearsTurn self.old turn.now refund held answers self.new) }
+        ensures err { OnErr result (self.new ≡ self.old) }
+    {
+        self.make(turn, refund, held)?;
         Ok(answers_by(self.served.terminal.tid(), &self.extras, &turn.reply))
     }
 
     /// Processes an order beyond the profile and returns the replies.
     fn hear_extra(&mut self, extra: &Extra) -> Result<Answers, AllocError>
         ensures heard { IfOk result (λ answers. HearsTurn self.old (extra_turn self.old.served.terminal self.old.refund
-            extra.now) (refund_by self.old.served.terminal self.old.refund extra.now) answers self.new) }
+            extra.now) (refund_by self.old.served.terminal self.old.refund extra.now) None answers self.new) }
         ensures err { OnErr result (self.new ≡ self.old) }
     {
         let turn = self.turn_of(extra);
         let refund = self.refund_by(extra);
-        self.make(&turn, refund)
+        self.hear_turn(&turn, refund, None)
     }
 
     /// Returns the phase from which the running order continues: without receipts, none is printed.
@@ -206,9 +234,8 @@ impl Extended {
     }
 
     /// Returns the turn that a message of the profile leads to.
-    fn profile_turn(&self, asked: &Asked) -> Turn
-        ensures { result ≡ profile_turn self.now.extras.receipts self.now.served.terminal asked.now
-            self.now.served.verdict }
+    pub(crate) fn profile_turn(&self, asked: &Asked) -> Turn
+        ensures { result ≡ asked_turn self.now asked.now }
     {
         let terminal = &self.served.terminal;
         match asked {
@@ -219,12 +246,14 @@ impl Extended {
 
     /// Processes a message of the profile and returns the replies.
     fn hear_asked(&mut self, asked: &Asked) -> Result<Answers, AllocError>
-        ensures heard { IfOk result (λ answers. HearsTurn self.old (profile_turn self.old.extras.receipts
-            self.old.served.terminal asked.now self.old.served.verdict) None answers self.new) }
+        ensures heard { IfOk result (λ answers. hears_asked self.old asked.now answers self.new) }
         ensures err { OnErr result (self.new ≡ self.old) }
     {
         let turn = self.profile_turn(asked);
-        self.make(&turn, None)
+        if self.is_held(asked, &turn.reply) {
+            return Ok(self.hold(*asked));
+        }
+        self.hear_turn(&turn, None, None)
     }
 
     /// Returns the status that comes after an intermediate status.
@@ -269,7 +298,7 @@ fn logs_off() -> Turn
 }
 
 impl Machine for Extended {
-    ghost use Rattle.zvt_term.specs.Extended.{ExtendedLoses, extended_hears};
+    ghost use Rattle.zvt_term.specs.Extended.{ExtendedLoses, extended_hears, holds_payment};
 
     ghost hears = { extended_hears };
 
@@ -277,12 +306,15 @@ impl Machine for Extended {
 
     ghost malforms = { ExtendedLoses };
 
-    ghost is_resting = { λ extended. false };
+    ghost is_resting = { holds_payment };
 
     ghost wants_memory = { true };
 
     fn hear(&mut self, _alloc: Global, apdu: &ApduView<'_>) -> Result<Answers, AllocError> {
         let asked = asked_view(apdu);
+        if let Some(payment) = self.held {
+            return self.hear_window(payment, &asked);
+        }
         if self.waits && matches!(asked, Asked::Answer) {
             return Ok(self.release());
         }
@@ -293,16 +325,18 @@ impl Machine for Extended {
     }
 
     fn resting(&self) -> bool {
-        false
+        self.held.is_some()
     }
 
     fn lost(&mut self) {
         self.waits = false;
+        self.held = None;
         self.served.lost();
     }
 
     fn malformed(&mut self) {
         self.waits = false;
+        self.held = None;
         self.served.malformed();
     }
 }

@@ -37,6 +37,8 @@ pub struct Extras {
     pub receipts: Receipts,
     /// Whether it sends an intermediate status, and waits for the reply, before the first status of an order.
     pub intermediate: bool,
+    /// How long it holds a payment, between the acknowledgement and its decision, in milliseconds. 0 holds none.
+    pub delay: u16,
 }
 
 /// The form of receipts.
@@ -60,6 +62,7 @@ impl Extras {
             card: None,
             receipts: Receipts::Lines,
             intermediate: false,
+            delay: 0,
         }
     }
 }

@@ -1,5 +1,6 @@
 //! Laws of both ends together, and of orders beyond the profile. Each is stated as the contract of an empty function.
-ghost use Rattle.zvt_term.specs.Extended.{ExtrasKeepLedger, PlainIsServed, RepeatsChangeNothing};
+ghost use Rattle.zvt_term.specs.Extended.{ExtrasKeepLedger, HeldIsAnswered, HeldKeepsLedger, PlainIsServed};
+ghost use Rattle.zvt_term.specs.Extended.{RepeatsChangeNothing};
 ghost use Rattle.zvt_term.specs.World.{WorldsMatch};
 ghost use Rattle.zvt_term.specs.Orderly.{OrderlyWorldsAccount};
 ghost use Rattle.zvt_term.specs.Returned.{OrderlyWorldsKeepReversals};
@@ -37,8 +38,18 @@ pub fn repeats_change_nothing()
     ensures { RepeatsChangeNothing }
 {}
 
-/// After every sequence of messages and lost lines, a terminal waits exactly while an intermediate status stands in place
-/// of a status, and then that very status is due.
+/// A payment that is held until the delay is over is answered as by a terminal without a delay.
+pub fn held_is_answered()
+    ensures { HeldIsAnswered }
+{}
+
+/// No message changes the ledger while a payment is held, so that a payment aborted by the till is never booked.
+pub fn held_keeps_ledger()
+    ensures { HeldKeepsLedger }
+{}
+
+/// After every sequence of messages, ends of the delay and lost lines, a terminal waits exactly while an intermediate
+/// status stands in place of a status, and then that very status is due.
 pub fn withheld_is_due()
     ensures { WithheldIsDue }
 {}

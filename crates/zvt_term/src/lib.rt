@@ -8,6 +8,7 @@ mod codes;
 mod dressing;
 mod extended;
 pub mod extras;
+mod held;
 pub mod laws;
 mod ledger;
 mod messages;

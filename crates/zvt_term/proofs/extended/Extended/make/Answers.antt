@@ -2,5 +2,5 @@ use Rattle.std.proofs.Common.{subst}
 use Rattle.zvt_term.specs.Inside.{IsSound}
 use Rattle.zvt_term.proofs.extended.Extended.make.Goals as goal
 
-pub answers_by-requires-clause-writable : goal.answers_by-requires-clause-writable
-answers_by-requires-clause-writable c = c.requires.writable (subst IsSound c.in_ok-make.ensures.made c.in_ok-make.ensures.sound)
+pub returns-clause-writable : goal.returns-clause-writable
+returns-clause-writable c = c.requires.writable (subst IsSound c.in_ok-make.ensures.made c.in_ok-make.ensures.sound)

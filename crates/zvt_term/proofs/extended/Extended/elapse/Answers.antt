@@ -1,0 +1,15 @@
+use Rattle.std.proofs.Common.{sym, subst}
+use Rattle.zvt_term.specs.declared.turns.Turn.{Turn}
+use Rattle.zvt_term.specs.Inside.{IsSound}
+use Rattle.zvt_term.specs.Steps.{AreWritable, IsNext}
+use Rattle.zvt_term.specs.Terminal.{after, reports_of}
+use Rattle.zvt_term.proofs.ExtraLemmas.{asked_next, asked_writable}
+use Rattle.zvt_term.proofs.extended.Extended.elapse.Goals as goal
+
+pub make-requires-clause-next : goal.make-requires-clause-next
+make-requires-clause-next c = subst (λ (t : Turn). IsNext c.args.self.now.served.terminal t.row) (sym c.profile_turn-turn.ensures) (asked_next c.args.self.now _)
+
+pub make-requires-clause-writable : goal.make-requires-clause-writable
+make-requires-clause-writable c =
+    subst (λ (t : Turn). IsSound (after c.args.self.now.served.terminal t) → AreWritable (reports_of t.reply)) (sym c.profile_turn-turn.ensures)
+    (asked_writable c.args.self.now _)
