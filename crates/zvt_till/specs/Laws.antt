@@ -73,8 +73,8 @@ RulesKeepBooks =
     → IsLog settings log
     → IsLog (with_rules rules settings) log × (facts_of (state_after (with_rules rules settings) log) ≡ facts_of (state_after settings log))
 
--- A status that answers the reversal of an entry and names no payment is no late answer to another order: the rule is
--- stated, each entry of its amount has another receipt number, and no payment of its amount is unclear.
+-- A status that answers the reversal of an entry and names no payment is no late answer to another order of this book: the
+-- rule is stated, each entry of its amount has another receipt number, and no payment of its amount is unclear.
 abbrev pub NoRepeatReverses : Type 0
 NoRepeatReverses =
     (rules : Rules) (currency : Option ℕ) (book : List Entry) (unclear : List (ℕ × Cause)) (e : ℕ) (row : Entry) (d : Demand) (s : StatusFacts) (t : Option ℕ)
