@@ -179,6 +179,7 @@ int main(void) {
     snprintf(text, sizeof text, "%.*s# pay 500\n", (int)(pays - journal), journal);
     zvt_till_recover(&t, (const uint8_t *)text, strlen(text), &a);
     if (a.status || !is_state(&t, 1, 1, 1234)) return 41;
+    if (!wrong(&t, "# zvt journal 1, currency 978, reversals by receipt\n", ZVT_WRONG_OPENING, 1)) return 54;
     if (!wrong(&t, "", ZVT_WRONG_OPENING, 1) || !wrong(&t, "# zvt journal 1, currency 97\n", ZVT_WRONG_OPENING, 1) || !wrong(&t, "!\n", ZVT_WRONG_OPENING, 1)) return 42;
     if (!wrong(&t, "# zvt journal 1, currency 978\n!\n\n!\n", ZVT_WRONG_LINE, 3) || !wrong(&t, "# zvt journal 1, currency 978\n!\n> 8G\n", ZVT_WRONG_LINE, 3)) return 43;
     if (!wrong(&t, "# zvt journal 1, currency 978\n!\n# pay 1\n", ZVT_WRONG_RECORD, 2) || !wrong(&t, "# zvt journal 1, currency 978\n< 8000\n", ZVT_WRONG_RECORD, 1)) return 44;

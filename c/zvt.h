@@ -226,7 +226,7 @@ enum { ZVT_WRONG_OPENING = 1, ZVT_WRONG_LINE, ZVT_WRONG_RECORD, ZVT_WRONG_CHECK 
  * payment or reversal that was running is unclear. `text` is the complete lines of the file, up to the first empty one.
  * The status is ZVT_OK, ZVT_NO_MEMORY, ZVT_CLOSED or ZVT_REFUSED; unless it is ZVT_OK, the handle does not change. The reasons
  * for ZVT_REFUSED are:
- *    ZVT_WRONG_OPENING  the first line is not the opening of a journal in this currency
+ *    ZVT_WRONG_OPENING  the first line is not the opening of a journal in this currency, or it names a rule of the till
  *    ZVT_WRONG_LINE     line `place`, from 1, is not a line of a journal
  *    ZVT_WRONG_RECORD   record `place`, from 1 after the opening, cannot follow the records before it
  *    ZVT_WRONG_CHECK    the check in line `place`, from 1, differs from its record: somebody edited the record, or the disk

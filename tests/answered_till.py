@@ -122,6 +122,17 @@ CLOSES = [
     ("a decline", f"{DECLINED} {COMPLETION}", "declined 6C abort by time-out or abort key", "declined 6C abort by time-out or abort key"),
     ("no result code before an abort", f"{UNNAMED} {ABORT}", "unclear AbortAfterApproval", "unclear AbortAfterApproval"),
 ]
+# A reversal of the payment: its status, and its outcome strictly and with --reversal-by-receipt.
+UNREVERSED = "unclear NoTrace"
+BY_RECEIPT = [
+    ("another receipt number", status(1234, 18, "870006"), UNREVERSED, "reversed"), ("the payment's trace number", TAKEN_BACK, "reversed", "reversed"),
+    ("another receipt number, without a trace number", status(1234, None, "870006"), UNREVERSED, "reversed"),
+    ("the payment's receipt number", status(1234, 18, RECEIPT), UNREVERSED, UNREVERSED), ("no receipt number", status(1234, 18), UNREVERSED, UNREVERSED),
+    ("two receipt numbers", status(1234, 18, "870006", "870007"), UNREVERSED, UNREVERSED), ("letters", status(1234, 18, "87000A"), UNREVERSED, UNREVERSED),
+    ("another trace number", status(1234, 18, "870006", "37000018"), UNREVERSED, UNREVERSED),
+    ("another amount", status(1235, 18, "870006"), "unclear AmountDiffers", "unclear AmountDiffers"),
+]
+OPENING, RULED_OPENING = "# zvt journal 1, currency 978", "# zvt journal 1, currency 978, reversals by receipt"
 JSON_LINES = [
     '{"outcome":"registered","step":"register"}', '{"outcome":"paid","step":"pay:1234","trace":17}',
     '{"outcome":"not sent","reason":"NoReceipt","step":"reverse:1"}', '{"code":"99","outcome":"aborted","step":"pay:5"}',
@@ -374,6 +385,36 @@ class Trial:
         check("the book is the same", kept[1], kept[0])
         self.answers("which goes on without it", [REGISTERS], 1234, "--book", stated)
 
+    def reverses_by_receipt(self):
+        """A reversal whose status names no payment, strictly and with --reversal-by-receipt, and the book of it."""
+        for name, answer, strictly, stated in BY_RECEIPT:
+            for words, outcome, opening in ([], strictly, OPENING), (["--reversal-by-receipt"], stated, RULED_OPENING):
+                book, total = self.new_file(), 0 if outcome == "reversed" else 1234
+                course = [REGISTERS, PAYS, ("reverse:1", f"{ACK} {answer} {COMPLETION}", outcome)]
+                self.answers(f"a reversal: {name} {words}", course, total, "--book", book, *words)
+                check(f"its book's first line: {name} {words}", book.read_text().splitlines()[0], opening)
+                mark = " reversed" if outcome == "reversed" else f" reversal {outcome}"
+                self.has(f"its book: {name} {words}", book, BOOKED + mark, f"total {total}")
+        book, again = self.new_file(), ("reverse:1", f"{ACK} {BY_RECEIPT[0][1]} {COMPLETION}", UNREVERSED)
+        course = [REGISTERS, PAYS, ("pay:1234", f"{ACK} {status(1234, 18, '870006')} {COMPLETION}", NEXT), again]
+        self.answers("a reversal of one of two payments of the amount", course, 2468, "--book", book, "--reversal-by-receipt")
+        self.has("its book", book, f"{BOOKED} reversal {UNREVERSED}", "booked 1234 trace 000018 receipt 0006", "total 2468")
+
+    def keeps_its_rule(self):
+        """A book goes on with the option that it was begun with, and another till refuses it and leaves it as it is."""
+        for words, others, said in (
+            (["--reversal-by-receipt"], [], "the book was begun by 'zvt till --reversal-by-receipt': use this option, or name another file"),
+            ([], ["--reversal-by-receipt"], "the book was begun without '--reversal-by-receipt': leave out this option, or name another file"),
+        ):
+            book = self.new_file()
+            self.answers(f"a book to go on {words}", [REGISTERS, PAYS], 1234, "--book", book, *words)
+            before = book.read_bytes()
+            ended = till(1, "--book", book, *others, "register")
+            ends(f"a till of another rule {others}", ended, 3)
+            check(f"what it reports {others}", ended.errors, f"zvt: '{book}': {said}\n")
+            check(f"what it leaves {others}", book.read_bytes(), before)
+            self.answers(f"a till of the rule {words}", [REGISTERS], 1234, "--book", book, *words)
+
     def has_its_book(self, seed, *words):
         """The audit of what a till records says what the till says: of one connection, or of three with a book, which keeps a line
         that is malformed as one that is lost, also on an open line. Answers how many payments are booked, and how many are unclear."""
@@ -404,7 +445,7 @@ def main():
     with tempfile.TemporaryDirectory() as folder:
         trial = Trial(pathlib.Path(folder))
         for part in (trial.runs, trial.sends, trial.breaks, trial.reads_on, trial.is_cut_off, trial.doubts, trial.goes_on, trial.full_book, trial.unheard,
-                     trial.settings, trial.keeps, trial.closes, trial.recorded_runs):
+                     trial.settings, trial.keeps, trial.closes, trial.reverses_by_receipt, trial.keeps_its_rule, trial.recorded_runs):
             part()
     print(f"{check.verdict}: a till and given answers: {check.count} checks, {check.wrong} wrong")
     return check.status

@@ -4,7 +4,7 @@
     tests/answers_output.py [PROGRAM]
 
 PROGRAM is the one that `rt ci` built, unless another is named. A book's objects are those of the model of `journal_model.py`,
-of the journals of fifteen dialogues, whole and cut after each record. Of a run and of vectors the text is read by a parser of
+of the journals of sixteen dialogues, whole and cut after each record. Of a run and of vectors the text is read by a parser of
 its own, and says what the objects have to be: over examples/vectors.txt with answers changed, over random lists of steps, and
 over TCP with terminals that approve, decline, abort, and break the line. Exit statuses and standard error are those of the
 text. The objects of docs/JSON.md are among those that are seen. Each line is held against docs/zvt.schema.json where python3

@@ -4,7 +4,7 @@
     tests/audit_output.py [--text] [PROGRAM]
 
 PROGRAM is the one that `rt ci` built, unless another is named. With `--text` what a program without `--json` writes is
-compared alone. The traces are those of examples/, the journals of fifteen dialogues, random dialogues of payments whose
+compared alone. The traces are those of examples/, the journals of sixteen dialogues, random dialogues of payments whose
 messages are left out, doubled, changed, cut and refused, and the hostile traces of `random_traces.py`. Of `audit --check` the
 status is compared: 1 where a payment is unclear, or an order is not followed. The counts of `--json` and the orders that are not followed are those that standard error says. The lines of
 books in docs/JSON.md are held too. The status is 1 where anything differs.

@@ -38,6 +38,8 @@ REFUSED = [
     ("loop --open", "error: unexpected argument '--open' found\n"),
     ("loop --timeout 1", "error: unexpected argument '--timeout' found\n"),
     ("loop --close-by-completion", "error: unexpected argument '--close-by-completion' found\n"),
+    ("loop --reversal-by-receipt", "error: unexpected argument '--reversal-by-receipt' found\n"),
+    ("till --port=1 --reversal-by-receipt --reversal-by-receipt", "error: the argument '--reversal-by-receipt' cannot be used multiple times\n"),
     ("till --port=1 --close-by-completion --close-by-completion", "error: the argument '--close-by-completion' cannot be used multiple times\n"),
     ("terminal --port=1 --show", "error: unexpected argument '--show' found"),
     ("tap --listen 1", "error: the following required arguments were not provided:\n  --to <ADDRESS>\n"),

@@ -234,8 +234,26 @@ def padded(of):
     of.hear(bytes.fromhex("060FFF0600 060407810141"))
 
 
+def by_receipt(of):
+    """Reversals whose statuses name no payment, in a book with the rule on receipt numbers."""
+    of.registered()
+    of.paid(1000, 1)
+    of.paid(2000, 2)
+    of.paid(2000, 3)
+    of.reversing(1, 1)
+    of.hear(status(1000, 4, 4))
+    of.completed()
+    of.reversing(2, 2)
+    of.hear(status(2000, 5, 5))
+    of.completed()  # two payments have the amount
+    of.paid(3000, 6)
+    of.reversing(4, 6)
+    of.hear(status(3000, 6, 6))
+    of.completed()  # the receipt number of the payment
+
+
 ALL = (register, pay, decline, abort, reverse, reversal_refused, reversal_unclear, close, lost_line, restart, cancel, several,
-       remarked, noted, padded)
+       remarked, noted, padded, by_receipt)
 
 # What each dialogue comes to when it has ended: entries (amount, trace number, mark), unclear payments, the total.
 BOOKS = {
@@ -256,11 +274,12 @@ BOOKS = {
     remarked: ([(10, 1, None)], [(20, "Line")], 10),
     noted: ([(10, 1, "reversed")], [(20, "Line"), (30, "Line")], 0),
     padded: ([(1234, 17, None)], [], 1234),
+    by_receipt: ([(1000, 1, "reversed"), (2000, 2, "NoTrace"), (2000, 3, None), (3000, 6, "NoTrace")], [], 7000),
 }
 
 
 def written(dialogue):
     """The records of a dialogue."""
-    of = Dialogue()
+    of = Dialogue(by_receipt=dialogue is by_receipt)
     dialogue(of)
     return of

@@ -11,6 +11,8 @@ import re
 import sys
 
 FORMAT = b"# zvt journal 1"
+# How the first line ends if reversals go by their receipt numbers.
+BY_RECEIPT = b", reversals by receipt"
 ACK = bytes.fromhex("800000")
 REGISTRATION, AUTHORISATION, REVERSAL, END_OF_DAY, CANCEL = b"\x06\x00", b"\x06\x01", b"\x06\x30", b"\x06\x50", b"\x06\xB0"
 STATUS, COMPLETION, ABORT = b"\x04\x0F", b"\x06\x0F", b"\x06\x1E"
@@ -133,21 +135,31 @@ class Order:
         self.kind, self.number, self.note, self.statuses = kind, number, note, []
 
 
-def cause_of(statuses, amount, currency, original):
-    """Why an order that was completed, and that no status declines, is unclear; none if it is done."""
+def cause_of(statuses, amount, currency, original, sole=None):
+    """Why an order that was completed, and that no status declines, is unclear; none if it is done. `sole` is the receipt number from
+    which the one of a status that names no payment must differ to take a reversal, if the book has this rule."""
     if not statuses:
         return "NoStatus"
     originals = {bytes(content) for found in statuses for content in found.get(ORIGINAL, [])}
     results = {only(found, RESULT) for found in statuses}
     traces = {only(found, TRACE) for found in statuses}
-    wrong = any(number_of(content) != original for content in originals) if original else bool(originals)
-    if len(results) != 1 or None in results or len(traces) != 1 or wrong or (original and not originals):
+    if len(results) != 1 or None in results or (original is None and (originals or len(traces) != 1)):
         return "Conflict"
     if any(number_of(only(found, AMOUNT)) != amount for found in statuses):
         return "AmountDiffers"
     if any(number_of(content) != currency for found in statuses for content in found.get(CURRENCY, [])):
         return "WrongCurrency"
+    if original is not None and not all(takes_back(found, original, sole) for found in statuses):
+        return "NoTrace"
     return None
+
+
+def takes_back(found, original, sole):
+    """A status names the payment with this trace number, or it names none and has another receipt number than `sole`."""
+    if ORIGINAL in found:
+        return number_of(only(found, ORIGINAL)) == original
+    receipt = only(found, RECEIPT)
+    return sole is not None and number_of(receipt) is not None and receipt != sole
 
 
 def is_remark(line):
@@ -158,8 +170,9 @@ def is_remark(line):
 class Reader:
     """Goes over the records of a journal in order."""
 
-    def __init__(self, currency):
-        self.book, self.running, self.announced, self.remarked = Book(currency), None, None, False
+    def __init__(self, currency, by_receipt):
+        self.book, self.by_receipt = Book(currency), by_receipt
+        self.running, self.announced, self.remarked = None, None, False
 
     def read(self, line):
         remarked, self.remarked = self.remarked, is_remark(line)
@@ -260,9 +273,14 @@ class Reader:
     def end_reversal(self, order, how):
         entry = self.book.entries[order.number - 1]
         cause = {"lost": "Line", "given up": "AbortAfterApproval"}.get(how)
-        cause = cause or cause_of(order.statuses, entry.amount, self.book.currency, entry.trace)
+        cause = cause or cause_of(order.statuses, entry.amount, self.book.currency, entry.trace, self.sole_receipt(entry))
         entry.doubt = cause
         entry.reversed = entry.reversed or cause is None
+
+    def sole_receipt(self, entry):
+        """The receipt number of an entry whose amount no other payment has, if the book has the rule on receipt numbers."""
+        amounts = [other.amount for other in self.book.entries] + [amount for amount, _cause in self.book.unclear]
+        return entry.receipt if self.by_receipt and amounts.count(entry.amount) == 1 else None
 
 
 def last_named(order):
@@ -290,10 +308,10 @@ def reader_of(file):
         if len(file) > 1 and file[:1] != b"\n":
             raise NoJournal("there is no whole line")
         return None
-    opening = re.fullmatch(FORMAT + rb", currency (\d{1,4})", lines[0])
+    opening = re.fullmatch(FORMAT + rb", currency (\d{1,4})(" + BY_RECEIPT + rb")?", lines[0])
     if opening is None:
         raise NoJournal("the first line is none of a journal")
-    reader, covered = Reader(int(opening[1])), lines[0] + b"\n"
+    reader, covered = Reader(int(opening[1]), opening[2] is not None), lines[0] + b"\n"
     for line in lines[1:]:
         if line.startswith(b"#= "):
             if line[3:] != check_of(covered):
@@ -342,8 +360,9 @@ def spelled(sign, apdu):
 class Writer:
     """The records of a journal, and the file with them. `steps` has the calls of each append, in order."""
 
-    def __init__(self, currency=978):
-        self.currency, self.records = currency, [b"%s, currency %d\n" % (FORMAT, currency)]
+    def __init__(self, currency=978, by_receipt=False):
+        self.currency = currency
+        self.records = [b"%s, currency %d%s\n" % (FORMAT, currency, BY_RECEIPT if by_receipt else b"")]
         self.note = ""  # of the next order
 
     def order(self, words, apdu):

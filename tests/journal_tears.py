@@ -1,5 +1,5 @@
 #!/usr/bin/env python3
-"""Tears the journals of fifteen dialogues in every way a crash may, and compares what the program reads with the model.
+"""Tears the journals of sixteen dialogues in every way a crash may, and compares what the program reads with the model.
 
 For each record: all cuts of what is written behind the closed gate, new bytes mixed with zeros at each place and by chance,
 the gate's byte old and new. Each byte of a torn write is the new one, or 0, since the file grew there. Then a crash in the
@@ -109,8 +109,9 @@ class Trial(Checks):
         """A till over the file whose terminal isn't there leaves it at rest, and keeps what it cuts."""
         path = self.work / f"open.{number}"
         path.write_bytes(file)
-        ended = run(["till", "--port", "1", "--book", path])
         text = journal_model.recovered(file)
+        rule = ["--reversal-by-receipt"] if journal_model.BY_RECEIPT in text else []
+        ended = run(["till", "--port", "1", "--book", path, *rule])
         after = path.read_bytes()
         beside = self.work / f"open.{number}.cut"
         kept = beside.read_bytes() if beside.exists() else b""

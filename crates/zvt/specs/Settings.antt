@@ -1,5 +1,5 @@
 -- The settings of a till, and the verdict and the extras of a terminal, from the arguments.
-use Rattle.std.specs.Prelude.{◌≡◌, ◌⊎◌, ℕ, codes, cond, false, List, Option, Some, None, is_some, option_map}
+use Rattle.std.specs.Prelude.{◌≡◌, ◌⊎◌, ℕ, codes, cond, List, Option, Some, None, is_some, option_map}
 use Rattle.std.specs.Borrow.{Bor}
 use Rattle.std.specs.Str.{bytes_eq}
 use Rattle.zvt_till.specs.Events.{run_settings}
@@ -35,7 +35,7 @@ currency_named options = named run_settings.currency currency_of options.currenc
 
 -- the rules that the flags state
 abbrev pub rules_stated : TillOptions → Rules
-rules_stated options = record { close_by_completion = options.close_by_completion; reversal_by_receipt = false }
+rules_stated options = record { close_by_completion = options.close_by_completion; reversal_by_receipt = options.reversal_by_receipt }
 
 -- the settings that the words and the flags name; or none, where one of the words names none
 abbrev pub AreSettings : TillOptions → Option TillSettings → Type 0

@@ -16,13 +16,21 @@ use zvt_journal::{FileDevice, FileFailure, JournalFileError, Opened, open_file, 
 use zvt_kept::{KeptTill, Recovered, RecoveryError, recover};
 use zvt_runs::{EndFault, write_book, write_records};
 use zvt_text::Form;
-use zvt_till::{Till, TillSettings};
+use zvt_till::{Rules, Till, TillSettings};
 use zvt_tool::statuses::{DONE, MEMORY, WORDS, of_device, of_file_error, of_recovery};
 use zvt_trace::next_line;
 
 /// The report on a book in another currency than the till's, or on a file that is not a book.
 const OTHER_BOOK: &str =
     "the first line does not begin a book in the till's currency: give the book's currency, or name another file";
+
+/// The report on a book that names the rule on receipt numbers, which the till was not given.
+const RECEIPT_BOOK: &str =
+    "the book was begun by 'zvt till --reversal-by-receipt': use this option, or name another file";
+
+/// The report on a book that does not name the rule on receipt numbers, which the till was given.
+const NO_RECEIPT_BOOK: &str =
+    "the book was begun without '--reversal-by-receipt': leave out this option, or name another file";
 
 /// The report on a file that is not a book, when a book is to be read.
 const NO_BOOK: &str =
@@ -47,6 +55,17 @@ const ONE_RECORDS: &str =
 /// The first line of a book, up to the number of its currency.
 const OPENING: [u8; 26] = *b"# zvt journal 1, currency ";
 
+/// The end of the first line of a book whose reversals go by their receipt numbers.
+const BY_RECEIPT: [u8; 22] = *b", reversals by receipt";
+
+/// What the first line of a book says of its till.
+#[derive(Clone, Copy)]
+struct BookSettings {
+    currency: Currency,
+    /// Whether a receipt number confirms a reversal whose status names no payment.
+    by_receipt: bool,
+}
+
 /// The sum of the books written so far.
 #[derive(Drop)]
 struct Listing {
@@ -70,16 +89,16 @@ impl Listing {
         }
     }
 
-    /// Adds a book with this total, and with this currency if it has a record.
-    fn add(&mut self, currency: Option<Currency>, total: u64) {
+    /// Adds a book with this total, and with these settings if it has a record.
+    fn add(&mut self, book: Option<BookSettings>, total: u64) {
         self.sum.add(u128::from(total));
-        let Some(currency) = currency else {
+        let Some(book) = book else {
             return;
         };
         if let Some(before) = self.currency {
-            self.is_mixed = self.is_mixed || before != currency;
+            self.is_mixed = self.is_mixed || before != book.currency;
         }
-        self.currency = Some(currency);
+        self.currency = Some(book.currency);
     }
 }
 
@@ -140,7 +159,7 @@ fn show_one(
         answer => answer,
     };
     match &answer {
-        Ok(()) => listing.add(currency_of(text.as_slice()), recovered.till.total()),
+        Ok(()) => listing.add(settings_in(text.as_slice()), recovered.till.total()),
         Err(EndFault::Write) => listing.is_output_lost = true,
         Err(_) => {}
     }
@@ -187,8 +206,8 @@ fn report_left(rt: &HostRuntime, path: &str, records: usize) -> io::Result<()> {
     Ok(())
 }
 
-/// Restores a till from these records, with the notes of its payments. It has the book's currency. A book without a
-/// record restores a new till.
+/// Restores a till from these records, with the notes of its payments. It has the book's currency and its rule on
+/// reversals. A book without a record restores a new till.
 fn recovered_from(rt: &HostRuntime, text: &[u8]) -> Result<Recovered, RecoveryError> {
     if text.is_empty() {
         return Ok(Recovered {
@@ -197,23 +216,40 @@ fn recovered_from(rt: &HostRuntime, text: &[u8]) -> Result<Recovered, RecoveryEr
             unclear: Vec::new(rt.alloc()),
         });
     }
-    let Some(currency) = currency_of(text) else {
+    let Some(book) = settings_in(text) else {
         return Err(RecoveryError::Opening);
     };
     let settings = TillSettings {
-        currency,
+        currency: book.currency,
+        rules: Rules {
+            reversal_by_receipt: book.by_receipt,
+            ..Rules::strict()
+        },
         ..TillSettings::default()
     };
     recover(rt.alloc(), &settings, text)
 }
 
-/// Returns the currency in the first line of a book. [`recover`] checks that line.
-fn currency_of(text: &[u8]) -> Option<Currency> {
+/// Returns what the first line of a book says. [`recover`] checks that line.
+fn settings_in(text: &[u8]) -> Option<BookSettings> {
     if text.is_empty() {
         return None;
     }
     let (line, _) = next_line(text);
-    let digits = line.strip_prefix(&OPENING)?;
+    let words = line.strip_prefix(&OPENING)?;
+    let (digits, by_receipt) = match words.strip_suffix(&BY_RECEIPT) {
+        Some(digits) => (digits, true),
+        None => (words, false),
+    };
+    let currency = currency_named(digits)?;
+    Some(BookSettings {
+        currency,
+        by_receipt,
+    })
+}
+
+/// Returns the currency of this number.
+fn currency_named(digits: &[u8]) -> Option<Currency> {
     match str::from_utf8(digits) {
         Ok(word) => match word.parse::<u16>() {
             Ok(number) => Currency::new(number),
@@ -244,7 +280,21 @@ pub fn open(
             report_book(rt, path, kept.till())?;
             Ok(kept)
         }
+        Err(RecoveryError::Opening) => {
+            report_on(rt, path, other_book(settings, text.as_slice()))?;
+            Err(Exit::Status(of_recovery(RecoveryError::Opening)))
+        }
         Err(error) => Err(Exit::Status(unrecovered(rt, path, error)?)),
+    }
+}
+
+/// Returns the report on a book whose first line does not agree with the till's settings.
+fn other_book(settings: &TillSettings, text: &[u8]) -> &'static str {
+    let by_receipt = settings.rules.reversal_by_receipt;
+    match settings_in(text) {
+        Some(book) if book.by_receipt && !by_receipt => RECEIPT_BOOK,
+        Some(book) if !book.by_receipt && by_receipt => NO_RECEIPT_BOOK,
+        _ => OTHER_BOOK,
     }
 }
 

@@ -32,7 +32,7 @@ pub fn settings(rt: &HostRuntime, options: &TillOptions<'_>) -> io::Result<Optio
         currency,
         rules: Rules {
             close_by_completion: options.close_by_completion,
-            reversal_by_receipt: false,
+            reversal_by_receipt: options.reversal_by_receipt,
         },
     }))
 }

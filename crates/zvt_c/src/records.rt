@@ -2,7 +2,7 @@
 //!
 //! Each call writes the text of one record to the start of the buffer and reports its size. If the buffer is too small,
 //! nothing is written.
-ghost use Rattle.std.specs.Prelude.{◌≡◌, IfSome, MatchBool, MatchResult, nat_le, option_map};
+ghost use Rattle.std.specs.Prelude.{◌≡◌, IfSome, MatchBool, MatchResult, false, nat_le, option_map};
 ghost use Rattle.zvt_kept.specs.Records.{IsSpelledOrder, lost_record, opening};
 ghost use Rattle.zvt_kept.specs.Notes.{note_of};
 ghost use Rattle.zvt_c.specs.Records.{Masks, Records, RecordsHeard, RecordsOrder, given, has_password, masked_bytes};
@@ -30,7 +30,7 @@ pub extern "C" fn zvt_record_opening(
     buffer: &mut [u8],
     answer: &mut ZvtAnswer,
 )
-    ensures { MatchBool (nat_le currency 9999) (Records (opening currency) buffer.old buffer.new answer.new)
+    ensures { MatchBool (nat_le currency 9999) (Records (opening currency false) buffer.old buffer.new answer.new)
         ((buffer.new ≡ buffer.old) × (answer.new ≡ bare statuses.argument)) }
 {
     let Some(currency) = Currency::new(currency) else {
@@ -38,7 +38,7 @@ pub extern "C" fn zvt_record_opening(
         return;
     };
     let mut text = Text::new(alloc);
-    let written = put_opening(&mut text, currency);
+    let written = put_opening(&mut text, currency, false);
     *answer = hand_out(written, &text, buffer);
 }
 

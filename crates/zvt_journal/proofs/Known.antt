@@ -6,7 +6,7 @@ use Rattle.std.proofs.lemmas.Bool.Decides.{nat_tests}
 use Rattle.std.proofs.lemmas.List.{take-append-le, drop_all}
 use Rattle.std.specs.declared.alloc.Global.{Global}
 use Rattle.zvt_journal.specs.Device.{Cut, Torn, Swapped}
-use Rattle.zvt_journal.specs.Files.{BeginWithOpening, GoesOn, GoOn, IsBegun, is_begun, IsKnown, IsNamed, IsOpening, is_opening_part, is_part, may_stand, opening_behind}
+use Rattle.zvt_journal.specs.Files.{BeginWithOpening, GoesOn, GoOn, IsBegun, is_begun, IsKnown, IsNamed, IsOpening, is_opening_part, is_part, is_ruled_part, may_stand, opening_behind}
 use Rattle.zvt_journal.specs.Opening.{NoneIsRefused}
 use Rattle.zvt_journal.specs.declared.error.JournalFileError.TheVariants.{InUse, Displaced, Folder, NotAFile, NotAJournal, RecordsBehind, TooMuchAfter, CutNotKept, FolderNotSynced, Io, Memory}
 use Rattle.zvt_journal.specs.Text.{at_rest, joined, recovered, whole, IsRecord}
@@ -56,15 +56,27 @@ torn_part (byte ∷ part) (new ∷ all) (first ∷ wanted) le left is =
     let tail = torn_part part all wanted (omega (arith, le)) (λ i lt. left (suc i) (omega (arith, lt))) parts.1 in
     ap (λ (b : Bool). b && is_part part wanted) head ∙ tail
 
-torn_opening : (part all : List ℕ) → length part ≤ length all → Left part all → is_opening_part all ≡ true → is_opening_part part ≡ true
-torn_opening part all le left is =
-    let Part = λ (digits : ℕ). is_part part (opening_behind digits) in
-    let All = λ (digits : ℕ). is_part all (opening_behind digits) in
+-- a change that keeps parts of each wanted text keeps parts of an opening
+each_ruled : (by_receipt : Bool) (part all : List ℕ) → ((wanted : List ℕ) → is_part all wanted ≡ true → is_part part wanted ≡ true)
+    → is_ruled_part by_receipt all ≡ true → is_ruled_part by_receipt part ≡ true
+each_ruled by_receipt part all each is =
+    let Part = λ (digits : ℕ). is_part part (opening_behind by_receipt digits) in
+    let All = λ (digits : ℕ). is_part all (opening_behind by_receipt digits) in
+    let so = λ (digits : ℕ). each (opening_behind by_receipt digits) in
     either (All 1 || All 2 || All 3) (Part 1 || Part 2 || Part 3) (All 4) (Part 4)
     (either (All 1 || All 2) (Part 1 || Part 2) (All 3) (Part 3)
-    (either (All 1) (Part 1) (All 2) (Part 2) (torn_part part all (opening_behind 1) le left) (torn_part part all (opening_behind 2) le left))
-    (torn_part part all (opening_behind 3) le left))
-    (torn_part part all (opening_behind 4) le left) is
+    (either (All 1) (Part 1) (All 2) (Part 2) (so 1) (so 2))
+    (so 3))
+    (so 4) is
+
+each_opening : (part all : List ℕ) → ((wanted : List ℕ) → is_part all wanted ≡ true → is_part part wanted ≡ true)
+    → is_opening_part all ≡ true → is_opening_part part ≡ true
+each_opening part all each is =
+    either (is_ruled_part false all) (is_ruled_part false part) (is_ruled_part true all) (is_ruled_part true part)
+    (each_ruled false part all each) (each_ruled true part all each) is
+
+torn_opening : (part all : List ℕ) → length part ≤ length all → Left part all → is_opening_part all ≡ true → is_opening_part part ≡ true
+torn_opening part all le left = each_opening part all (λ wanted. torn_part part all wanted le left)
 
 -- ---- an append
 
@@ -140,15 +152,7 @@ first_part (byte ∷ part) (first ∷ wanted) (suc n) is =
     ap (λ (b : Bool). b && is_part (take n part) wanted) parts.0 ∙ first_part part wanted n parts.1
 
 first_opening : (all : List ℕ) (n : ℕ) → is_opening_part all ≡ true → is_opening_part (take n all) ≡ true
-first_opening all n is =
-    let Part = λ (digits : ℕ). is_part (take n all) (opening_behind digits) in
-    let All = λ (digits : ℕ). is_part all (opening_behind digits) in
-    let each = λ (digits : ℕ). first_part all (opening_behind digits) n in
-    either (All 1 || All 2 || All 3) (Part 1 || Part 2 || Part 3) (All 4) (Part 4)
-    (either (All 1 || All 2) (Part 1 || Part 2) (All 3) (Part 3)
-    (either (All 1) (Part 1) (All 2) (Part 2) (each 1) (each 2))
-    (each 3))
-    (each 4) is
+first_opening all n = each_opening (take n all) all (λ wanted. first_part all wanted n)
 
 -- a file that begins with another byte than a gate is one byte 0
 alone : (byte next : ℕ) (rest : List ℕ) → (byte == 0 && length (next ∷ rest) == 0) ≡ true → ⊥

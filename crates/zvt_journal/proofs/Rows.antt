@@ -48,6 +48,13 @@ begun_opening = refl
 begun_part : is_begun (10 ∷ 32 ∷ 0 ∷ 0 ∷ 116 ∷ []) ≡ true
 begun_part = refl
 
+-- the same for an opening that names the rule
+begun_ruled : is_begun (10 ∷ codes " zvt journal 1, currency 0978, reversals by receipt" ++ 10 ∷ 10 ∷ []) ≡ true
+begun_ruled = refl
+
+begun_ruled_part : is_begun (10 ∷ codes " zvt journal 1, currency 978, re" ++ 0 ∷ 0 ∷ []) ≡ true
+begun_ruled_part = refl
+
 -- a note of 21 bytes, one byte, a currency of five digits
 no_note : is_begun (10 ∷ codes "milk, bread and eggs") ≡ false
 no_note = refl
@@ -57,6 +64,10 @@ no_byte = refl
 
 no_currency : is_begun (10 ∷ codes " zvt journal 1, currency 12345") ≡ false
 no_currency = refl
+
+-- another rule
+no_rule : is_begun (10 ∷ codes " zvt journal 1, currency 978, reversals by trace") ≡ false
+no_rule = refl
 
 -- ---- what an append leaves
 

@@ -17,10 +17,16 @@ file_may_leave device = may_leave_after device.calls.start device.calls.made
 abbrev pub IsNamed : List ℕ → Type 0
 IsNamed file = take 15 file ≡ codes "# zvt journal 1"
 
+-- how the first line of a journal says that reversals go by their receipt numbers, if they do
+abbrev pub rule_words : (by_receipt : Bool) → List ℕ
+rule_words false = []
+rule_words true = codes ", reversals by receipt"
+
 -- the bytes that the first append writes after the gate, for a currency of this many digits, all `0`
 -- here
-abbrev pub opening_behind : ℕ → List ℕ
-opening_behind digits = codes " zvt journal 1, currency " ++ replicate digits 48 ++ 10 ∷ 10 ∷ []
+abbrev pub opening_behind : (by_receipt : Bool) → (digits : ℕ) → List ℕ
+opening_behind by_receipt digits =
+    codes " zvt journal 1, currency " ++ replicate digits 48 ++ rule_words by_receipt ++ 10 ∷ 10 ∷ []
 
 -- a byte in the place of the wanted one: it is there, or still 0
 abbrev pub may_stand : ℕ → ℕ → Bool
@@ -32,8 +38,14 @@ is_part [] wanted = true
 is_part (byte ∷ part) [] = false
 is_part (byte ∷ part) (first ∷ wanted) = may_stand byte first && is_part part wanted
 
+-- a part of an opening with this rule
+abbrev pub is_ruled_part : (by_receipt : Bool) → List ℕ → Bool
+is_ruled_part by_receipt part =
+    is_part part (opening_behind by_receipt 1) || is_part part (opening_behind by_receipt 2) || is_part part (opening_behind by_receipt 3)
+    || is_part part (opening_behind by_receipt 4)
+
 abbrev pub is_opening_part : List ℕ → Bool
-is_opening_part part = is_part part (opening_behind 1) || is_part part (opening_behind 2) || is_part part (opening_behind 3) || is_part part (opening_behind 4)
+is_opening_part part = is_ruled_part false part || is_ruled_part true part
 
 -- nothing, a gate that isn't there yet, or a closed gate and a part of an opening behind it
 abbrev pub is_begun : List ℕ → Bool
@@ -52,7 +64,7 @@ IsKnown file = IsNamed (recovered file) ⊎ IsBegun file
 abbrev pub IsKnownAsBefore : (List ℕ → Type 0) → List ℕ → Type 0
 IsKnownAsBefore might_leave file = might_leave file ⊎ IsKnown file
 
--- the first record: a line that names the format and a currency
+-- the first record: a line that names the format, a currency and, if reversals go by their receipt numbers, this rule
 pub record IsOpening (entry : List ℕ) : Type 0 where
   pub named : IsNamed entry
   pub part : is_opening_part (drop 1 entry ++ 10 ∷ []) ≡ true

@@ -1,8 +1,8 @@
 //! The possible contents of a journal's file, and the records that a content represents.
-ghost use Rattle.std.specs.Prelude.{◌≡◌, ◌≤◌, ◌↔◌, length, drop, IfOk, IfErr, IsTrue, true};
+ghost use Rattle.std.specs.Prelude.{◌≡◌, ◌≤◌, ◌↔◌, length, drop, IfOk, IfErr, IsTrue, false, true};
 ghost use Rattle.zvt_journal.specs.Text.{whole};
 ghost use Rattle.zvt_journal.specs.Files.{IsNamed, IsBegun, begins_record, is_begun, is_opening_part, is_part};
-ghost use Rattle.zvt_journal.specs.Files.{may_stand, after_gate, lines_ended, records_from};
+ghost use Rattle.zvt_journal.specs.Files.{is_ruled_part, may_stand, after_gate, lines_ended, records_from};
 ghost use Rattle.zvt_journal.specs.Opening.{IsAccepted, IsRefusedFor};
 
 use crate::JournalFileError;
@@ -33,10 +33,36 @@ fn is_begun(bytes: &[u8]) -> bool
 fn is_opening_part(part: &[u8]) -> bool
     ensures { result ≡ is_opening_part part.now }
 {
+    is_strict_part(part) || is_receipt_part(part)
+}
+
+/// Returns whether these bytes are part of an opening that names no rule.
+fn is_strict_part(part: &[u8]) -> bool
+    ensures { result ≡ is_ruled_part false part.now }
+{
     is_part(part, b" zvt journal 1, currency 0\n\n")
         || is_part(part, b" zvt journal 1, currency 00\n\n")
         || is_part(part, b" zvt journal 1, currency 000\n\n")
         || is_part(part, b" zvt journal 1, currency 0000\n\n")
+}
+
+/// Returns whether these bytes are part of an opening of a journal whose reversals go by their receipt numbers.
+fn is_receipt_part(part: &[u8]) -> bool
+    ensures { result ≡ is_ruled_part true part.now }
+{
+    is_part(
+        part,
+        b" zvt journal 1, currency 0, reversals by receipt\n\n",
+    ) || is_part(
+        part,
+        b" zvt journal 1, currency 00, reversals by receipt\n\n",
+    ) || is_part(
+        part,
+        b" zvt journal 1, currency 000, reversals by receipt\n\n",
+    ) || is_part(
+        part,
+        b" zvt journal 1, currency 0000, reversals by receipt\n\n",
+    )
 }
 
 /// Returns whether these are a prefix of the wanted bytes in which each byte is there or still 0. A wanted `0` stands

@@ -38,7 +38,8 @@ pub struct Opened {
 /// Opens a journal's file, creating it if necessary, and recovers its records.
 ///
 /// The text is empty if the file was just created, or if a crash left it before its first record. Then the first
-/// record is appended: one line, `# zvt journal 1, currency ` and a number of at most four digits.
+/// record is appended: one line, `# zvt journal 1, currency ` and a number of at most four digits, which
+/// `, reversals by receipt` may follow.
 pub fn open_file(alloc: Global, path: &[u8]) -> Noted<Result<Opened, JournalFileError>>
     ensures text { IfOk result.answer (λ opened. opened.text.items ≡ recovered (file_seen opened.device)) }
     ensures whole { IfOk result.answer (λ opened. recovered opened.text.items ≡ opened.text.items) }

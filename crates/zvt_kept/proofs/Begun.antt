@@ -5,7 +5,8 @@ use Rattle.zvt_till.specs.declared.happenings.Happening.TheVariants.{Connected}
 use Rattle.zvt_till.specs.Sending.{Settings}
 use Rattle.zvt_till.specs.Till.{TillState, new_till}
 use Rattle.zvt_journal.specs.Text.{recovered, IsSettled}
-use Rattle.zvt_kept.specs.Records.{kept_in, opening}
+use Rattle.zvt_kept.specs.Records.{kept_in}
+use Rattle.zvt_kept.specs.Logs.{opening_of}
 use Rattle.zvt_kept.specs.KeptTill.{Keeps, unless_up}
 use Rattle.zvt_till.specs.TillHistory.{Stands}
 
@@ -20,10 +21,10 @@ empty_text file at_gate = nothing (recovered file) (sym at_gate)
 stands_new : (settings : Settings) (state : TillState) → state ≡ new_till settings → Stands settings ((Connected ∷ []) ++ unless_up state.line_up) state
 stands_new settings state is = subst (λ s. Stands settings ((Connected ∷ []) ++ unless_up s.line_up) s) (sym is) ((tt, (tt, tt)), refl)
 
-pub begun : (settings : Settings) (seen : List ℕ) (may_leave : List ℕ → Type 0) (gate : ℕ) (state : TillState) → IsSettled seen may_leave gate → recovered seen ≡ opening settings.currency
-    → kept_in (opening settings.currency) ≡ Some [] → state ≡ new_till settings → Keeps settings (Connected ∷ []) seen may_leave gate state
+pub begun : (settings : Settings) (seen : List ℕ) (may_leave : List ℕ → Type 0) (gate : ℕ) (state : TillState) → IsSettled seen may_leave gate → recovered seen ≡ opening_of settings
+    → kept_in (opening_of settings) ≡ Some [] → state ≡ new_till settings → Keeps settings (Connected ∷ []) seen may_leave gate state
 begun settings seen may_leave gate state settled text means new = record {
   settled = settled;
-  recorded = record { opened = ([], text ∙ sym (append-nil (opening settings.currency))); kept = []; happened = []; read = ap kept_in text ∙ means; happens = refl; begins = refl };
+  recorded = record { opened = ([], text ∙ sym (append-nil (opening_of settings))); kept = []; happened = []; read = ap kept_in text ∙ means; happens = refl; begins = refl };
   stands = stands_new settings state new;
 }

@@ -38,20 +38,20 @@ use Rattle.zvt_kept.proofs.Steps.{taken_up}
 -- ---- files between two logs
 
 -- what happened later is not there
-more_later : (currency : ℕ) (first happened later : List Happening) (file : List ℕ) → IsBetween currency first happened file → IsBetween currency first (happened ++ later) file
-more_later currency first happened later file b = record {
+more_later : (settings : Settings) (first happened later : List Happening) (file : List ℕ) → IsBetween settings first happened file → IsBetween settings first (happened ++ later) file
+more_later settings first happened later file b = record {
   part = b.part;
   rest = b.rest ++ later;
   is_part = ap (λ l. l ++ later) b.is_part ∙ append_assoc b.part b.rest later;
   recorded = b.recorded;
 }
 
-all_before : (currency : ℕ) (first happened later : List Happening) (file : List ℕ) → IsBetween currency (first ++ happened) later file → IsBetween currency first (happened ++ later) file
-all_before currency first happened later file b = record {
+all_before : (settings : Settings) (first happened later : List Happening) (file : List ℕ) → IsBetween settings (first ++ happened) later file → IsBetween settings first (happened ++ later) file
+all_before settings first happened later file b = record {
   part = happened ++ b.part;
   rest = b.rest;
   is_part = ap (λ l. happened ++ l) b.is_part ∙ sym (append_assoc happened b.part b.rest);
-  recorded = subst (λ l. StandsFor currency (recovered file) l) (append_assoc first happened b.part) b.recorded;
+  recorded = subst (λ l. StandsFor settings (recovered file) l) (append_assoc first happened b.part) b.recorded;
 }
 
 module _ {D : Type 0} (seen : D → List ℕ) (may_leave : D → List ℕ → Type 0) (moment : D → ℕ) (left_since : D → ℕ → List ℕ → Type 0) (faults : D → ℕ) where
@@ -132,14 +132,14 @@ module _ {D : Type 0} (seen : D → List ℕ) (may_leave : D → List ℕ → Ty
     pub record Outlived (settings : Settings) (log : List Happening) (step : KeptStep) (old new : KeptValue D) : Type 0 where
       pub happened : List Happening
       pub by : HappensIn settings.currency step happened
-      pub leaves : LeavesOnly moment left_since old.standing.device new.standing.device (IsBetween settings.currency log happened)
+      pub leaves : LeavesOnly moment left_since old.standing.device new.standing.device (IsBetween settings log happened)
       pub then : has_failed new ≡ false → HasLog seen may_leave moment left_since faults settings (log ++ happened) new.standing
 
     unchanged : (settings : Settings) (log : List Happening) (step : KeptStep) (old new : KeptValue D) → HappensIn settings.currency step [] → HasLog seen may_leave moment left_since faults settings log old.standing → new ≡ old → Outlived settings log step old new
     unchanged settings log step old new none has same = record {
       happened = [];
       by = none;
-      leaves = subst (λ (k : KeptValue D). LeavesOnly moment left_since old.standing.device k.standing.device (IsBetween settings.currency log [])) (sym same) (quiet seen may_leave moment left_since faults only_now settings log [] old.standing has);
+      leaves = subst (λ (k : KeptValue D). LeavesOnly moment left_since old.standing.device k.standing.device (IsBetween settings log [])) (sym same) (quiet seen may_leave moment left_since faults only_now settings log [] old.standing has);
       then = λ whole. subst (λ l. HasLog seen may_leave moment left_since faults settings l new.standing) (sym (append-nil log)) (subst (λ (k : KeptValue D). HasLog seen may_leave moment left_since faults settings log k.standing) (sym same) has);
     }
 
@@ -187,7 +187,7 @@ module _ {D : Type 0} (seen : D → List ℕ) (may_leave : D → List ℕ → Ty
         record {
           happened = SentOut (sent_as settings.currency order) ∷ map hears h.0;
           by = inr (h.0, refl);
-          leaves = subst (λ (d : D). LeavesOnly moment left_since old.standing.device d (IsBetween settings.currency log (SentOut (sent_as settings.currency order) ∷ map hears h.0))) (sym gone.1) all.0;
+          leaves = subst (λ (d : D). LeavesOnly moment left_since old.standing.device d (IsBetween settings log (SentOut (sent_as settings.currency order) ∷ map hears h.0))) (sym gone.1) all.0;
           then = lost_after settings (log ++ SentOut (sent_as settings.currency order) ∷ map hears h.0) b.middle new gone all.1;
         })
         (λ failed.
@@ -198,15 +198,15 @@ module _ {D : Type 0} (seen : D → List ℕ) (may_leave : D → List ℕ → Ty
         more)
         ran
 
-    all_or_none : (settings : Settings) (log happened : List Happening) (file : List ℕ) → LeavesLogs settings log happened file → IsBetween settings.currency log happened file
+    all_or_none : (settings : Settings) (log happened : List Happening) (file : List ℕ) → LeavesLogs settings log happened file → IsBetween settings log happened file
     all_or_none settings log happened file left = ⊎_elim
-        (λ s. at_first settings.currency log happened file s)
+        (λ s. at_first settings log happened file s)
         (λ s. record { part = happened; rest = []; is_part = sym (append-nil happened); recorded = s })
         left
 
-    new_line : (settings : Settings) (log : List Happening) (old new : D) → LeavesOnly moment left_since old new (LeavesLogs settings log (Lost ∷ Connected ∷ [])) → LeavesOnly moment left_since old new (IsBetween settings.currency log (Lost ∷ Connected ∷ []))
+    new_line : (settings : Settings) (log : List Happening) (old new : D) → LeavesOnly moment left_since old new (LeavesLogs settings log (Lost ∷ Connected ∷ [])) → LeavesOnly moment left_since old new (IsBetween settings log (Lost ∷ Connected ∷ []))
     new_line settings log old new leaves =
-        weaker records_are_kept seen may_leave moment left_since faults old new (LeavesLogs settings log (Lost ∷ Connected ∷ [])) (IsBetween settings.currency log (Lost ∷ Connected ∷ [])) leaves (λ file. all_or_none settings log (Lost ∷ Connected ∷ []) file)
+        weaker records_are_kept seen may_leave moment left_since faults old new (LeavesLogs settings log (Lost ∷ Connected ∷ [])) (IsBetween settings log (Lost ∷ Connected ∷ [])) leaves (λ file. all_or_none settings log (Lost ∷ Connected ∷ []) file)
 
     connect_outlived : (settings : Settings) (log : List Happening) (old new : KeptValue D) (result : Result Unit DeviceError)
         → HasLog seen may_leave moment left_since faults settings log old.standing → Connects seen may_leave moment left_since faults old new result → Outlived settings log connects old new
@@ -237,7 +237,7 @@ module _ {D : Type 0} (seen : D → List ℕ) (may_leave : D → List ℕ → Ty
     call_outlived settings log loses old new has did = record {
       happened = [];
       by = refl;
-      leaves = subst (λ (d : D). LeavesOnly moment left_since old.standing.device d (IsBetween settings.currency log [])) (sym did.1) (quiet seen may_leave moment left_since faults only_now settings log [] old.standing has);
+      leaves = subst (λ (d : D). LeavesOnly moment left_since old.standing.device d (IsBetween settings log [])) (sym did.1) (quiet seen may_leave moment left_since faults only_now settings log [] old.standing has);
       then = λ whole. subst (λ l. HasLog seen may_leave moment left_since faults settings l new.standing) (sym (append-nil log)) (lost_log settings log old new did has);
     }
 
@@ -246,7 +246,7 @@ module _ {D : Type 0} (seen : D → List ℕ) (may_leave : D → List ℕ → Ty
     abbrev pub AllLeft : Settings → List Happening → List KeptStep → (old new : KeptValue D) → Type 0
     AllLeft settings log steps old new =
         (happened : List Happening) × HappenInAll settings.currency steps happened
-        × LeavesOnly moment left_since old.standing.device new.standing.device (IsBetween settings.currency log happened)
+        × LeavesOnly moment left_since old.standing.device new.standing.device (IsBetween settings log happened)
         × (has_failed new ≡ false → HasLog seen may_leave moment left_since faults settings (log ++ happened) new.standing)
 
     none_happened : (currency : ℕ) (steps : List KeptStep) → HappenInAll currency steps []
@@ -261,16 +261,16 @@ module _ {D : Type 0} (seen : D → List ℕ) (may_leave : D → List ℕ → Ty
         let r = rest whole in (
           one.happened ++ r.0,
           (one.happened, r.0, one.by, r.1, refl),
-          and_then moment left_since old.standing.device mid.standing.device new.standing.device (IsBetween settings.currency log (one.happened ++ r.0)) (IsBetween settings.currency (log ++ one.happened) r.0)
-              (weaker records_are_kept seen may_leave moment left_since faults old.standing.device mid.standing.device (IsBetween settings.currency log one.happened) (IsBetween settings.currency log (one.happened ++ r.0)) one.leaves (λ file. more_later settings.currency log one.happened r.0 file))
-              r.2 (λ file. all_before settings.currency log one.happened r.0 file),
+          and_then moment left_since old.standing.device mid.standing.device new.standing.device (IsBetween settings log (one.happened ++ r.0)) (IsBetween settings (log ++ one.happened) r.0)
+              (weaker records_are_kept seen may_leave moment left_since faults old.standing.device mid.standing.device (IsBetween settings log one.happened) (IsBetween settings log (one.happened ++ r.0)) one.leaves (λ file. more_later settings log one.happened r.0 file))
+              r.2 (λ file. all_before settings log one.happened r.0 file),
           λ unfailed. subst (λ l. HasLog seen may_leave moment left_since faults settings l new.standing) (append_assoc log one.happened r.0) (r.3 unfailed),
         )
     one_and_more settings log step more old mid new true failed one did rest =
         let end = all_stuck more mid new failed did in (
           one.happened,
           (one.happened, [], one.by, none_happened settings.currency more, sym (append-nil one.happened)),
-          subst (λ (d : D). LeavesOnly moment left_since old.standing.device d (IsBetween settings.currency log one.happened)) (sym end.1) one.leaves,
+          subst (λ (d : D). LeavesOnly moment left_since old.standing.device d (IsBetween settings log one.happened)) (sym end.1) one.leaves,
           λ unfailed. absurd (not_both (has_failed new) end.0 unfailed),
         )
 
@@ -278,7 +278,7 @@ module _ {D : Type 0} (seen : D → List ℕ) (may_leave : D → List ℕ → Ty
     calls_outlive settings log [] old new has whole did = (
       [],
       refl,
-      subst (λ (k : KeptValue D). LeavesOnly moment left_since old.standing.device k.standing.device (IsBetween settings.currency log [])) did (quiet seen may_leave moment left_since faults only_now settings log [] old.standing has),
+      subst (λ (k : KeptValue D). LeavesOnly moment left_since old.standing.device k.standing.device (IsBetween settings log [])) did (quiet seen may_leave moment left_since faults only_now settings log [] old.standing has),
       λ unfailed. subst (λ l. HasLog seen may_leave moment left_since faults settings l new.standing) (sym (append-nil log)) (subst (λ (k : KeptValue D). HasLog seen may_leave moment left_since faults settings log k.standing) did has),
     )
     calls_outlive settings log (step ∷ more) old new has whole did =

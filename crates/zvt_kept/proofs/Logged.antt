@@ -15,8 +15,8 @@ use Rattle.zvt_till.proofs.TillHistoryLemmas.{stands-more}
 use Rattle.zvt_journal.specs.Text.{recovered, whole, IsWithOrWithout}
 use Rattle.zvt_journal.specs.Device.{LeavesOnly}
 use Rattle.zvt_journal.proofs.Lines.{recovered_whole}
-use Rattle.zvt_kept.specs.Records.{Kept, IsRecordOf, RecordsAreKept, opening}
-use Rattle.zvt_kept.specs.Logs.{Happens, HappenAll, StandsFor}
+use Rattle.zvt_kept.specs.Records.{Kept, IsRecordOf, RecordsAreKept}
+use Rattle.zvt_kept.specs.Logs.{Happens, HappenAll, StandsFor, opening_of}
 use Rattle.zvt_kept.specs.KeptTill.{IsKept, Keeps, KeepsSome, LeavesLogs, Outlives, Standing, unless_up}
 
 -- ---- records
@@ -30,24 +30,24 @@ pub whole_text : (file : List ℕ) → recovered (recovered file) ≡ recovered 
 whole_text file = take_all (whole 0 (recovered file)) (recovered file) (omega (arith, recovered_whole file))
 
 module _ (records_are_kept : RecordsAreKept) where
-  pub stands_more : (currency : ℕ) (file : List ℕ) (log : List Happening) (one : Kept) (added : List ℕ) (happened : List Happening)
-      → StandsFor currency (recovered file) log → IsRecordOf one added → Happens currency one happened → StandsFor currency (recovered file ++ added) (log ++ happened)
-  stands_more currency file log one added happened s is h = record {
-    opened = (s.opened.0 ++ added, ap (λ text. text ++ added) s.opened.1 ∙ append_assoc (opening currency) s.opened.0 added);
+  pub stands_more : (settings : Settings) (file : List ℕ) (log : List Happening) (one : Kept) (added : List ℕ) (happened : List Happening)
+      → StandsFor settings (recovered file) log → IsRecordOf one added → Happens settings.currency one happened → StandsFor settings (recovered file ++ added) (log ++ happened)
+  stands_more settings file log one added happened s is h = record {
+    opened = (s.opened.0 ++ added, ap (λ text. text ++ added) s.opened.1 ∙ append_assoc (opening_of settings) s.opened.0 added);
     kept = s.kept ++ one ∷ [];
     happened = s.happened ++ happened;
     read = records_are_kept (recovered file) s.kept one added (whole_text file) s.read is;
-    happens = happen_more currency s.kept one s.happened happened s.happens h;
+    happens = happen_more settings.currency s.kept one s.happened happened s.happens h;
     begins = ap (λ l. l ++ happened) s.begins;
   }
 
   -- with the record or without it
   pub leaves_logs : (settings : Settings) (file : List ℕ) (log : List Happening) (one : Kept) (added : List ℕ) (happened : List Happening)
-      → StandsFor settings.currency (recovered file) log → IsRecordOf one added → Happens settings.currency one happened
+      → StandsFor settings (recovered file) log → IsRecordOf one added → Happens settings.currency one happened
       → (left : List ℕ) → IsWithOrWithout (recovered file) added left → LeavesLogs settings log happened left
   leaves_logs settings file log one added happened s is h left with_or_without = ⊎_elim
-      (λ without. inl (subst (λ text. StandsFor settings.currency text log) (sym without) s))
-      (λ with_it. inr (subst (λ text. StandsFor settings.currency text (log ++ happened)) (sym with_it) (stands_more settings.currency file log one added happened s is h)))
+      (λ without. inl (subst (λ text. StandsFor settings text log) (sym without) s))
+      (λ with_it. inr (subst (λ text. StandsFor settings text (log ++ happened)) (sym with_it) (stands_more settings file log one added happened s is h)))
       with_or_without
 
   -- ---- a crash at any moment

@@ -1,5 +1,5 @@
 -- The lines of records, and what they mean.
-use Rattle.std.proofs.Common.{◌≡◌, ℕ, ◌<◌, ◌≤◌, List, [], ◌∷◌, ◌++◌, All, length, drop, true, false, map, Option, Some, option_map, refl, ap, sym, ◌∙◌, subst, arith, append_assoc, length-append}
+use Rattle.std.proofs.Common.{◌≡◌, ℕ, Bool, ◌<◌, ◌≤◌, List, [], ◌∷◌, ◌++◌, All, length, drop, true, false, map, Option, Some, option_map, refl, ap, sym, ◌∙◌, subst, arith, append_assoc, length-append}
 use Rattle.std.specs.Prelude.{codes, decimal}
 use Rattle.std.proofs.lemmas.List.{append-nil}
 use Rattle.std.proofs.lemmas.List.Elements.{All-append, All-nil, All-cons, All-head, All-tail, All-weaker}
@@ -11,6 +11,7 @@ use Rattle.zvt_journal.specs.Text.{begins_marked, IsLine, IsRecord, recovered, t
 use Rattle.zvt_journal.proofs.Lines.{itself_whole, recovered_then, recovered_whole}
 use Rattle.zvt_journal.proofs.Meaning.{lines_are_recovered, record_if, recovered_is_lines}
 use Rattle.zvt_kept.specs.Notes.{is_note}
+use Rattle.zvt_journal.specs.Files.{rule_words}
 use Rattle.zvt_kept.specs.Records.{Kept, ordered, heard, lost, IsPiece, IsOrderRecord, IsHeardRecord, IsRecordOf, IsSpelledOrder, OpeningIsTaken, RecordsAreKept, RecordsAreTaken, RecordsAreWhole, is_remark, kept_in, last_of, lost_record, meaning, meaning_behind, meanings, one_or_none, opening, noted_words, ordered_by, sent_lines, then_kept}
 use Rattle.zvt_kept.proofs.Bytes.{encode_plain, piece_back}
 use Rattle.zvt_kept.proofs.LineLemmas.{IsPlain, lines_append, lines_plain, plain_line}
@@ -158,16 +159,21 @@ made (ordered order note) text is = made_order order note text is
 made (heard message) text is = made_heard message text is
 made lost text is = made_lost text is
 
-opening_made : (currency : ℕ) → currency ≤ 9999 → IsMade [] (opening currency)
-opening_made currency fits =
+rule_plain : (by_receipt : Bool) → All (λ byte. 31 < byte) (rule_words by_receipt)
+rule_plain false = word_plain [] refl
+rule_plain true = word_plain (rule_words true) refl
+
+opening_made : (currency : ℕ) (by_receipt : Bool) → currency ≤ 9999 → IsMade [] (opening currency by_receipt)
+opening_made currency by_receipt fits =
     let words = codes "# zvt journal 1, currency " in
-    let plain = both_plain words (decimal currency) (word_plain words refl) (decimal_plain currency (omega arith)) in
+    let start = words ++ decimal currency in
+    let plain = both_plain start (rule_words by_receipt) (both_plain words (decimal currency) (word_plain words refl) (decimal_plain currency (omega arith))) (rule_plain by_receipt) in
     record {
       unmarked = refl;
-      line = words ++ decimal currency;
+      line = start ++ rule_words by_receipt;
       more = [];
       is = refl;
-      plain = All-cons IsPlain (words ++ decimal currency) [] (record { some = omega arith; plain = plain }) (All-nil IsPlain);
+      plain = All-cons IsPlain (start ++ rule_words by_receipt) [] (record { some = omega arith; plain = plain }) (All-nil IsPlain);
       unsent = refl;
       means = refl;
       right = λ before. refl;
@@ -226,6 +232,7 @@ pub records_are_taken : RecordsAreTaken
 records_are_taken one added m = made_record (one ∷ []) added (made one added m)
 
 pub opening_is_taken : OpeningIsTaken
-opening_is_taken currency fits =
-    let m = opening_made currency fits in
-    (made_kept [] (opening currency) m, made_record [] (opening currency) m, opens currency fits)
+opening_is_taken currency by_receipt fits =
+    let m = opening_made currency by_receipt fits in
+    let text = opening currency by_receipt in
+    (made_kept [] text m, made_record [] text m, opens currency by_receipt fits)

@@ -25,21 +25,21 @@ use Rattle.zvt_kept.proofs.Steps.{heard_follows}
 
 -- ---- files between two logs
 
-pub at_first : (currency : ℕ) (first happened : List Happening) (file : List ℕ) → StandsFor currency (recovered file) first → IsBetween currency first happened file
-at_first currency first happened file s = record { part = []; rest = happened; is_part = refl; recorded = subst (λ l. StandsFor currency (recovered file) l) (sym (append-nil first)) s }
+pub at_first : (settings : Settings) (first happened : List Happening) (file : List ℕ) → StandsFor settings (recovered file) first → IsBetween settings first happened file
+at_first settings first happened file s = record { part = []; rest = happened; is_part = refl; recorded = subst (λ l. StandsFor settings (recovered file) l) (sym (append-nil first)) s }
 
-pub with_one : (settings : Settings) (first : List Happening) (h : Happening) (more : List Happening) (file : List ℕ) → LeavesLogs settings first (h ∷ []) file → IsBetween settings.currency first (h ∷ more) file
+pub with_one : (settings : Settings) (first : List Happening) (h : Happening) (more : List Happening) (file : List ℕ) → LeavesLogs settings first (h ∷ []) file → IsBetween settings first (h ∷ more) file
 with_one settings first h more file left = ⊎_elim
-    (λ s. at_first settings.currency first (h ∷ more) file s)
+    (λ s. at_first settings first (h ∷ more) file s)
     (λ s. record { part = h ∷ []; rest = more; is_part = refl; recorded = s })
     left
 
-pub one_earlier : (currency : ℕ) (first : List Happening) (h : Happening) (more : List Happening) (file : List ℕ) → IsBetween currency (first ++ h ∷ []) more file → IsBetween currency first (h ∷ more) file
-one_earlier currency first h more file b = record {
+pub one_earlier : (settings : Settings) (first : List Happening) (h : Happening) (more : List Happening) (file : List ℕ) → IsBetween settings (first ++ h ∷ []) more file → IsBetween settings first (h ∷ more) file
+one_earlier settings first h more file b = record {
   part = h ∷ b.part;
   rest = b.rest;
   is_part = ap (λ l. h ∷ l) b.is_part;
-  recorded = subst (λ l. StandsFor currency (recovered file) l) (append_assoc first (h ∷ []) b.part) b.recorded;
+  recorded = subst (λ l. StandsFor settings (recovered file) l) (append_assoc first (h ∷ []) b.part) b.recorded;
 }
 
 -- ---- whether the journal failed
@@ -75,26 +75,26 @@ module _ {D : Type 0} (seen : D → List ℕ) (may_leave : D → List ℕ → Ty
 
   module _ (only_now : (device : D) (file : List ℕ) → left_since device (moment device) file → may_leave device file) where
     -- nothing was done
-    pub quiet : (settings : Settings) (log happened : List Happening) (k : Standing D) → HasLog seen may_leave moment left_since faults settings log k → LeavesOnly moment left_since k.device k.device (IsBetween settings.currency log happened)
+    pub quiet : (settings : Settings) (log happened : List Happening) (k : Standing D) → HasLog seen may_leave moment left_since faults settings log k → LeavesOnly moment left_since k.device k.device (IsBetween settings log happened)
     quiet settings log happened k has =
-        started moment left_since k.device (IsBetween settings.currency log happened)
-        (λ file left. at_first settings.currency log happened file (subst (λ text. StandsFor settings.currency text log) (sym (ap recovered (has.settled.durable file (only_now k.device file left)))) has.recorded))
+        started moment left_since k.device (IsBetween settings log happened)
+        (λ file left. at_first settings log happened file (subst (λ text. StandsFor settings text log) (sym (ap recovered (has.settled.durable file (only_now k.device file left)))) has.recorded))
 
     abbrev Left : Settings → List Happening → (old new : KeptValue D) → List Message → Type 0
     Left settings log old new messages =
-        LeavesOnly moment left_since old.standing.device new.standing.device (IsBetween settings.currency log (map hears messages))
+        LeavesOnly moment left_since old.standing.device new.standing.device (IsBetween settings log (map hears messages))
         × (has_failed new ≡ false → HasLog seen may_leave moment left_since faults settings (log ++ map hears messages) new.standing)
 
     heard_first : (settings : Settings) (log : List Happening) (m : Message) (messages : List Message) (old mid : D) → LeavesOnly moment left_since old mid (LeavesLogs settings log (hears m ∷ []))
-        → LeavesOnly moment left_since old mid (IsBetween settings.currency log (map hears (m ∷ messages)))
+        → LeavesOnly moment left_since old mid (IsBetween settings log (map hears (m ∷ messages)))
     heard_first settings log m messages old mid leaves =
-        weaker records_are_kept seen may_leave moment left_since faults old mid (LeavesLogs settings log (hears m ∷ [])) (IsBetween settings.currency log (map hears (m ∷ messages))) leaves (λ file. with_one settings log (hears m) (map hears messages) file)
+        weaker records_are_kept seen may_leave moment left_since faults old mid (LeavesLogs settings log (hears m ∷ [])) (IsBetween settings log (map hears (m ∷ messages))) leaves (λ file. with_one settings log (hears m) (map hears messages) file)
 
     goes_on : (settings : Settings) (log : List Happening) (m : Message) (a : Answered) (messages : List Message) (old mid new : KeptValue D) → HasLog seen may_leave moment left_since faults settings log old.standing
         → HeardKept seen may_leave moment left_since faults m a old.standing mid.standing → Left settings (log ++ hears m ∷ []) mid new messages → Left settings log old new (m ∷ messages)
     goes_on settings log m a messages old mid new has kept rest = (
-      and_then moment left_since old.standing.device mid.standing.device new.standing.device (IsBetween settings.currency log (map hears (m ∷ messages))) (IsBetween settings.currency (log ++ hears m ∷ []) (map hears messages))
-          (heard_first settings log m messages old.standing.device mid.standing.device (kept.outlives settings log has)) rest.0 (λ file. one_earlier settings.currency log (hears m) (map hears messages) file),
+      and_then moment left_since old.standing.device mid.standing.device new.standing.device (IsBetween settings log (map hears (m ∷ messages))) (IsBetween settings (log ++ hears m ∷ []) (map hears messages))
+          (heard_first settings log m messages old.standing.device mid.standing.device (kept.outlives settings log has)) rest.0 (λ file. one_earlier settings log (hears m) (map hears messages) file),
       λ whole. subst (λ l. HasLog seen may_leave moment left_since faults settings l new.standing) (append_assoc log (hears m ∷ []) (map hears messages)) (rest.1 whole),
     )
 
@@ -102,7 +102,7 @@ module _ {D : Type 0} (seen : D → List ℕ) (may_leave : D → List ℕ → Ty
         → has_failed mid ≡ true → MessageLost seen may_leave moment left_since faults m why old.standing mid.standing → HearsAll (Hears seen may_leave moment left_since faults) mid messages answers new → Left settings log old new (m ∷ messages)
     stops settings log m why messages answers old mid new has failed lost h =
         let same : new ≡ mid = deaf mid new messages answers (ap (λ s. s.line_up) lost.lost.0) h in (
-          subst (λ (k : KeptValue D). LeavesOnly moment left_since old.standing.device k.standing.device (IsBetween settings.currency log (map hears (m ∷ messages)))) (sym same)
+          subst (λ (k : KeptValue D). LeavesOnly moment left_since old.standing.device k.standing.device (IsBetween settings log (map hears (m ∷ messages)))) (sym same)
               (heard_first settings log m messages old.standing.device mid.standing.device (lost.outlives settings log has)),
           λ whole. absurd (not_both (has_failed new) (ap (λ (k : KeptValue D). has_failed k) same ∙ failed) whole),
         )

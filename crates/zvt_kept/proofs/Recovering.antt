@@ -48,9 +48,9 @@ none_is_some : (kept : List Kept) → None ≡ Some kept → ⊥
 none_is_some kept is = absurd cc
 
 pub logs_are_one : LogsAreOne
-logs_are_one currency text a b p q =
+logs_are_one settings text a b p q =
     let kept : p.kept ≡ q.kept = same_kept p.kept q.kept (sym p.read ∙ q.read) in
-    p.begins ∙ ap (λ l. Connected ∷ l) (all_once currency q.kept p.happened q.happened (subst (λ k. HappenAll currency k p.happened) kept p.happens) q.happens) ∙ sym q.begins
+    p.begins ∙ ap (λ l. Connected ∷ l) (all_once settings.currency q.kept p.happened q.happened (subst (λ k. HappenAll settings.currency k p.happened) kept p.happens) q.happens) ∙ sym q.begins
 
 split_last : (currency : ℕ) (kept : List Kept) (one : Kept) (log : List Happening) → HappenAll currency (kept ++ one ∷ []) log
     → (before : List Happening) × (happened : List Happening) × HappenAll currency kept before × Happens currency one happened × (log ≡ before ++ happened)
@@ -107,7 +107,7 @@ foreign settings text entries i entry old new below is read dies s =
           dies settings (Connected ∷ s.happened) last.1 s.stands last.3 (subst (λ l. IsLog settings (Connected ∷ l)) same life.2);
     }
 
-pub at_end : (settings : Settings) (text : List ℕ) (entries : List Entry) (old new : TillState) → HasOpening settings.currency text → kept_in text ≡ Some (map kept_of entries)
+pub at_end : (settings : Settings) (text : List ℕ) (entries : List Entry) (old new : TillState) → HasOpening settings text → kept_in text ≡ Some (map kept_of entries)
     → SoFar settings entries (length entries) old → new ≡ step old Lost → IsRecovered settings text new
 at_end settings text entries old new opened read s is =
     let happens : HappenAll settings.currency (map kept_of entries) s.happened = subst (λ es. HappenAll settings.currency (map kept_of es) s.happened) (take_all (length entries) entries (omega arith)) s.happens in
@@ -125,7 +125,7 @@ split_first currency (one ∷ a) b log all =
     let more = split_first currency a b all.1 all.3 in
     (all.0 ++ more.0, more.1, (all.0, more.0, all.2, more.2, refl), all.4 ∙ ap (λ l. all.0 ++ l) more.3 ∙ sym (append_assoc all.0 more.0 more.1))
 
-no_foreign : (settings : Settings) (text : List ℕ) (log : List Happening) (number : ℕ) → StandsFor settings.currency text log → IsLog settings log → IsFirstForeign settings text number → ⊥
+no_foreign : (settings : Settings) (text : List ℕ) (log : List Happening) (number : ℕ) → StandsFor settings text log → IsLog settings log → IsFirstForeign settings text number → ⊥
 no_foreign settings text log number s k f =
     let kept : s.kept ≡ (f.before ++ f.one ∷ []) ++ f.after = same_kept s.kept ((f.before ++ f.one ∷ []) ++ f.after) (sym s.read ∙ f.read ∙ ap Some (sym (append_assoc f.before (f.one ∷ []) f.after))) in
     let cut = split_first settings.currency (f.before ++ f.one ∷ []) f.after s.happened (subst (λ ks. HappenAll settings.currency ks s.happened) kept s.happens) in
@@ -133,7 +133,7 @@ no_foreign settings text log number s k f =
     f.wrong (cut.0, cut.2, prefix_from settings [] (Connected ∷ cut.0) cut.1 (subst (λ l. IsLog settings l) whole k))
 
 pub logs_are_recovered : LogsAreRecovered
-logs_are_recovered settings text log (Ok till) s k r = r.stands.1 ∙ ap (λ l. state_after settings (l ++ Lost ∷ [])) (logs_are_one settings.currency text r.log log r.recorded s)
+logs_are_recovered settings text log (Ok till) s k r = r.stands.1 ∙ ap (λ l. state_after settings (l ++ Lost ∷ [])) (logs_are_one settings text r.log log r.recorded s)
 logs_are_recovered settings text log (Err Opening) s k r = r s.opened
 logs_are_recovered settings text log (Err (Line number)) s k r = none_is_some s.kept (sym r.0 ∙ s.read)
 logs_are_recovered settings text log (Err (Check number)) s k r = none_is_some s.kept (sym r.0 ∙ s.read)
@@ -143,18 +143,18 @@ logs_are_recovered settings text log (Err Memory) s k r = tt
 -- ---- a till over a journal that was opened
 
 pub opened_keeps : (settings : Settings) (seen text : List ℕ) (may_leave : List ℕ → Type 0) (gate : ℕ) (state : TillState) → IsSettled seen may_leave gate → recovered seen ≡ text
-    → (r : IsRecovered settings text state) → (log : List Happening) → StandsFor settings.currency text log → Keeps settings log seen may_leave gate state
+    → (r : IsRecovered settings text state) → (log : List Happening) → StandsFor settings text log → Keeps settings log seen may_leave gate state
 opened_keeps settings seen text may_leave gate state settled is r log s =
     let down : state.line_up ≡ false = ap (λ t. t.line_up) (r.stands.1 ∙ fold-snoc step (new_till settings) r.log Lost) in
-    let same : r.log ≡ log = logs_are_one settings.currency text r.log log r.recorded s in
+    let same : r.log ≡ log = logs_are_one settings text r.log log r.recorded s in
     record {
       settled = settled;
-      recorded = subst (λ t. StandsFor settings.currency t log) (sym is) s;
+      recorded = subst (λ t. StandsFor settings t log) (sym is) s;
       stands = subst (λ l. Stands settings l state) (ap (λ l. l ++ Lost ∷ []) same ∙ ap (λ b. log ++ unless_up b) (sym down)) r.stands;
     }
 
 -- what a till with its journal is, recovery finds
-recovered_till : (settings : Settings) (text : List ℕ) (log : List Happening) (state : TillState) (up : Bool) (result : Result TillValue RecoveryError) → state.line_up ≡ up → StandsFor settings.currency text log
+recovered_till : (settings : Settings) (text : List ℕ) (log : List Happening) (state : TillState) (up : Bool) (result : Result TillValue RecoveryError) → state.line_up ≡ up → StandsFor settings text log
     → Stands settings (log ++ unless_up up) state → Recovers settings text result → IsLostTill state result
 recovered_till settings text log state up (Ok till) line s t r =
     logs_are_recovered settings text log (Ok till) s (prefix_from settings [] log (unless_up up) t.0) r ∙ sym (lost_stands settings log state up t).1

@@ -5,12 +5,13 @@ use Rattle.std.proofs.lemmas.Bool.Decides.{nat_tests}
 use Rattle.std.proofs.lemmas.List.Elements.{All-nil, All-cons, All-head}
 use Rattle.std.specs.Str.Lines.{lines, strip_carriage_return}
 use Rattle.zvt_till.specs.declared.happenings.Happening.{Happening}
+use Rattle.zvt_till.specs.Sending.{Settings}
 use Rattle.zvt_journal.specs.Text.{IsLine, recovered, text_of}
 use Rattle.zvt_journal.proofs.Lines.{itself_whole, recovered_then}
 use Rattle.zvt_journal.proofs.Meaning.{recovered_is_lines}
-use Rattle.zvt_kept.specs.Logs.{HasOpening, StandsFor}
+use Rattle.zvt_kept.specs.Logs.{HasOpening, StandsFor, opening_of}
 use Rattle.zvt_kept.specs.Checks.{are_right, is_check, is_right, is_sent, last_record, right_after, then_line}
-use Rattle.zvt_kept.specs.Records.{Kept, is_remark, is_reserved, kept_in, last_of, meaning_behind, meanings, opening, then_kept}
+use Rattle.zvt_kept.specs.Records.{Kept, is_remark, is_reserved, kept_in, last_of, meaning_behind, meanings, then_kept}
 use Rattle.zvt_kept.specs.Remarks.{IsRemark, RemarksMeanNothing}
 use Rattle.zvt_kept.proofs.CheckLemmas.{begins_anew, first_unchecked, right_append, taken_unchecked}
 use Rattle.zvt_kept.proofs.LineLemmas.{lines_line}
@@ -154,9 +155,9 @@ with_remark before remark after first r =
     recovered_then before (remark ++ 10 ∷ after) (itself_whole before first)
     ∙ ap (λ t. before ++ t) (ap recovered (sym (append_assoc remark (10 ∷ []) after)) ∙ line ∙ append_assoc remark (10 ∷ []) (recovered after))
 
-moved : (currency : ℕ) (before x y : List ℕ) (log : List Happening) → HasOpening currency before → kept_in (before ++ x) ≡ kept_in (before ++ y) → StandsFor currency (before ++ x) log → StandsFor currency (before ++ y) log
-moved currency before x y log opened same s = record {
-  opened = (opened.0 ++ y, ap (λ t. t ++ y) opened.1 ∙ append_assoc (opening currency) opened.0 y);
+moved : (settings : Settings) (before x y : List ℕ) (log : List Happening) → HasOpening settings before → kept_in (before ++ x) ≡ kept_in (before ++ y) → StandsFor settings (before ++ x) log → StandsFor settings (before ++ y) log
+moved settings before x y log opened same s = record {
+  opened = (opened.0 ++ y, ap (λ t. t ++ y) opened.1 ∙ append_assoc (opening_of settings) opened.0 y);
   kept = s.kept;
   happened = s.happened;
   read = sym same ∙ s.read;
@@ -165,11 +166,11 @@ moved currency before x y log opened same s = record {
 }
 
 pub remarks_mean_nothing : RemarksMeanNothing
-remarks_mean_nothing currency before remark after log first opened r unsent unchecked =
+remarks_mean_nothing settings before remark after log first opened r unsent unchecked =
     let text = recovered after in
     let same = same_kept before remark text first r (whole_text after) (taken_unsent _ after unsent) (taken_unchecked _ after unchecked) in
     let with_it = with_remark before remark after first r in
     let without = recovered_then before after (itself_whole before first) in (
-      λ s. subst (λ t. StandsFor currency t log) (sym without) (moved currency before (remark ++ 10 ∷ text) text log opened same (subst (λ t. StandsFor currency t log) with_it s)),
-      λ s. subst (λ t. StandsFor currency t log) (sym with_it) (moved currency before text (remark ++ 10 ∷ text) log opened (sym same) (subst (λ t. StandsFor currency t log) without s)),
+      λ s. subst (λ t. StandsFor settings t log) (sym without) (moved settings before (remark ++ 10 ∷ text) text log opened same (subst (λ t. StandsFor settings t log) with_it s)),
+      λ s. subst (λ t. StandsFor settings t log) (sym with_it) (moved settings before text (remark ++ 10 ∷ text) log opened (sym same) (subst (λ t. StandsFor settings t log) without s)),
     )

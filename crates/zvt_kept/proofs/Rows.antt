@@ -1,5 +1,5 @@
 -- What some records are, and what some texts mean, worked out.
-use Rattle.std.proofs.Common.{◌≡◌, [], ◌∷◌, Some, None, refl}
+use Rattle.std.proofs.Common.{◌≡◌, true, false, [], ◌∷◌, Some, None, refl}
 use Rattle.std.specs.Prelude.{codes}
 use Rattle.std.specs.Fmt.{digits}
 use Rattle.hex.proofs.OnLiterals.{hex_on_literals}
@@ -8,9 +8,13 @@ use Rattle.zvt_kept.specs.Records.{ordered, heard, lost, heard_lines, kept_in, o
 
 -- ---- texts
 
-opening_text : opening 978 ≡ codes "# zvt journal 1, currency 978\n"
+opening_text : opening 978 false ≡ codes "# zvt journal 1, currency 978\n"
 unfolding digits
 opening_text = refl
+
+ruled_text : opening 978 true ≡ codes "# zvt journal 1, currency 978, reversals by receipt\n"
+unfolding digits
+ruled_text = refl
 
 payment_text : order_lines (Pay 1234) [] (6 ∷ 1 ∷ 0 ∷ []) ≡ codes "# pay 1234\n> 060100\n"
 unfolding hex_on_literals digits

@@ -51,12 +51,12 @@ module _ {D : Type 0} (seen : D → List ℕ) (may_leave : D → List ℕ → Ty
 
   module _ (only_now : (device : D) (file : List ℕ) → left_since device (moment device) file → may_leave device file) where
     abbrev pub Left : Settings → List Happening → Order → (old new : D) → List Message → Type 0
-    Left settings log order old new messages = LeavesOnly moment left_since old new (IsBetween settings.currency log (SentOut (sent_as settings.currency order) ∷ map hears messages))
+    Left settings log order old new messages = LeavesOnly moment left_since old new (IsBetween settings log (SentOut (sent_as settings.currency order) ∷ map hears messages))
 
     pub after_order : (settings : Settings) (log : List Happening) (order : Order) (old new : D) (messages : List Message)
         → LeavesOnly moment left_since old new (LeavesLogs settings log (SentOut (sent_as settings.currency order) ∷ [])) → Left settings log order old new messages
     after_order settings log order old new messages leaves =
-        weaker records_are_kept seen may_leave moment left_since faults old new (LeavesLogs settings log (SentOut (sent_as settings.currency order) ∷ [])) (IsBetween settings.currency log (SentOut (sent_as settings.currency order) ∷ map hears messages)) leaves
+        weaker records_are_kept seen may_leave moment left_since faults old new (LeavesLogs settings log (SentOut (sent_as settings.currency order) ∷ [])) (IsBetween settings log (SentOut (sent_as settings.currency order) ∷ map hears messages)) leaves
         (λ file. with_one settings log (SentOut (sent_as settings.currency order)) (map hears messages) file)
 
     -- an order that was not sent
@@ -78,8 +78,8 @@ module _ {D : Type 0} (seen : D → List ℕ) (may_leave : D → List ℕ → Ty
         let s = SentOut (sent_as settings.currency order) in
         let up = ap (λ t. t.line_up) o.runs ∙ accept_up old.standing.till.state order (taken_up old.standing.till.state order o.taken) in
         let rest = hearings_outlive seen may_leave moment left_since faults only_now settings (log ++ s ∷ []) sent new messages answers (o.logs settings log has) up h in (
-          and_then moment left_since old.standing.device sent.standing.device new.standing.device (IsBetween settings.currency log (s ∷ map hears messages)) (IsBetween settings.currency (log ++ s ∷ []) (map hears messages))
-              (after_order settings log order old.standing.device sent.standing.device messages (o.outlives settings log has)) rest.0 (λ file. one_earlier settings.currency log s (map hears messages) file),
+          and_then moment left_since old.standing.device sent.standing.device new.standing.device (IsBetween settings log (s ∷ map hears messages)) (IsBetween settings (log ++ s ∷ []) (map hears messages))
+              (after_order settings log order old.standing.device sent.standing.device messages (o.outlives settings log has)) rest.0 (λ file. one_earlier settings log s (map hears messages) file),
           λ whole. subst (λ l. HasLog seen may_leave moment left_since faults settings l new.standing) (append_assoc log (s ∷ []) (map hears messages)) (rest.1 whole),
         )
 

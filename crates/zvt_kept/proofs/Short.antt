@@ -1,5 +1,5 @@
 -- Each record of a till is short enough for a journal.
-use Rattle.std.proofs.Common.{◌≡◌, ℕ, ◌+◌, ◌*◌, ◌^◌, ◌≤◌, List, [], ◌∷◌, ◌++◌, length, take, arith, length-append, lit<}
+use Rattle.std.proofs.Common.{◌≡◌, ℕ, Bool, true, false, ◌+◌, ◌*◌, ◌^◌, ◌≤◌, List, [], ◌∷◌, ◌++◌, length, take, arith, length-append, lit<}
 use Rattle.std.specs.Prelude.{codes, decimal}
 use Rattle.std.proofs.lemmas.Fmt.{length-decimal-le}
 use Rattle.std.proofs.lemmas.List.{length-take}
@@ -8,6 +8,7 @@ use Rattle.hex.proofs.HexLemmas.{length-encode_with}
 use Rattle.zvt_till.specs.declared.orders.Order.{Order}
 use Rattle.zvt_till.specs.declared.orders.Order.TheVariants.{Register, Pay, Reverse, CloseDay, Cancel}
 use Rattle.sha2.specs.Sha256.{sha256}
+use Rattle.zvt_journal.specs.Files.{rule_words}
 use Rattle.zvt_kept.specs.Checks.{check_line, check_of, check_sign, checked}
 use Rattle.zvt_kept.specs.Records.{IsSpelledOrder, heard_line, heard_lines, heard_record, lost_line, lost_record, noted_words, one_or_none, opening, order_line, order_lines, order_record, order_words, sent_line, sent_lines}
 
@@ -78,11 +79,18 @@ order_short order note sent spelled least few =
     let whole = checked_length (order_lines order note sent) in
     omega (arith, words, noted, line, bytes, lines, whole, few, least)
 
-pub opening_short : (currency : ℕ) → currency ≤ 9999 → length (opening currency) ≤ 2 ^ 18
-opening_short currency most =
-    let line = line_length (codes "# zvt journal 1, currency ") (decimal currency) in
+rule_short : (by_receipt : Bool) → length (rule_words by_receipt) ≤ 22
+rule_short false = omega arith
+rule_short true = omega arith
+
+pub opening_short : (currency : ℕ) (by_receipt : Bool) → currency ≤ 9999 → length (opening currency by_receipt) ≤ 2 ^ 18
+opening_short currency by_receipt most =
+    let start = codes "# zvt journal 1, currency " ++ decimal currency in
+    let line = line_length start (rule_words by_receipt) in
+    let words = length-append (codes "# zvt journal 1, currency ") (decimal currency) in
     let number = number_length currency (omega (arith, most)) in
-    omega (arith, line, number)
+    let rule = rule_short by_receipt in
+    omega (arith, line, words, rule, number)
 
 pub lost_short : length lost_record ≤ 2 ^ 18
 lost_short = let whole = checked_length lost_line in omega (arith, whole)

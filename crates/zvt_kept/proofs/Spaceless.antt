@@ -21,7 +21,7 @@ module _ {D : Type 0} (seen : D → List ℕ) (may_leave : D → List ℕ → Ty
       → HasLog seen may_leave moment left_since faults settings log old → HasLog seen may_leave moment left_since faults settings log new
   same_log order old new f settings log has = record {
     settled = f.settled;
-    recorded = subst (λ (file : List ℕ). StandsFor settings.currency (recovered file) log) (sym f.file) has.recorded;
+    recorded = subst (λ (file : List ℕ). StandsFor settings (recovered file) log) (sym f.file) has.recorded;
     stands = subst (λ (s : TillState). Stands settings (log ++ unless_up s.line_up) s) (sym f.state) has.stands;
   }
 
@@ -34,7 +34,7 @@ module _ {D : Type 0} (seen : D → List ℕ) (may_leave : D → List ℕ → Ty
 
   -- and so does each file that a crash might have left
   pub leaves_the_log : (order : Order) (old new : Standing D) → FindsNoSpace seen may_leave moment left_since faults order old new → (settings : Settings) (log happened : List Happening)
-      → HasLog seen may_leave moment left_since faults settings log old → LeavesOnly moment left_since old.device new.device (IsBetween settings.currency log happened)
+      → HasLog seen may_leave moment left_since faults settings log old → LeavesOnly moment left_since old.device new.device (IsBetween settings log happened)
   leaves_the_log order old new f settings log happened has =
-      weaker records_are_kept seen may_leave moment left_since faults old.device new.device (λ (file : List ℕ). file ≡ seen old.device) (IsBetween settings.currency log happened) f.leaves
-      (λ file same. at_first settings.currency log happened file (subst (λ (f : List ℕ). StandsFor settings.currency (recovered f) log) (sym same) has.recorded))
+      weaker records_are_kept seen may_leave moment left_since faults old.device new.device (λ (file : List ℕ). file ≡ seen old.device) (IsBetween settings log happened) f.leaves
+      (λ file same. at_first settings log happened file (subst (λ (f : List ℕ). StandsFor settings (recovered f) log) (sym same) has.recorded))

@@ -46,7 +46,7 @@ module _ {D : Type 0} (seen : D → List ℕ) (may_leave : D → List ℕ → Ty
       → Logs seen may_leave moment left_since faults (λ settings. h settings ∷ []) old new
   logs_one old new one added h up stays can goes is happens more settled settings log has = record {
     settled = settled;
-    recorded = subst (λ text. StandsFor settings.currency text (log ++ h settings ∷ [])) (sym more) (stands_more records_are_kept settings.currency (seen old.device) log one added (h settings ∷ []) has.recorded is (happens settings));
+    recorded = subst (λ text. StandsFor settings text (log ++ h settings ∷ [])) (sym more) (stands_more records_are_kept settings (seen old.device) log one added (h settings ∷ []) has.recorded is (happens settings));
     stands = stays_up settings log old.till.state new.till.state (h settings) up (stays settings) (can settings log (up_stands settings log old.till.state up has.stands)) (goes settings) has.stands;
   }
 
@@ -57,7 +57,7 @@ module _ {D : Type 0} (seen : D → List ℕ) (may_leave : D → List ℕ → Ty
       → Logs seen may_leave moment left_since faults (λ settings. Lost ∷ Connected ∷ []) old new
   logs_line old new one added down goes is happens more settled settings log has = record {
     settled = settled;
-    recorded = subst (λ text. StandsFor settings.currency text (log ++ Lost ∷ Connected ∷ [])) (sym more) (stands_more records_are_kept settings.currency (seen old.device) log one added (Lost ∷ Connected ∷ []) has.recorded is (happens settings));
+    recorded = subst (λ text. StandsFor settings text (log ++ Lost ∷ Connected ∷ [])) (sym more) (stands_more records_are_kept settings (seen old.device) log one added (Lost ∷ Connected ∷ []) has.recorded is (happens settings));
     stands = connected_stands settings log old.till.state new.till.state down goes has.stands;
   }
 

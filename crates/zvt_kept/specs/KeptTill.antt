@@ -22,8 +22,8 @@ use Rattle.zvt_journal.specs.Device.{LeavesOnly}
 use Rattle.zvt_journal.specs.Files.{IsRepairable}
 use Rattle.zvt_journal.specs.declared.device.DeviceError.{DeviceError}
 use Rattle.zvt_journal.specs.declared.device.DeviceError.TheVariants.{Memory, Failed, Full}
-use Rattle.zvt_kept.specs.Records.{Kept, IsRecordOf, opening, order_record}
-use Rattle.zvt_kept.specs.Logs.{StandsFor}
+use Rattle.zvt_kept.specs.Records.{Kept, IsRecordOf, order_record}
+use Rattle.zvt_kept.specs.Logs.{StandsFor, opening_of}
 
 -- a till, and the device and the gate of its journal
 pub record Standing (D : Type 0) : Type 0 where
@@ -61,7 +61,7 @@ unless_up up = cond up [] (Lost ∷ [])
 -- down, after losing it.
 pub record Keeps (settings : Settings) (log : List Happening) (seen : List ℕ) (may_leave : List ℕ → Type 0) (gate : ℕ) (state : TillState) : Type 0 where
   pub settled : IsSettled seen may_leave gate
-  pub recorded : StandsFor settings.currency (recovered seen) log
+  pub recorded : StandsFor settings (recovered seen) log
   pub stands : Stands settings (log ++ unless_up state.line_up) state
 
 -- the journal keeps some log of the till
@@ -76,7 +76,7 @@ IsKept true seen may_leave gate state = state.line_up ≡ false
 -- a crash leaves a file that represents the log before, or that log and the new events
 abbrev pub LeavesLogs : Settings → (before happened : List Happening) → List ℕ → Type 0
 LeavesLogs settings before happened file =
-    StandsFor settings.currency (recovered file) before ⊎ StandsFor settings.currency (recovered file) (before ++ happened)
+    StandsFor settings (recovered file) before ⊎ StandsFor settings (recovered file) (before ++ happened)
 
 -- The cause of a record that was not made durable: the disk failed once more, or the journal has 2^60 bytes. An
 -- allocation may always fail.
@@ -109,8 +109,8 @@ module _ {D : Type 0} (seen : D → List ℕ) (may_leave : D → List ℕ → Ty
 
   -- A journal was begun on a device without records, which became the other device. A crash at any moment leaves no
   -- record, or the opening, in a file that opening repairs.
-  pub record Begins (currency : ℕ) (old new : D) : Type 0 where
-    pub leaves : LeavesOnly moment left_since old new (IsWithOrWithout [] (opening currency))
+  pub record Begins (settings : Settings) (old new : D) : Type 0 where
+    pub leaves : LeavesOnly moment left_since old new (IsWithOrWithout [] (opening_of settings))
     pub repairable : LeavesOnly moment left_since old new IsRepairable
 
   -- The journal fails only by a fault of its disk between the two, or by its bound.

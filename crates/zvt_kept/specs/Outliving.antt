@@ -26,11 +26,11 @@ use Rattle.zvt_kept.specs.declared.recovery.RecoveryError.{RecoveryError}
 use Rattle.zvt_kept.specs.declared.recovery.RecoveryError.TheVariants.{Opening, Check, Line, Record, Memory}
 
 -- A file represents a log that contains all of the first events, and then a prefix of the later ones.
-pub record IsBetween (currency : ℕ) (first happened : List Happening) (file : List ℕ) : Type 0 where
+pub record IsBetween (settings : Settings) (first happened : List Happening) (file : List ℕ) : Type 0 where
   pub part : List Happening
   pub rest : List Happening
   pub is_part : happened ≡ part ++ rest
-  pub recorded : StandsFor currency (recovered file) (first ++ part)
+  pub recorded : StandsFor settings (recovered file) (first ++ part)
 
 -- a call of a till with its journal: it runs an order, with a note that it may have been given, has a line, or loses it
 pub data KeptStep : Type 0 where
@@ -63,7 +63,7 @@ module _ {D : Type 0} (seen : D → List ℕ) (may_leave : D → List ℕ → Ty
       (settings : Settings) (log : List Happening) (old new : KeptValue D) (messages : List Message) (answers : List Answered)
       → HasLog seen may_leave moment left_since faults settings log old.standing → old.standing.till.state.line_up ≡ true
       → HearsAll (Hears seen may_leave moment left_since faults) old messages answers new
-      → LeavesOnly moment left_since old.standing.device new.standing.device (IsBetween settings.currency log (map hears messages))
+      → LeavesOnly moment left_since old.standing.device new.standing.device (IsBetween settings log (map hears messages))
       × (has_failed new ≡ false → HasLog seen may_leave moment left_since faults settings (log ++ map hears messages) new.standing)
 
   -- A till runs an order. A crash at any moment leaves a journal of the till's log, possibly followed by the order and
@@ -72,7 +72,7 @@ module _ {D : Type 0} (seen : D → List ℕ) (may_leave : D → List ℕ → Ty
   RunsOutlive =
       (settings : Settings) (log : List Happening) (order : Order) (before after : StreamState) (old new : KeptValue D) (coming left first last : Option (List ℕ)) (turns reads_before reads_after : ℕ) (result : Result Outcome RunFault)
       → HasLog seen may_leave moment left_since faults settings log old.standing → RanKept seen may_leave moment left_since faults order before after old new coming left first last turns reads_before reads_after result
-      → (messages : List Message) × LeavesOnly moment left_since old.standing.device new.standing.device (IsBetween settings.currency log (SentOut (sent_as settings.currency order) ∷ map hears messages))
+      → (messages : List Message) × LeavesOnly moment left_since old.standing.device new.standing.device (IsBetween settings log (SentOut (sent_as settings.currency order) ∷ map hears messages))
 
   -- ---- many orders
 
@@ -96,7 +96,7 @@ module _ {D : Type 0} (seen : D → List ℕ) (may_leave : D → List ℕ → Ty
       (settings : Settings) (log : List Happening) (steps : List KeptStep) (old new : KeptValue D)
       → HasLog seen may_leave moment left_since faults settings log old.standing → has_failed old ≡ false → DidAll steps old new
       → (happened : List Happening) × HappenInAll settings.currency steps happened
-      × LeavesOnly moment left_since old.standing.device new.standing.device (IsBetween settings.currency log happened)
+      × LeavesOnly moment left_since old.standing.device new.standing.device (IsBetween settings log happened)
       × (has_failed new ≡ false → HasLog seen may_leave moment left_since faults settings (log ++ happened) new.standing)
 
   -- Recovery restores a till with a journal: the same till after losing its line, unless memory runs out.
@@ -115,4 +115,4 @@ IsRecoveredAs settings log result = ⊥
 abbrev pub LogsAreRecovered : Type 0
 LogsAreRecovered =
     (settings : Settings) (text : List ℕ) (log : List Happening) (result : Result TillValue RecoveryError)
-    → StandsFor settings.currency text log → IsLog settings log → Recovers settings text result → IsRecoveredAs settings log result
+    → StandsFor settings text log → IsLog settings log → Recovers settings text result → IsRecoveredAs settings log result

@@ -9,7 +9,7 @@ use Rattle.zvt_text.specs.Words.{number_in, trailing}
 use Rattle.zvt_kept.specs.Notes.{is_note}
 use Rattle.zvt_till.specs.declared.orders.Order.{Order}
 use Rattle.zvt_till.specs.declared.orders.Order.TheVariants.{Register, Pay, Reverse, CloseDay, Cancel}
-use Rattle.zvt_journal.specs.Files.{IsOpening}
+use Rattle.zvt_journal.specs.Files.{IsOpening, rule_words}
 use Rattle.zvt_journal.specs.Text.{recovered, IsRecord}
 use Rattle.zvt_kept.specs.Checks.{are_right, checked, is_sent}
 
@@ -74,9 +74,10 @@ heard_record message answers = checked (heard_lines message (one_or_none answers
 abbrev pub lost_record : List ℕ
 lost_record = checked lost_line
 
--- the first line of a journal, with the number of its currency
-abbrev pub opening : ℕ → List ℕ
-opening currency = codes "# zvt journal 1, currency " ++ decimal currency ++ 10 ∷ []
+-- The first line of a journal: the number of its currency, and whether its reversals go by their receipt numbers. That
+-- rule decides which entries are marked, so a journal names it.
+abbrev pub opening : (currency : ℕ) → (by_receipt : Bool) → List ℕ
+opening currency by_receipt = codes "# zvt journal 1, currency " ++ decimal currency ++ rule_words by_receipt ++ 10 ∷ []
 
 -- the words of the order can be read back
 abbrev pub IsSpelledOrder : Order → Type 0
@@ -272,4 +273,6 @@ RecordsAreTaken = (one : Kept) (added : List ℕ) → IsRecordOf one added → I
 -- The opening has no meaning of its own, and a journal accepts it as its first record: whenever a crash happens, it
 -- leaves a journal's file.
 abbrev pub OpeningIsTaken : Type 0
-OpeningIsTaken = (currency : ℕ) → currency ≤ 9999 → (kept_in (opening currency) ≡ Some []) × IsRecord (opening currency) × IsOpening (opening currency)
+OpeningIsTaken =
+    (currency : ℕ) (by_receipt : Bool) → currency ≤ 9999
+    → (kept_in (opening currency by_receipt) ≡ Some []) × IsRecord (opening currency by_receipt) × IsOpening (opening currency by_receipt)

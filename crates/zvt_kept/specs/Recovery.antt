@@ -17,7 +17,7 @@ use Rattle.zvt_kept.specs.declared.recovery.RecoveryError.TheVariants.{Opening, 
 -- The records represent this log, and the till has the state after the log and a lost line.
 pub record IsRecovered (settings : Settings) (text : List ℕ) (state : TillState) : Type 0 where
   pub log : List Happening
-  pub recorded : StandsFor settings.currency text log
+  pub recorded : StandsFor settings text log
   pub stands : Stands settings (log ++ Lost ∷ []) state
 
 -- a till with these settings can have these records
@@ -36,7 +36,7 @@ pub record IsFirstForeign (settings : Settings) (text : List ℕ) (number : ℕ)
 
 abbrev pub Recovers : Settings → (text : List ℕ) → Result TillValue RecoveryError → Type 0
 Recovers settings text (Ok till) = IsRecovered settings text till.state
-Recovers settings text (Err Opening) = HasOpening settings.currency text → ⊥
+Recovers settings text (Err Opening) = HasOpening settings text → ⊥
 Recovers settings text (Err (Line number)) = (kept_in text ≡ None) × IsFirstWrong text number
 Recovers settings text (Err (Check number)) = (kept_in text ≡ None) × IsFirstWrongCheck text number
 Recovers settings text (Err (Record number)) = IsFirstForeign settings text number

@@ -2,6 +2,7 @@
 use Rattle.std.specs.Prelude.{◌≡◌, ◌≢◌, ◌↔◌, true, false, ℕ, List, ◌∷◌, ◌++◌, All}
 use Rattle.std.specs.Str.Lines.{strip_carriage_return}
 use Rattle.zvt_till.specs.declared.happenings.Happening.{Happening}
+use Rattle.zvt_till.specs.Sending.{Settings}
 use Rattle.zvt_journal.specs.Text.{recovered}
 use Rattle.zvt_kept.specs.Checks.{is_check, is_sent}
 use Rattle.zvt_kept.specs.Records.{is_remark}
@@ -16,6 +17,6 @@ pub record IsRemark (line : List ℕ) : Type 0 where
 -- text after the remark must not continue a record: it begins neither with sent bytes nor with a check.
 abbrev pub RemarksMeanNothing : Type 0
 RemarksMeanNothing =
-    (currency : ℕ) (before remark after : List ℕ) (log : List Happening)
-    → recovered before ≡ before → HasOpening currency before → IsRemark remark → is_sent after ≡ false → is_check after ≡ false
-    → StandsFor currency (recovered (before ++ (remark ++ 10 ∷ after))) log ↔ StandsFor currency (recovered (before ++ after)) log
+    (settings : Settings) (before remark after : List ℕ) (log : List Happening)
+    → recovered before ≡ before → HasOpening settings before → IsRemark remark → is_sent after ≡ false → is_check after ≡ false
+    → StandsFor settings (recovered (before ++ (remark ++ 10 ∷ after))) log ↔ StandsFor settings (recovered (before ++ after)) log

@@ -4,23 +4,26 @@ ghost use Rattle.zvt_apdu.specs.Grammar.{Spells};
 ghost use Rattle.zvt_grammar.specs.Reading.{padded};
 ghost use Rattle.zvt_journal.specs.Text.{IsSettled};
 ghost use Rattle.zvt_kept.specs.KeptTill.{Adds, HasNoted, KeepsSome, Orders, Recorded, Takes};
+ghost use Rattle.zvt_kept.specs.Logs.{opening_of};
 ghost use Rattle.zvt_kept.specs.Masking.{masked};
-ghost use Rattle.zvt_kept.specs.Records.{IsSpelledOrder, heard, kept_in, lost, opening, ordered};
+ghost use Rattle.zvt_kept.specs.Records.{IsSpelledOrder, heard, kept_in, lost, ordered};
 ghost use Rattle.zvt_till.specs.Hearing.{heard_as};
 ghost use Rattle.zvt_till.specs.Line.{Answers as IsAnswer};
 ghost use Rattle.zvt_till.specs.Refusals.{refusal};
 ghost use Rattle.zvt_till.specs.Sending.{reply_to};
+ghost use Rattle.zvt_till.specs.Settings.{settings_of};
 ghost use Rattle.zvt_till.specs.Till.{facts_of};
 
 use crate::note::Note;
 use crate::records::{put_heard, put_lost, put_opening, put_order};
 use std::alloc::Global;
 use zvt_apdu::{ApduView, Brief, MAX_BRIEF_LEN};
-use zvt_bcd::Currency;
 use zvt_journal::{Device, DeviceError, Journal, NoSpace};
 use zvt_stream::Answers;
 use zvt_text::Text;
-use zvt_till::{BookFault, Heard, Order, Outgoing, Till, Untaken, heard_view, reply_to};
+use zvt_till::{
+    BookFault, Heard, Order, Outgoing, Till, TillSettings, Untaken, heard_view, reply_to,
+};
 
 /// Gives the till an order once the journal contains it, and returns the message to send. An order that the till
 /// refuses needs no disk space. If the disk has no space, the till and the journal's records stay as they were. If the
@@ -143,19 +146,20 @@ fn keep_heard<D: Device>(
     journal.append(text.bytes())
 }
 
-/// Makes the opening of a journal durable.
+/// Makes the opening of the journal of a till with these settings durable.
 pub(crate) fn keep_opening<D: Device>(
     alloc: Global,
     journal: &mut Journal<D>,
-    currency: Currency,
+    settings: &TillSettings,
 ) -> Result<(), DeviceError>
     requires { IsSettled (D.seen journal.old.device) (D.may_leave journal.old.device) journal.old.gate }
-    ensures adds { Adds D.seen D.may_leave D.moment D.left_since D.faults (opening currency) journal.old.device
-        journal.new.device journal.old.gate journal.new.gate result }
-    ensures kept { kept_in (opening currency) ≡ Some [] }
+    ensures adds { Adds D.seen D.may_leave D.moment D.left_since D.faults (opening_of (settings_of settings.now))
+        journal.old.device journal.new.device journal.old.gate journal.new.gate result }
+    ensures kept { kept_in (opening_of (settings_of settings.now)) ≡ Some [] }
 {
     let mut text = Text::new(alloc);
-    put_opening(&mut text, currency)?;
+    let by_receipt = settings.rules.reversal_by_receipt;
+    put_opening(&mut text, settings.currency, by_receipt)?;
     journal.reserve()?;
     journal.append(text.bytes())
 }

@@ -80,9 +80,9 @@ impl<D: Device + Drop> KeptTill<D> {
         ensures whole { IfOk result (λ kept. kept.failure ≡ None) }
         // A crash at any moment leaves no record, or the opening, in a file that opening repairs.
         ensures any_moment { MatchResult result
-            (λ kept. Begins D.seen D.may_leave D.moment D.left_since D.faults settings.now.currency device
+            (λ kept. Begins D.seen D.may_leave D.moment D.left_since D.faults (settings_of settings.now) device
             kept.standing.device)
-            (λ unbegun. Begins D.seen D.may_leave D.moment D.left_since D.faults settings.now.currency device
+            (λ unbegun. Begins D.seen D.may_leave D.moment D.left_since D.faults (settings_of settings.now) device
             unbegun.device) }
         ensures cause { IfErr result (λ unbegun. HasCause unbegun.why (D.faults device) (D.faults unbegun.device) 0) }
         ensures log { IfOk result (λ kept. Keeps (settings_of settings.now) (Connected ∷ [])
@@ -94,7 +94,7 @@ impl<D: Device + Drop> KeptTill<D> {
             device,
             gate: 0,
         };
-        if let Err(why) = keep_opening(alloc, &mut journal, settings.currency) {
+        if let Err(why) = keep_opening(alloc, &mut journal, settings) {
             return Err(Unbegun {
                 device: journal.device,
                 why,
@@ -126,7 +126,7 @@ impl<D: Device + Drop> KeptTill<D> {
         ensures device { IfOk result (λ kept. (kept.standing.device ≡ device)
             × (kept.standing.gate ≡ length text.now)) }
         ensures whole { IfOk result (λ kept. kept.failure ≡ None) }
-        ensures log { IfOk result (λ kept. (log : List Happening) → StandsFor settings.now.currency text.now log
+        ensures log { IfOk result (λ kept. (log : List Happening) → StandsFor (settings_of settings.now) text.now log
             → Keeps (settings_of settings.now) log (D.seen device) (D.may_leave device) (length text.now)
             kept.standing.till.state) }
     {

@@ -1,6 +1,6 @@
 //! Laws about sequences of records, and about the records that a crash at any moment leaves. Each is stated as the
 //! contract of an empty function.
-ghost use Rattle.zvt_kept.specs.Logs.{LogsAreOne};
+ghost use Rattle.zvt_kept.specs.Logs.{LogsAreOne, OpeningsAreOne};
 ghost use Rattle.zvt_kept.specs.Outliving.{CallsOutlive, HearingsOutlive, LogsAreRecovered, RunsOutlive};
 ghost use Rattle.zvt_kept.specs.Outliving.{TillsAreRecovered};
 ghost use Rattle.zvt_kept.specs.Records.{OpeningIsTaken, RecordsAreKept, RecordsAreTaken, RecordsAreWhole};
@@ -20,6 +20,12 @@ pub fn records_are_kept()
 /// is appended leaves a file that can be opened.
 pub fn opening_is_taken()
     ensures { OpeningIsTaken }
+{}
+
+/// A journal has exactly one currency and one rule on reversals by receipt number: its first line fits no till with
+/// another one.
+pub fn openings_are_one()
+    ensures { OpeningsAreOne }
 {}
 
 /// A remark that a person adds to a journal does not change the journal's meaning.

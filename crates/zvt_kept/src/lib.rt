@@ -21,7 +21,7 @@ pub use keeping::answers_to;
 pub use kept_till::{KeptTill, Unbegun};
 pub use laws::{
     calls_outlive, hearings_outlive, logs_are_one, logs_are_recovered, opening_is_taken,
-    records_are_kept, remarks_mean_nothing, runs_outlive, tills_are_recovered,
+    openings_are_one, records_are_kept, remarks_mean_nothing, runs_outlive, tills_are_recovered,
 };
 pub use lines::{RecordError, read_records};
 pub use note::{MAX_REFERENCE_LEN, Note, is_reference};

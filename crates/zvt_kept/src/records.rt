@@ -1,5 +1,6 @@
 //! Writes records: the lines of each, and its check.
 ghost use Rattle.std.specs.Prelude.{◌≡◌, ◌++◌, ◌<◌, ◌≤◌, ◌^◌, [], ◌∷◌, Some, decimal, length};
+ghost use Rattle.zvt_journal.specs.Files.{rule_words};
 ghost use Rattle.zvt_journal.specs.Text.{IsRecord};
 ghost use Rattle.zvt_kept.specs.Reading.{Extends};
 ghost use Rattle.zvt_kept.specs.Records.{IsRecordOf, IsSpelledOrder, heard, heard_lines, heard_record, kept_in};
@@ -24,14 +25,16 @@ pub enum Entry {
     Lost,
 }
 
-/// Writes the first line of a journal, with the currency of its till. After `Err` a prefix of it is written.
-pub fn put_opening(text: &mut Text, currency: Currency) -> Result<(), AllocError>
-    ensures written { Extends result text.old text.new (opening currency) }
-    ensures taken { IsRecord (opening currency) }
-    ensures kept { kept_in (opening currency) ≡ Some [] }
-    ensures short { length (opening currency) ≤ 2 ^ 18 }
+/// Writes the first line of a journal, with the currency of its till. The line also says if the till judges reversals
+/// by their receipt numbers ([`Rules::reversal_by_receipt`](zvt_till::Rules)). After `Err` a prefix of it is written.
+pub fn put_opening(text: &mut Text, currency: Currency, by_receipt: bool) -> Result<(), AllocError>
+    ensures written { Extends result text.old text.new (opening currency by_receipt) }
+    ensures taken { IsRecord (opening currency by_receipt) }
+    ensures kept { kept_in (opening currency by_receipt) ≡ Some [] }
+    ensures short { length (opening currency by_receipt) ≤ 2 ^ 18 }
 {
-    put_numbered(text, b"# zvt journal 1, currency ", currency.get())
+    let rule = rule_words(by_receipt);
+    put_numbered(text, b"# zvt journal 1, currency ", currency.get(), rule)
 }
 
 /// Writes an order with its note, and the bytes that are sent for it. After `Err` a prefix of the record is written.
@@ -100,12 +103,24 @@ fn put_heard_lines(text: &mut Text, message: &[u8], answers: &[u8]) -> Result<()
     put_sent(text, answers)
 }
 
-/// Writes a line of words and a number. After `Err` a prefix of it is written.
-fn put_numbered(text: &mut Text, words: &[u8], number: u16) -> Result<(), AllocError>
-    ensures { Extends result text.old text.new (words.now ++ decimal number ++ 10 ∷ []) }
+/// Returns the words in the first line of a journal that name the rule on receipt numbers, if the till has it.
+fn rule_words(by_receipt: bool) -> &'static [u8]
+    ensures { result.now ≡ rule_words by_receipt }
+{
+    if by_receipt {
+        b", reversals by receipt".as_slice()
+    } else {
+        b"".as_slice()
+    }
+}
+
+/// Writes a line of words, a number and more words. After `Err` a prefix of it is written.
+fn put_numbered(text: &mut Text, words: &[u8], number: u16, more: &[u8]) -> Result<(), AllocError>
+    ensures { Extends result text.old text.new (words.now ++ decimal number ++ more.now ++ 10 ∷ []) }
 {
     text.word(words)?;
     text.number(number)?;
+    text.word(more)?;
     text.push(b'\n')
 }
 

@@ -15,7 +15,6 @@ use crate::row_notes::RowNotes;
 use std::alloc::{AllocError, Global};
 use thiserror::Error;
 use zvt_apdu::scan_loose;
-use zvt_bcd::Currency;
 use zvt_grammar::Scan;
 use zvt_text::Text;
 use zvt_text::words::trailing;
@@ -24,8 +23,8 @@ use zvt_till::{Order, OrderRefusal, Till, TillSettings, heard};
 /// Why a till cannot be restored from a journal's records.
 #[derive(Clone, Copy, Debug, PartialEq, Eq, Error)]
 pub enum RecoveryError {
-    /// The first line is not the opening of a journal with this currency.
-    #[error("this book has another currency: give the book's currency, or name another file")]
+    /// The first line is not the opening of a journal with this currency and this rule on reversals by receipt number.
+    #[error("this book has another currency or rule on reversals: give the settings of the book, or name another file")]
     Opening,
     /// This line, counted from 1, is not a line of a journal.
     #[error("line {number} of the book is not part of a valid record")]
@@ -64,8 +63,8 @@ pub struct Recovered {
 /// Rebuilds a till from its journal by replaying the records and then losing the connection.
 ///
 /// Completed payments are in the book; a payment or reversal that was in progress is unclear. The till has to
-/// register on its next connection. `settings` must have the journal's currency, and supplies the password, which
-/// journals do not store.
+/// register on its next connection. `settings` must have the journal's currency and its rule on reversals by receipt
+/// number ([`Rules::reversal_by_receipt`](zvt_till::Rules)), and supplies the password, which journals do not store.
 ///
 /// The note of a payment comes from the record of its order, and is empty if that record has none.
 pub fn recover(
@@ -78,7 +77,7 @@ pub fn recover(
     ensures notes { IfOk result (λ recovered. HasNotes (settings_of settings.now) text.now recovered.till.state
         recovered.booked.items recovered.unclear.items) }
 {
-    if !has_opening(alloc, text, settings.currency)? {
+    if !has_opening(alloc, text, settings)? {
         return Err(RecoveryError::Opening);
     }
     let entries = match read_records(alloc, text) {
@@ -106,12 +105,13 @@ pub fn recover(
     })
 }
 
-/// Returns whether the text begins with the first line of a journal of this currency.
-fn has_opening(alloc: Global, text: &[u8], currency: Currency) -> Result<bool, AllocError>
-    ensures { IfOk result (λ begins. IsTrue begins ↔ HasOpening currency text.now) }
+/// Returns whether the text begins with the first line of a journal of a till with these settings.
+fn has_opening(alloc: Global, text: &[u8], settings: &TillSettings) -> Result<bool, AllocError>
+    ensures { IfOk result (λ begins. IsTrue begins ↔ HasOpening (settings_of settings.now) text.now) }
 {
     let mut opening = Text::new(alloc);
-    put_opening(&mut opening, currency)?;
+    let by_receipt = settings.rules.reversal_by_receipt;
+    put_opening(&mut opening, settings.currency, by_receipt)?;
     Ok(trailing(opening.bytes(), text).is_some())
 }
 

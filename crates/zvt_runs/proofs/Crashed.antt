@@ -148,7 +148,7 @@ crash_after settings k (m ∷ all) = crash_after settings (kept_move settings k 
 pub files_are_worlds : FilesAreWorlds
 files_are_worlds settings all file till stands recovers =
     let log = (kept_world settings all).log in
-    let same : recovers.log ≡ log = logs_are_one settings.currency (recovered file) recovers.log log recovers.recorded stands in
+    let same : recovers.log ≡ log = logs_are_one settings (recovered file) recovers.log log recovers.recorded stands in
     recovers.stands.1 ∙ ap (λ (l : List Happening). state_after settings (l ++ Lost ∷ [])) same ∙ sym (ap (λ (k : KeptEnds). k.ends.till) (crash_after settings (new_kept settings) all))
 
 pub crashes_match : CrashesMatch

@@ -87,7 +87,7 @@ CrashesAreLosses = (settings : Settings) (all : List KeptMove) → (kept_world s
 abbrev pub FilesAreWorlds : Type 0
 FilesAreWorlds =
     (settings : Settings) (all : List KeptMove) (file : List ℕ) (till : TillValue)
-    → StandsFor settings.currency (recovered file) (kept_world settings all).log → Recovers settings (recovered file) (Ok till)
+    → StandsFor settings (recovered file) (kept_world settings all).log → Recovers settings (recovered file) (Ok till)
     → till.state ≡ (kept_world settings (all ++ crashes ∷ [])).ends.till
 
 -- With crashes too, and whatever the till's settings, each entry of its book corresponds to an approval of its own in

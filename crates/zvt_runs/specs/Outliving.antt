@@ -38,7 +38,7 @@ module _ {D : Type 0} (seen : D → List ℕ) (may_leave : D → List ℕ → Ty
     pub cut : plan ≡ done ++ later
     pub happened : List Happening
     pub by : HappenInAll settings.currency (calls_of done) happened
-    pub leaves : LeavesOnly moment left_since old.standing.device new.standing.device (IsBetween settings.currency log happened)
+    pub leaves : LeavesOnly moment left_since old.standing.device new.standing.device (IsBetween settings log happened)
     pub then : has_failed new ≡ false → HasLog seen may_leave moment left_since faults settings (log ++ happened) new.standing
 
   -- The book outlives the process: whatever a run of a till over TCP returns, a crash at any moment of it leaves the

@@ -19,6 +19,7 @@ till_app = command_app (codes "till") (
     flag_rule (codes "check") ∷
     flag_rule (codes "show") ∷
     flag_rule (codes "close-by-completion") ∷
+    flag_rule (codes "reversal-by-receipt") ∷
     flag_rule (codes "loose") ∷
     flag_rule (codes "open") ∷
     flag_rule (codes "json") ∷
@@ -38,6 +39,7 @@ pub record AreTillOptionsOf (rows : List Row) (options : TillOptions) : Type 0 w
   pub check : IsFlagOf (codes "check") rows options.check
   pub show : IsFlagOf (codes "show") rows options.show
   pub close_by_completion : IsFlagOf (codes "close-by-completion") rows options.close_by_completion
+  pub reversal_by_receipt : IsFlagOf (codes "reversal-by-receipt") rows options.reversal_by_receipt
   pub loose : IsFlagOf (codes "loose") rows options.loose
   pub reads_on : IsFlagOf (codes "open") rows options.reads_on
   pub json : IsFlagOf (codes "json") rows options.json

@@ -31,6 +31,8 @@ pub struct TillOptions<'a> {
     pub show: bool,
     /// Whether an end of day without a result code is closed by its completion.
     pub close_by_completion: bool,
+    /// Whether a receipt number confirms a reversal whose status names no payment.
+    pub reversal_by_receipt: bool,
     /// Whether lengths are accepted in any form.
     pub loose: bool,
     /// Whether the till goes on after an invalid message.
@@ -41,7 +43,7 @@ pub struct TillOptions<'a> {
 }
 
 /// The options of `till`, in the order of its help.
-const OPTIONS: [CommandOption<'static>; 15] = [
+const OPTIONS: [CommandOption<'static>; 16] = [
     CommandOption::NeededPort("port", "TCP port of the terminal"),
     CommandOption::Host("Host name or address of the terminal"),
     CommandOption::Value(
@@ -75,6 +77,10 @@ const OPTIONS: [CommandOption<'static>; 15] = [
     CommandOption::Flag(
         "close-by-completion",
         "Count a completed end of day as closed even if its status names no result code",
+    ),
+    CommandOption::Flag(
+        "reversal-by-receipt",
+        "Let another receipt number confirm a reversal whose status names no payment; the book names this rule",
     ),
     CommandOption::Flag(
         "loose",
@@ -136,6 +142,7 @@ pub fn read_till<'a>(
         check: flag(inner, "check"),
         show: flag(inner, "show"),
         close_by_completion: flag(inner, "close-by-completion"),
+        reversal_by_receipt: flag(inner, "reversal-by-receipt"),
         loose: flag(inner, "loose"),
         reads_on: flag(inner, "open"),
         json: flag(inner, "json"),

@@ -3,7 +3,7 @@ use Rattle.zvt_journal.specs.Device.{LeavesOnly}
 use Rattle.zvt_journal.specs.Text.{IsWithOrWithout}
 use Rattle.zvt_till.specs.Settings.{settings_of}
 use Rattle.zvt_kept.specs.KeptTill.{HasCause}
-use Rattle.zvt_kept.specs.Records.{opening}
+use Rattle.zvt_kept.specs.Logs.{opening_of}
 use Rattle.zvt_kept.proofs.Logged.{keeps_some}
 use Rattle.zvt_kept.proofs.Begun.{begun, empty_text}
 use Rattle.zvt_kept.proofs.kept_till.KeptTill.create.Goals as goal
@@ -14,7 +14,7 @@ returns-in-Err-clause-any_moment g c =
     let adds = c.in-Err.ensures.adds in
     let none = empty_text (V.seen c.args.device) c.requires.at_gate in
     record {
-      leaves = subst (λ (l : List ℕ). LeavesOnly V.moment V.left_since c.args.device c.keep_opening.new.journal.device (IsWithOrWithout l (opening c.args.settings.now.currency))) none adds.leaves;
+      leaves = subst (λ (l : List ℕ). LeavesOnly V.moment V.left_since c.args.device c.keep_opening.new.journal.device (IsWithOrWithout l (opening_of (settings_of c.args.settings.now)))) none adds.leaves;
       repairable = adds.repairable;
     }
 
@@ -29,7 +29,7 @@ returns-clause-any_moment g c =
     let adds = c.in_default.ensures.adds in
     let none = empty_text (V.seen c.args.device) c.requires.at_gate in
     record {
-      leaves = subst (λ (l : List ℕ). LeavesOnly V.moment V.left_since c.args.device c.keep_opening.new.journal.device (IsWithOrWithout l (opening c.args.settings.now.currency))) none adds.leaves;
+      leaves = subst (λ (l : List ℕ). LeavesOnly V.moment V.left_since c.args.device c.keep_opening.new.journal.device (IsWithOrWithout l (opening_of (settings_of c.args.settings.now)))) none adds.leaves;
       repairable = adds.repairable;
     }
 
@@ -38,7 +38,7 @@ invariant_of-result g c =
     let V = g.D.Device in
     let new = c.keep_opening.new.journal in
     let durable = c.in_default.ensures.adds.durable in
-    let text = durable.0 ∙ ap (λ (l : List ℕ). l ++ opening c.args.settings.now.currency) (empty_text (V.seen c.args.device) c.requires.at_gate) in
+    let text = durable.0 ∙ ap (λ (l : List ℕ). l ++ opening_of (settings_of c.args.settings.now)) (empty_text (V.seen c.args.device) c.requires.at_gate) in
     keeps_some (settings_of c.args.settings.now) _ (V.seen new.device) (V.may_leave new.device) new.gate c.with_settings-till.result.state
     (begun (settings_of c.args.settings.now) (V.seen new.device) (V.may_leave new.device) new.gate c.with_settings-till.result.state durable.1 text c.in_default.ensures.kept c.with_settings-till.ensures.state)
 
@@ -47,5 +47,5 @@ returns-clause-log g c =
     let V = g.D.Device in
     let new = c.keep_opening.new.journal in
     let durable = c.in_default.ensures.adds.durable in
-    let text = durable.0 ∙ ap (λ (l : List ℕ). l ++ opening c.args.settings.now.currency) (empty_text (V.seen c.args.device) c.requires.at_gate) in
+    let text = durable.0 ∙ ap (λ (l : List ℕ). l ++ opening_of (settings_of c.args.settings.now)) (empty_text (V.seen c.args.device) c.requires.at_gate) in
     begun (settings_of c.args.settings.now) (V.seen new.device) (V.may_leave new.device) new.gate c.with_settings-till.result.state durable.1 text c.in_default.ensures.kept c.with_settings-till.ensures.state
