@@ -16,8 +16,8 @@ use zvt_till::{Till, TillSettings};
 /// Replaces the handle's till by the one that a journal's records describe, with the same settings. It is not
 /// connected, and no order is running. The status is 0; or 2, 3 or 6, and then nothing changes.
 ///
-/// With status 2, the reason is 1 if the first line names another currency, or a rule that the till does not have. It is
-/// 2 if the line at `place` is not a journal's, and 3 if the record at `place` cannot follow the records before it.
+/// With status 2, the reason is 1 if the first line names another currency, or a rule that the till does not have. It
+/// is 2 if the line at `place` is not a journal's, and 3 if the record at `place` cannot follow the records before it.
 /// Reason 4 means that the check in the line at `place` does not match its record.
 #[unsafe(no_mangle)]
 pub extern "C" fn zvt_till_recover(

@@ -1,4 +1,5 @@
-//! Laws about both ends of a line whose till keeps a journal and may crash at any moment, and about a terminal without a delay.
+//! Laws about both ends of a line whose till keeps a journal and may crash at any moment, and about a terminal without
+//! a delay.
 ghost use Rattle.zvt_runs.specs.Crashes.{CrashesAccount, CrashesAreLosses, CrashesKeepReversals, CrashesMatch};
 ghost use Rattle.zvt_runs.specs.Crashes.{FilesAreWorlds};
 ghost use Rattle.zvt_runs.specs.Service.{UndelayedServes};

@@ -16,8 +16,8 @@ pub enum Card {
 /// Returns the fields of a card, encoded: its number (22), masked except the first four and the last four digits, the
 /// payment type (19), the card type (8A) and the card's name (8B), with a zero byte at its end. A girocard has the
 /// number of its type at the network operator (8C) too, and a Visa card its expiry date (0E) and sequence number (17).
-/// The contract number (2A), the authorisation attribute (3B), a text (3C) and a container (06) with the card type (41),
-/// the receipt parameters (45) and the ID of the application (43 in 60) come last.
+/// The contract number (2A), the authorisation attribute (3B), a text (3C) and a container (06) with the card type
+/// (41), the receipt parameters (45) and the ID of the application (43 in 60) come last.
 ///
 /// PA00P015: Data objects (bitmaps), and TLV-container.
 pub(crate) fn card_bytes(card: Card) -> &'static [u8]

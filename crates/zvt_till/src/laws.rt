@@ -41,9 +41,9 @@ pub fn rules_keep_books()
     ensures { RulesKeepBooks }
 {}
 
-/// A status that answers a reversal without naming the payment is no late answer to another order of this book: no other
-/// payment of its amount is booked or unclear, and the entry has another receipt number. Payments that the book does not
-/// contain are not ruled out.
+/// A status that answers a reversal without naming the payment is no late answer to another order of this book: no
+/// other payment of its amount is booked or unclear, and the entry has another receipt number. Payments that the book
+/// does not contain are not ruled out.
 pub fn no_repeat_reverses()
     ensures { NoRepeatReverses }
 {}

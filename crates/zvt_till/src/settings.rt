@@ -9,9 +9,9 @@ pub struct Rules {
     pub close_by_completion: bool,
     /// A status information that reports success but names no payment (BMP 37) confirms the reversal of an entry if all
     /// of the following hold; without the rule such a reversal is unclear. The status has the entry's amount, and no
-    /// currency but the till's. No other entry, reversed or not, and no unclear payment has that amount. The entry and the
-    /// status both have a receipt number (BMP 87), and the numbers differ. The rule decides which entries are marked as
-    /// reversed, so judge a book by the rule under which it was written.
+    /// currency but the till's. No other entry, reversed or not, and no unclear payment has that amount. The entry and
+    /// the status both have a receipt number (BMP 87), and the numbers differ. The rule decides which entries are
+    /// marked as reversed, so judge a book by the rule under which it was written.
     pub reversal_by_receipt: bool,
 }
 

@@ -33,8 +33,8 @@ pub(crate) fn shown_by(
 /// Returns a listener that shows a line on this output in this form. It has shown nothing yet. `line` says how the
 /// messages are read.
 fn shown_on<W: Sink + Drop>(alloc: Global, form: Form, line: LineForm, output: W) -> Shown<W, Tally>
-    ensures { HasShown W.written (reading_of line.lengths) (side_scope line.passes) (style_of form) [] (W.written output)
-        (showing_of result) }
+    ensures { HasShown W.written (reading_of line.lengths) (side_scope line.passes) (style_of form) []
+        (W.written output) (showing_of result) }
 {
     let count = Tally {
         messages: 0,
