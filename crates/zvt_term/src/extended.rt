@@ -298,7 +298,7 @@ fn logs_off() -> Turn
 }
 
 impl Machine for Extended {
-    ghost use Rattle.zvt_term.specs.Extended.{ExtendedLoses, extended_hears, holds_payment};
+    ghost use Rattle.zvt_term.specs.Extended.{ExtendedLoses, extended_hears};
 
     ghost hears = { extended_hears };
 
@@ -306,7 +306,7 @@ impl Machine for Extended {
 
     ghost malforms = { ExtendedLoses };
 
-    ghost is_resting = { holds_payment };
+    ghost is_resting = { λ extended. false };
 
     ghost wants_memory = { true };
 
@@ -325,7 +325,7 @@ impl Machine for Extended {
     }
 
     fn resting(&self) -> bool {
-        self.held.is_some()
+        false
     }
 
     fn lost(&mut self) {
