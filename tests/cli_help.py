@@ -31,6 +31,7 @@ REFUSED = [
     ("till --port=65536", "error: invalid value '65536' for '--port <PORT>': 65536 is not in 0..=65535\n"),
     ("till --port=x", "error: invalid value 'x' for '--port <PORT>': invalid digit found in string\n"),
     ("terminal --port=1 --tid=100000000", "error: invalid value '100000000' for '--tid <TID>': 100000000 is not in 0..=99999999\n"),
+    ("terminal --port=1 --delay=65536", "error: invalid value '65536' for '--delay <MS>': 65536 is not in 0..=65535\n"),
     ("terminal --port=1 --connections=65536", "error: invalid value '65536' for '--connections <N>': 65536 is not in 0..=65535\n"),
     ("terminal --port=1 register", "error: unexpected argument 'register' found\n\nUsage: zvt terminal [OPTIONS] --port <PORT>\n"),
     ("till --port=1 --timeout=65536", "error: invalid value '65536' for '--timeout <SECONDS>': 65536 is not in 0..=65535\n"),

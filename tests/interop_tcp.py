@@ -5,7 +5,7 @@ exit status of the program.
     tests/interop_tcp.py [PROGRAM]
 
 PROGRAM is the one that `rt ci` built, unless another is named. Compares what is written on both streams, the exit statuses
-and the books of the recorded traces. The status is 1 where anything is not as expected. It takes 20 seconds.
+and the books of the recorded traces. The status is 1 where anything is not as expected. It takes 30 seconds.
 """
 import collections
 import os
@@ -108,11 +108,12 @@ class BrokenTerminal:
                 line.setsockopt(socket.SOL_SOCKET, socket.SO_LINGER, struct.pack("ii", 1, 0))
 
 
-def asked(port, spelled):
-    """A till that sends these bytes, waits for answers, and closes the connection: the answers."""
+def asked(port, *spelled):
+    """A till that sends these bytes, waits for answers after each part, and closes the connection: the answers."""
     with socket.create_connection((HOST, port), SECONDS) as line:
-        line.sendall(bytes.fromhex(spelled))
-        threading.Event().wait(0.5)  # a connection that closes with unread answers is a broken one
+        for part in spelled:
+            line.sendall(bytes.fromhex(part))
+            threading.Event().wait(0.5)  # a connection that closes with unread answers is a broken one
         return line.recv(4096).hex()
 
 
@@ -212,6 +213,26 @@ class Trial:
         self.serves("a till that sends half a message", f"{REGISTRATION} 06 01 0A 04", 4, failed="closed the connection after 4 bytes of a message")
         self.serves("a till that sends an impossible byte", f"{REGISTRATION} 06 01 02 D0", 4, failed="sent an invalid message, refused at 3: UnknownField")
 
+    def held(self):
+        """A terminal that holds a payment before it decides."""
+        begun, accepted = f"{REGISTRATION} {ACK} {PAYMENT}", "800000060f082912345678490978800000"
+        abort, aborted, approved = "06 B0 00", "800000061e016c", "040f13270004000000001234" + "0b000001870001490978"
+        for name, delay, parts, answers, approvals in (
+            ("a payment in the delay", 60000, [begun], "", 0),
+            ("an abort in the delay", 60000, [begun, abort], aborted, 0),
+            ("an abort that comes with the payment", 60000, [f"{begun} {abort}"], aborted, 0),
+            ("a second payment in the delay", 60000, [begun, PAYMENT], "848300", 0),
+            ("a reply and half an abort in the delay", 60000, [begun, f"{ACK} {abort[:5]}", abort[5:]], f"848300{aborted}", 0),
+            ("a payment after an abort", 60000, [begun, f"{abort} {ACK} {PAYMENT}"], f"{aborted}800000", 0),
+            ("half a message when the delay ends", 700, [begun, abort[:5], ""], approved, 1),
+            ("a payment after the delay", 100, [begun], approved, 1),
+            ("an abort after the delay", 100, [begun, abort], f"{approved}800000", 1),
+        ):
+            served = terminal("--delay", str(delay))
+            check(name, asked(served.port, *parts), accepted + answers)
+            said = served.ended()[2].splitlines()
+            check(f"the ledger after {name}", [row.rpartition(": ")[2] for row in said if "approvals in the ledger" in row], [str(approvals)])
+
     # ---- both ends as they should be
 
     def both(self):
@@ -219,8 +240,8 @@ class Trial:
         ended = till(served.port, "register", "pay:1000", "reverse:1", "close")
         ends("a till and its terminal", ended, 0, "register -> registered", "pay:1000 -> paid trace 000001 receipt 0001", "reverse:1 -> reversed", "close -> day closed", "total 0")
         ends("the terminal", Ended(*served.ended()), 0)
-        for extras in "--extended", "--card girocard", "--card visa", "--receipt blocks", "--receipt none", "--intermediate", \
-                "--extended --card girocard --receipt blocks --intermediate":
+        for extras in "--extended", "--card girocard", "--card visa", "--receipt blocks", "--receipt none", "--intermediate", "--delay 50", \
+                "--extended --card girocard --receipt blocks --intermediate", "--extended --card visa --intermediate --delay 50":
             served = terminal(*extras.split())
             extra = till(served.port, "register", "pay:1000", "reverse:1", "close")
             check(f"a till at a terminal with {extras}", (extra.status, extra.text), (ended.status, ended.text))
@@ -359,7 +380,7 @@ def main():
     with tempfile.TemporaryDirectory() as folder:
         trial = Trial(pathlib.Path(folder))
         for part in (trial.both, trial.counts_anew, trial.shows, trial.records, trial.one_after_another, trial.broken, trial.broken_reversal, trial.doubts,
-                     trial.other_forms, trial.broken_tills, trial.checks_steps, trial.unclear_reversal, trial.statuses):
+                     trial.other_forms, trial.broken_tills, trial.held, trial.checks_steps, trial.unclear_reversal, trial.statuses):
             part()
     print(f"{check.verdict}: a till and a terminal over TCP: {check.count} checks, {check.wrong} wrong")
     return check.status

@@ -66,7 +66,7 @@ receipts_of word =
 abbrev pub AreExtras : TerminalOptions → Option Extras → Type 0
 AreExtras options (Some extras) =
     (extras.extended ≡ options.extended) × (card_named options.card ≡ Some extras.card) × (named Lines receipts_of options.receipt ≡ Some extras.receipts)
-    × (extras.intermediate ≡ options.intermediate) × (extras.delay ≡ 0)
+    × (extras.intermediate ≡ options.intermediate) × (extras.delay ≡ options.delay)
 AreExtras options None = (card_named options.card ≡ None) ⊎ (named Lines receipts_of options.receipt ≡ None)
 
 -- each option of a till that its run has a part in

@@ -114,7 +114,7 @@ pub fn extras(rt: &HostRuntime, options: &TerminalOptions<'_>) -> io::Result<Opt
         card,
         receipts,
         intermediate: options.intermediate,
-        delay: 0,
+        delay: options.delay,
     }))
 }
 

@@ -13,6 +13,8 @@ pub mod Noted
 pub mod Rows
 pub mod Gone
 pub mod Outlived
+pub mod Serving
+pub mod Undelayed
 pub mod ManyTills
 pub mod Traced
 pub mod OverTcpLemmas

@@ -1,6 +1,8 @@
-//! Laws about both ends of a line whose till keeps a journal and may crash at any moment.
+//! Laws about both ends of a line whose till keeps a journal and may crash at any moment, and about a terminal without
+//! a delay.
 ghost use Rattle.zvt_runs.specs.Crashes.{CrashesAccount, CrashesAreLosses, CrashesKeepReversals, CrashesMatch};
 ghost use Rattle.zvt_runs.specs.Crashes.{FilesAreWorlds};
+ghost use Rattle.zvt_runs.specs.Service.{UndelayedServes};
 ghost use Rattle.zvt_runs.specs.Worlds.{CallsAreMoves};
 
 use zvt_journal::Device;
@@ -23,4 +25,9 @@ pub fn crashes_are_losses()
     ensures matches { CrashesMatch }
     ensures account { CrashesAccount }
     ensures reversals { CrashesKeepReversals }
+{}
+
+/// A terminal without a delay answers each message as soon as it has come, until the connection ends.
+pub fn undelayed_serves()
+    ensures { UndelayedServes }
 {}

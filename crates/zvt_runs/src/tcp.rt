@@ -3,6 +3,7 @@
 //! [`run_till`], [`run_terminal`] and [`run_loop`] open sockets with [`connect`] and [`listen`], and run the ends of a
 //! line over them. The till may be alone or have a book.
 mod connection;
+mod delay;
 mod ends;
 mod laws;
 mod options;

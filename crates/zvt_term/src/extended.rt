@@ -298,7 +298,7 @@ fn logs_off() -> Turn
 }
 
 impl Machine for Extended {
-    ghost use Rattle.zvt_term.specs.Extended.{ExtendedLoses, extended_hears};
+    ghost use Rattle.zvt_term.specs.Extended.{ExtendedLoses, extended_hears, holds_payment};
 
     ghost hears = { extended_hears };
 
@@ -306,7 +306,7 @@ impl Machine for Extended {
 
     ghost malforms = { ExtendedLoses };
 
-    ghost is_resting = { λ extended. false };
+    ghost is_resting = { holds_payment };
 
     ghost wants_memory = { true };
 
@@ -325,7 +325,7 @@ impl Machine for Extended {
     }
 
     fn resting(&self) -> bool {
-        false
+        self.held.is_some()
     }
 
     fn lost(&mut self) {

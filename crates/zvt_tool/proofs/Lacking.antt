@@ -67,7 +67,8 @@ terminal_has_host rows (Till options) said lacks = other_second (codes "terminal
 terminal_has_host rows (Terminal options) said lacks = let bad : Some options.host.now ≡ None = sym said.1.host ∙ lacks in cc
 
 terminal_has : (rows : List Row) (choice : Choice) → IsCommandOf (codes "terminal") rows choice
-    → ((port tid connections : ℕ) → GivesNumber (codes "port") rows 65535 port → GivesNumber (codes "tid") rows 99999999 tid → GivesNumber (codes "connections") rows 65535 connections → ⊥) → ⊥
+    → ((port tid connections delay : ℕ) → GivesNumber (codes "port") rows 65535 port → GivesNumber (codes "tid") rows 99999999 tid → GivesNumber (codes "connections") rows 65535 connections
+    → GivesNumber (codes "delay") rows 65535 delay → ⊥) → ⊥
 terminal_has rows (Show options) said lacks = other_first (codes "terminal") (codes "show") (λ e. omega (arith, e)) said.0
 terminal_has rows (Join options) said lacks = other_first (codes "terminal") (codes "join") (λ e. omega (arith, e)) said.0
 terminal_has rows (Normalise options) said lacks = other_first (codes "terminal") (codes "normalise") (λ e. omega (arith, e)) said.0
@@ -81,7 +82,7 @@ terminal_has rows (Vectors options) said lacks = other_first (codes "terminal") 
 terminal_has rows (Book files json records) said lacks = other_first (codes "terminal") (codes "book") (λ e. omega (arith, e)) said.0
 terminal_has rows (Loop trace book check json steps) said lacks = other_first (codes "terminal") (codes "loop") (λ e. omega (arith, e)) said.0
 terminal_has rows (Till options) said lacks = other_second (codes "terminal") (codes "till") (λ e. omega (arith, e)) said.0
-terminal_has rows (Terminal options) said lacks = lacks options.port options.tid options.connections said.1.port said.1.tid said.1.connections
+terminal_has rows (Terminal options) said lacks = lacks options.port options.tid options.connections options.delay said.1.port said.1.tid said.1.connections said.1.delay
 
 tap_has : (rows : List Row) (choice : Choice) → IsCommandOf (codes "tap") rows choice
     → ((listen to : Bor Text) (connections : ℕ) → first_of (codes "listen") rows ≡ Some listen.now → first_of (codes "to") rows ≡ Some to.now → GivesNumber (codes "connections") rows 65535 connections → ⊥) → ⊥
@@ -160,16 +161,19 @@ pub till_without_host : (rows : List Row) → first_of (codes "host") rows ≡ N
 till_without_host rows lacks = λ choice said. till_has_host rows choice said lacks
 
 pub terminal_without_port : (rows : List Row) → IsNumberOf (codes "port") rows 65535 None → HasNoChoice (Some (codes "terminal", rows))
-terminal_without_port rows lacks = λ choice said. terminal_has rows choice said (λ port tid connections a b d. lacks port a)
+terminal_without_port rows lacks = λ choice said. terminal_has rows choice said (λ port tid connections delay a b d e. lacks port a)
 
 pub terminal_without_host : (rows : List Row) → first_of (codes "host") rows ≡ None → HasNoChoice (Some (codes "terminal", rows))
 terminal_without_host rows lacks = λ choice said. terminal_has_host rows choice said lacks
 
 pub terminal_without_tid : (rows : List Row) → IsNumberOf (codes "tid") rows 99999999 None → HasNoChoice (Some (codes "terminal", rows))
-terminal_without_tid rows lacks = λ choice said. terminal_has rows choice said (λ port tid connections a b d. lacks tid b)
+terminal_without_tid rows lacks = λ choice said. terminal_has rows choice said (λ port tid connections delay a b d e. lacks tid b)
 
 pub terminal_without_connections : (rows : List Row) → IsNumberOf (codes "connections") rows 65535 None → HasNoChoice (Some (codes "terminal", rows))
-terminal_without_connections rows lacks = λ choice said. terminal_has rows choice said (λ port tid connections a b d. lacks connections d)
+terminal_without_connections rows lacks = λ choice said. terminal_has rows choice said (λ port tid connections delay a b d e. lacks connections d)
+
+pub terminal_without_delay : (rows : List Row) → IsNumberOf (codes "delay") rows 65535 None → HasNoChoice (Some (codes "terminal", rows))
+terminal_without_delay rows lacks = λ choice said. terminal_has rows choice said (λ port tid connections delay a b d e. lacks delay e)
 
 pub tap_without_listen : (rows : List Row) → first_of (codes "listen") rows ≡ None → HasNoChoice (Some (codes "tap", rows))
 tap_without_listen rows lacks = λ choice said. tap_has rows choice said (λ listen to connections a b d. let bad : Some listen.now ≡ None = sym a ∙ lacks in cc)

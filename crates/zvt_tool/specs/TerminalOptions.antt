@@ -17,6 +17,7 @@ terminal_app = command_app (codes "terminal") (
     option_rule (codes "card") ∷
     option_rule (codes "receipt") ∷
     flag_rule (codes "intermediate") ∷
+    number_rule (codes "delay") (codes "0") ∷
     option_rule (codes "trace") ∷
     flag_rule (codes "loose") ∷
     flag_rule (codes "open") ∷
@@ -34,6 +35,7 @@ pub record AreTerminalOptionsOf (rows : List Row) (options : TerminalOptions) : 
   pub card : IsTextOf (codes "card") rows options.card
   pub receipt : IsTextOf (codes "receipt") rows options.receipt
   pub intermediate : IsFlagOf (codes "intermediate") rows options.intermediate
+  pub delay : GivesNumber (codes "delay") rows 65535 options.delay
   pub trace : IsTextOf (codes "trace") rows options.trace
   pub loose : IsFlagOf (codes "loose") rows options.loose
   pub reads_on : IsFlagOf (codes "open") rows options.reads_on

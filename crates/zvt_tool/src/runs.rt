@@ -15,6 +15,7 @@ use crate::fault::{ToolFault, in_run};
 use crate::options::lengths_by;
 use std::alloc::Global;
 use std::net::{Net, TcpListener, TcpStream};
+use std::rt::Clock;
 use zvt_io::{Failed, Sink};
 use zvt_runs::tcp::{LoopRun, PATIENCE_SECONDS, TerminalRun, TillRun};
 use zvt_runs::{EndFault, Ends, NoNotes, StepOptions, plan};
@@ -170,7 +171,7 @@ pub fn run_terminal<R>(
     loose: bool,
 ) -> Result<(), ToolFault>
 where
-    R: Net<Listener = TcpListener, Stream = TcpStream>,
+    R: Net<Listener = TcpListener, Stream = TcpStream> + Clock,
     requires { tid ≤ 99999999 }
     ensures { ServesOne loose tid verdict result }
 {

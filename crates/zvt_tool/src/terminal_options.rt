@@ -34,6 +34,9 @@ const RECEIPT: &str = "How receipts are sent: lines (the default), blocks or non
 
 const INTERMEDIATE: &str = "Send an intermediate status before the first status of an order";
 
+const DELAY: &str =
+    "Decide payments after MS milliseconds; until then, an abort from the till cancels the payment";
+
 const LOOSE: &str = "Accept padded lengths, as some tills send them";
 
 const JSON: &str =
@@ -58,6 +61,8 @@ pub struct TerminalOptions<'a> {
     pub receipt: Option<&'a str>,
     /// Whether intermediate statuses are sent.
     pub intermediate: bool,
+    /// How long a payment is held before it is decided, in milliseconds, 0 by default.
+    pub delay: u16,
     pub trace: Option<&'a str>,
     /// Whether lengths are accepted in any form.
     pub loose: bool,
@@ -86,6 +91,7 @@ pub fn terminal_row() -> CommandRow<'static>
             CommandOption::Value("card", "CARD", CARD),
             CommandOption::Value("receipt", "FORM", RECEIPT),
             CommandOption::Flag("intermediate", INTERMEDIATE),
+            CommandOption::Number("delay", "MS", "0", DELAY),
             CommandOption::Value("trace", "FILE", help::TRACE),
             CommandOption::Flag("loose", LOOSE),
             CommandOption::Flag("open", help::OPEN_TERMINAL),
@@ -102,6 +108,7 @@ pub fn read_terminal<'a>(inner: &ArgMatches<'a>) -> Option<Choice<'a>>
     let host = text(inner, "host")?;
     let tid = tid(inner)?;
     let connections = number(inner, "connections")?;
+    let delay = number(inner, "delay")?;
     Some(Choice::Terminal(TerminalOptions {
         port,
         host,
@@ -112,6 +119,7 @@ pub fn read_terminal<'a>(inner: &ArgMatches<'a>) -> Option<Choice<'a>>
         card: text(inner, "card"),
         receipt: text(inner, "receipt"),
         intermediate: flag(inner, "intermediate"),
+        delay,
         trace: text(inner, "trace"),
         loose: flag(inner, "loose"),
         reads_on: flag(inner, "open"),

@@ -5,6 +5,7 @@ ghost use Rattle.zvt_runs.specs.Connecting.{given_by};
 ghost use Rattle.zvt_runs.specs.Tills.{AnswersService, AnswersTill, AnswersTills, IsOffline, TakesTills};
 
 use crate::tcp::connection::{Door, listen};
+use crate::tcp::delay::SocketDelay;
 use crate::tcp::ends::{is_broken, terminal_end_of};
 use crate::tcp::options::TerminalRun;
 use crate::tcp::reports::{GoneTill, report_address, report_till};
@@ -12,6 +13,7 @@ use crate::{EndFault, serve};
 use std::alloc::Global;
 use std::fs::File;
 use std::net::{Net, TcpListener, TcpStream};
+use std::rt::Clock;
 use zvt_io::Sink;
 use zvt_stream::{LineFault, LineForm};
 use zvt_term::Extended;
@@ -35,7 +37,7 @@ pub fn run_terminal<R, W>(
     report: &mut W,
 ) -> Result<(), EndFault>
 where
-    R: Net<Listener = TcpListener, Stream = TcpStream>,
+    R: Net<Listener = TcpListener, Stream = TcpStream> + Clock,
     W: Sink,
     requires { run.now.tid ≤ 99999999 }
     ensures { AnswersService (reading_as run.now.line) run.now.connections run.now.tid run.now.verdict run.now.extras
@@ -47,11 +49,12 @@ where
     };
     report_address(alloc, run.form, &door.listener, report)?;
     let mut served = Extended::new(alloc, run.tid, run.verdict, run.extras);
-    serve_tills(alloc, run, &mut door, &mut served, report)
+    serve_tills(rt, alloc, run, &mut door, &mut served, report)
 }
 
 /// Serves the tills of a run one after another, each on a connection of its own.
-fn serve_tills<W: Sink>(
+fn serve_tills<R: Net + Clock, W: Sink>(
+    rt: &R,
     alloc: Global,
     run: &TerminalRun<'_, '_>,
     door: &mut Door,
@@ -66,7 +69,7 @@ fn serve_tills<W: Sink>(
     'tills: for gone in 0..run.connections {
         let connection = door.next().map_err(EndFault::Net)?;
         let rows_before = served.served.terminal.ledger().len();
-        let broke = serve_till(alloc, &connection, run.line, served, run.trace)?;
+        let broke = serve_till(rt, alloc, &connection, run.line, served, run.trace)?;
         let till = GoneTill {
             number: gone + 1,
             broke,
@@ -85,7 +88,8 @@ fn serve_tills<W: Sink>(
 
 /// Serves the till at the other end of this connection, and returns how the line broke, if it did. Fails with `Trace`,
 /// or with `Memory` if an allocation failed before the till was served.
-fn serve_till(
+fn serve_till<R: Net + Clock>(
+    rt: &R,
     alloc: Global,
     connection: &TcpStream,
     line: LineForm,
@@ -96,7 +100,8 @@ fn serve_till(
     ensures { AnswersTill (reading_as line) served.old served.new result }
 {
     let mut end = terminal_end_of(alloc, connection, line, trace)?;
-    let broke = serve(alloc, &mut end, served).err();
+    let mut delay = SocketDelay::new(rt, alloc, connection, served.extras.delay);
+    let broke = serve(alloc, &mut end, served, &mut delay).err();
     if is_broken(&end, trace) {
         return Err(EndFault::Trace);
     }
