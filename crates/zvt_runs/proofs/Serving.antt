@@ -1,5 +1,5 @@
 -- The steps of a terminal's service.
-use Rattle.std.proofs.Common.{◌≡◌, ◌≢◌, ◌⊎◌, inl, inr, ℕ, ◌+◌, refl, Result, Ok, Err}
+use Rattle.std.proofs.Common.{◌≡◌, ◌≢◌, ◌⊎◌, inl, inr, ℕ, suc, ◌+◌, refl, subst, arith, Result, Ok, Err}
 use Rattle.zvt_stream.specs.EndState.{EndState}
 use Rattle.zvt_stream.specs.declared.line.LineFault.{LineFault}
 use Rattle.zvt_stream.specs.declared.line.LineFault.TheVariants.{Ended, Turns}
@@ -9,7 +9,9 @@ use Rattle.zvt_runs.specs.Service.{Decided, Fails, Hears, Misses, ServesUntil, S
 
 -- one step more
 pub one_more : (n : ℕ) (before now after : EndState) (old terminal new : Extended) → Steps n before old now terminal → Stepped now terminal after new (Ok tt) → Steps (n + 1) before old after new
-one_more n before now after old terminal new so step = (now, terminal, so, step)
+one_more n before now after old terminal new so step =
+    let next : suc n ≡ n + 1 = omega arith in
+    subst (λ k. Steps k before old after new) next (now, terminal, so, step)
 
 -- a step that fails is the last
 pub breaks : (n : ℕ) (fault : LineFault) (before now after : EndState) (old terminal new : Extended) → Steps n before old now terminal → Stepped now terminal after new (Err fault)

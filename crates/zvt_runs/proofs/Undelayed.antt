@@ -73,16 +73,14 @@ never_comes before after old new p h = by_case (subst (λ (u : Until). Comes ext
     by_case (inl stays) = holds_none old p stays.at_once
     by_case (inr comes) = let heard = comes.1.pumped.course.heard in holds_none new (hear_promptly heard.messages heard.answers old new p heard.heard) comes.1.there
 
+-- from a terminal that is still prompt
+no_step_from : (middle after : EndState) (old terminal new : Extended) → IsPrompt old → terminal ≡ old → Hears middle terminal after new ⊎ Decides middle terminal after new → ⊥
+no_step_from middle after old terminal new p same (inl hears) = never_comes middle after terminal new (subst IsPrompt (sym same) p) hears
+no_step_from middle after old terminal new p same (inr decides) = holds_none terminal (subst IsPrompt (sym same) p) decides.holds
+
 no_step : (n : ℕ) (before after : EndState) (old new : Extended) → IsPrompt old → Steps n before old after new → (n ≡ 0) × (after ≡ before) × (new ≡ old)
 no_step zero before after old new p so = (refl, so.0, so.1)
-no_step (suc n) before after old new p so = absurd (by_case so.3)
-  where
-    prompt : IsPrompt so.1
-    prompt = subst IsPrompt (sym (no_step n before so.0 old so.1 p so.2).2) p
-
-    by_case : Hears so.0 so.1 after new ⊎ Decides so.0 so.1 after new → ⊥
-    by_case (inl hears) = never_comes so.0 after so.1 new prompt hears
-    by_case (inr decides) = holds_none so.1 prompt decides.holds
+no_step (suc n) before after old new p so = absurd (no_step_from so.0 after old so.1 new p (no_step n before so.0 old so.1 p so.2).2 so.3)
 
 -- turns before which no payment was held
 waits : (n : ℕ) (old new : LineState Extended) → Waited extended_hears holds_payment Rest n old new → Waited extended_hears never_rests Rest n old new
@@ -109,7 +107,7 @@ fails_not Stopped before after old new p h = absurd h
 
 pub undelayed_serves : UndelayedServes
 undelayed_serves fault before after old new none free h =
-    record { middle = h.middle; not_at_once = ap is_some free; falls_short = falls fault before after old h.middle (short h.stops); reported = h.reported }
+    record { middle = h.middle; not_at_once = refl; falls_short = falls fault before after old h.middle (short h.stops); reported = h.reported }
   where
     p : IsPrompt old
     p = (none, free)
