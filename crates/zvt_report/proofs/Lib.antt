@@ -3,3 +3,5 @@ mod RowLemmas
 pub mod DayLemmas
 pub mod LawLemmas
 pub mod MarkLemmas
+pub mod LookLemmas
+pub mod OpenLemmas

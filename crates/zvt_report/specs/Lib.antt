@@ -2,3 +2,4 @@ pub mod Chapters
 pub mod Day
 pub mod Judging
 pub mod Laws
+pub mod Looks
