@@ -5,3 +5,4 @@ pub mod LawLemmas
 pub mod MarkLemmas
 pub mod LookLemmas
 pub mod OpenLemmas
+pub mod NamingLemmas

@@ -3,3 +3,4 @@ pub mod Day
 pub mod Judging
 pub mod Laws
 pub mod Looks
+pub mod Naming

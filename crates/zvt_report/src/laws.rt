@@ -1,6 +1,7 @@
 //! Laws of every day, each stated as the contract of an empty function.
 ghost use Rattle.zvt_report.specs.Laws.{DoubtsAreLeftOpen, EachOrderHasARow, SameBooks, SameMarks, SumsMakeBooked};
 ghost use Rattle.zvt_report.specs.Looks.{EachPaymentIsLookedAt, EachReversalIsLookedAt};
+ghost use Rattle.zvt_report.specs.Naming.{ReversalsNameEntries};
 
 /// A day books the payments of its log, and its unclear payments are those of the log.
 pub fn same_books()
@@ -38,4 +39,10 @@ pub fn each_reversal_is_looked_at()
 /// open: it was unclear, and no later one of that entry decided anything.
 pub fn doubts_are_left_open()
     ensures { DoubtsAreLeftOpen }
+{}
+
+/// A reversal that names a receipt number takes back an entry of the book, or it is an order that the book does not
+/// know.
+pub fn reversals_name_entries()
+    ensures { ReversalsNameEntries }
 {}

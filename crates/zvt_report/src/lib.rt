@@ -4,6 +4,7 @@
 mod cases;
 mod day;
 pub mod laws;
+mod naming;
 mod rows;
 
 pub use cases::{Case, Look, Weight, looks};
