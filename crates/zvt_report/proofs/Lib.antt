@@ -3,3 +3,6 @@ mod RowLemmas
 pub mod DayLemmas
 pub mod LawLemmas
 pub mod MarkLemmas
+pub mod LookLemmas
+pub mod OpenLemmas
+pub mod NamingLemmas

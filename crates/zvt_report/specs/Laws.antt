@@ -1,5 +1,5 @@
 -- The laws of a day.
-use Rattle.std.specs.Prelude.{◌≡◌, ℕ, ◌+◌, ◌<◌, Bool, true, false, not, ◌||◌, cond, List, [], ◌∷◌, ◌++◌, length, Option, Some, None, map, sum_by}
+use Rattle.std.specs.Prelude.{◌≡◌, ℕ, ◌+◌, ◌<◌, Bool, true, false, not, ◌||◌, cond, List, [], ◌∷◌, ◌++◌, length, Option, Some, None, map, slice_get, sum_by}
 use Rattle.std.specs.List.{list_all}
 use Rattle.zvt_till.specs.declared.entries.Entry.{Entry}
 use Rattle.zvt_till.specs.declared.happenings.Sent.{Sent}
@@ -8,12 +8,14 @@ use Rattle.zvt_till.specs.declared.outcomes.Outcome.{Outcome}
 use Rattle.zvt_till.specs.declared.outcomes.Outcome.TheVariants.{Paid, Unclear}
 use Rattle.zvt_till.specs.declared.outcomes.Cause.{Cause}
 use Rattle.zvt_till.specs.Books.{Booked, booked_as, books}
+use Rattle.zvt_till.specs.Doubts.{is_unclear}
 use Rattle.zvt_till.specs.Laws.{row_of}
 use Rattle.zvt_till.specs.Marks.{entries, total}
 use Rattle.zvt_till.specs.Segments.{Ended}
 use Rattle.zvt_till.specs.Settings.{strict}
 use Rattle.zvt_report.specs.Chapters.{Noted, Chapter, chapters, ended, happenings}
 use Rattle.zvt_report.specs.Day.{DayValue, day_after, day_of, no_orders}
+use Rattle.zvt_report.specs.Looks.{is_left_open}
 use Rattle.zvt_report.specs.declared.rows.OrderRow.{OrderRow}
 
 -- a day books the payments of its log, and leaves those unclear that the log leaves open
@@ -105,3 +107,12 @@ booked_total book = sum_by (λ (entry : Entry). entry.amount) book
 -- what stands and what was taken back make what was booked
 abbrev pub SumsMakeBooked : Type 0
 SumsMakeBooked = (book : List Entry) → total book + taken_back book ≡ booked_total book
+
+-- ---- doubts
+
+-- If each reversal takes back an entry of the book, the reversal of an entry is unclear exactly if one was left open.
+abbrev pub DoubtsAreLeftOpen : Type 0
+DoubtsAreLeftOpen =
+    (notes : List Noted) (place : ℕ) (entry : Entry)
+    → AreOfEntries no_orders (chapters notes) → slice_get (day_of notes).book place ≡ Some entry
+    → is_unclear entry ≡ is_left_open place (day_of notes).orders

@@ -6,7 +6,10 @@ ghost use Rattle.zvt_report.specs.Chapters.{Noted, chapters, noted};
 ghost use Rattle.zvt_report.specs.Day.{approval_at, approval_by, day_of, judged_as};
 ghost use Rattle.zvt_report.specs.Judging.{HasJudged, IsJudged, added, goes_on, opened, row_at};
 ghost use Rattle.zvt_report.specs.Judging.{with_outcome};
+ghost use Rattle.zvt_report.specs.Naming.{reversing};
+ghost use Rattle.zvt_till.specs.declared.happenings.Happening.TheVariants.{Sent as SentOut};
 
+use crate::naming::reversing;
 use crate::rows::{Approval, OrderRow};
 use std::alloc::{AllocError, Global};
 use std::marker::Model;
@@ -247,6 +250,18 @@ impl Day {
             None => self.answer(line, happening)?,
         }
         self.currency = force_after(self.currency, happening);
+        Ok(())
+    }
+
+    /// Judges a reversal that was sent at this line and names this receipt number, if it names exactly one. It takes back
+    /// the last payment with that number; without such a payment, it is an order that the book does not know.
+    pub fn reverse(&mut self, line: u64, receipt: Option<[u8; 2]>) -> Result<(), AllocError>
+        ensures { OnOk result ((notes : List Noted) → HasJudged notes self.old → HasJudged
+            (notes ++ noted line (SentOut (reversing (day_of notes).book receipt)) ∷ []) self.new) }
+    {
+        self.close()?;
+        let order = reversing(&self.book, receipt);
+        self.current = Some(OpenOrder::new(self.currency, order, line));
         Ok(())
     }
 

@@ -1,5 +1,7 @@
 //! Laws of every day, each stated as the contract of an empty function.
-ghost use Rattle.zvt_report.specs.Laws.{EachOrderHasARow, SameBooks, SameMarks, SumsMakeBooked};
+ghost use Rattle.zvt_report.specs.Laws.{DoubtsAreLeftOpen, EachOrderHasARow, SameBooks, SameMarks, SumsMakeBooked};
+ghost use Rattle.zvt_report.specs.Looks.{EachPaymentIsLookedAt, EachReversalIsLookedAt};
+ghost use Rattle.zvt_report.specs.Naming.{ReversalsNameEntries};
 
 /// A day books the payments of its log, and its unclear payments are those of the log.
 pub fn same_books()
@@ -21,4 +23,26 @@ pub fn each_order_has_a_row()
 /// The entries that stand and those that were taken back add up to what was booked.
 pub fn sums_make_booked()
     ensures { SumsMakeBooked }
+{}
+
+/// A person is told to look at each unclear payment once, and at no other payment.
+pub fn each_payment_is_looked_at()
+    ensures { EachPaymentIsLookedAt }
+{}
+
+/// A person is told to look at each unclear reversal that no later one of its entry decides, once each.
+pub fn each_reversal_is_looked_at()
+    ensures { EachReversalIsLookedAt }
+{}
+
+/// If each reversal of a day names an entry of the book, the reversal of an entry is unclear exactly if one was left
+/// open: it was unclear, and no later one of that entry decided anything.
+pub fn doubts_are_left_open()
+    ensures { DoubtsAreLeftOpen }
+{}
+
+/// A reversal that names a receipt number takes back an entry of the book, or it is an order that the book does not
+/// know.
+pub fn reversals_name_entries()
+    ensures { ReversalsNameEntries }
 {}

@@ -1,9 +1,12 @@
 //! The report of a day: what became of each order of a till, and the book that is left.
 #![tactic(auto)]
 
+mod cases;
 mod day;
 pub mod laws;
+mod naming;
 mod rows;
 
+pub use cases::{Case, Look, Weight, looks};
 pub use day::Day;
 pub use rows::{Approval, OrderRow};

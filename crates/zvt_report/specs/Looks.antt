@@ -1,0 +1,236 @@
+-- The orders that a person should look at.
+use Rattle.std.specs.Prelude.{◌≡◌, ℕ, ◌+◌, ◌==◌, Bool, true, false, not, cond, ◌&&◌, ◌||◌, List, [], ◌∷◌, ◌++◌, Option, Some, None, option_map, slice_get, refl}
+use Rattle.std.specs.List.{cons_option, list_any, position}
+use Rattle.zvt_till.specs.Doubts.{already_reversed}
+use Rattle.zvt_till.specs.declared.entries.Doubt.TheVariants.{No}
+use Rattle.zvt_till.specs.declared.entries.Entry.{Entry}
+use Rattle.zvt_till.specs.declared.happenings.Sent.{Sent}
+use Rattle.zvt_till.specs.declared.happenings.Sent.TheVariants.{Register, Pay, Reverse, CloseDay, Cancel, Foreign}
+use Rattle.zvt_till.specs.declared.outcomes.Cause.TheVariants.{Line, NoStatus}
+use Rattle.zvt_till.specs.declared.outcomes.Outcome.{Outcome}
+use Rattle.zvt_till.specs.declared.outcomes.Outcome.TheVariants.{Registered, Paid, Declined, Refused, Aborted, Unclear, Reversed, DayClosed}
+use Rattle.zvt_report.specs.declared.cases.Case.{Case}
+use Rattle.zvt_report.specs.declared.cases.Case.TheVariants.{ApprovedNotCompleted, OtherAmount, PaymentUnclear, ReversalUnclear, TakenBackBefore, ReversalRefused, CloseUnclear, CloseRefused}
+use Rattle.zvt_report.specs.declared.cases.Look.{Look}
+use Rattle.zvt_report.specs.declared.cases.Weight.{Weight}
+use Rattle.zvt_report.specs.declared.cases.Weight.TheVariants.{Act, Check}
+use Rattle.zvt_report.specs.declared.rows.Approval.{Approval}
+use Rattle.zvt_report.specs.declared.rows.OrderRow.{OrderRow}
+
+-- ---- rows among each other
+
+abbrev pub pays_as : Sent → Outcome → (amount : ℕ) → Bool
+pays_as (Pay a) (Paid trace receipt) amount = a == amount
+pays_as (Pay a) (Unclear cause) amount = a == amount
+pays_as _ _ amount = false
+
+-- a payment of this amount that is booked or unclear
+abbrev pub may_pay : ℕ → OrderRow → Bool
+may_pay amount row = pays_as row.order row.outcome amount
+
+-- whether a reversal with this outcome changes the mark or the doubt of its entry
+abbrev pub decides_by : Outcome → Bool
+decides_by Registered = false
+decides_by (Paid trace receipt) = false
+decides_by (Declined code) = false
+decides_by (Refused code) = code == already_reversed
+decides_by (Aborted code) = code == already_reversed
+decides_by (Unclear cause) = true
+decides_by Reversed = true
+decides_by DayClosed = false
+
+abbrev pub decides_as : Sent → Outcome → (place : ℕ) → Bool
+decides_as (Register c) outcome place = false
+decides_as (Pay a) outcome place = false
+decides_as (Reverse e) outcome place = (e == place) && decides_by outcome
+decides_as CloseDay outcome place = false
+decides_as Cancel outcome place = false
+decides_as Foreign outcome place = false
+
+-- a reversal of the entry at this place that changes its mark or its doubt
+abbrev pub decides : (place : ℕ) → OrderRow → Bool
+decides place row = decides_as row.order row.outcome place
+
+-- the entry at this place is marked as reversed
+abbrev pub is_marked : List Entry → (place : ℕ) → Bool
+is_marked book place = elim (slice_get book place) [ None ↦ false | Some entry ↦ entry.reversed ]
+
+-- ---- one row
+
+-- an unclear payment: by the first approval that the terminal stated for it
+abbrev pub payment_case : (amount : ℕ) → Option Approval → Case
+payment_case amount None = PaymentUnclear
+payment_case amount (Some approval) = cond (approval.amount == amount) ApprovedNotCompleted OtherAmount
+
+-- a reversal that the terminal refused or aborted with this code
+abbrev pub refused_case : List Entry → (place code : ℕ) → (decided : Bool) → Option Case
+refused_case book place code decided =
+    cond (code == already_reversed) (cond (is_marked book place) None (cond decided None (Some TakenBackBefore))) (Some ReversalRefused)
+
+-- a reversal; a later one of the same entry may have decided what it left open
+abbrev pub reversal_case : List Entry → (place : ℕ) → (decided : Bool) → Outcome → Option Case
+reversal_case book place decided Registered = None
+reversal_case book place decided (Paid trace receipt) = None
+reversal_case book place decided (Declined code) = Some ReversalRefused
+reversal_case book place decided (Refused code) = refused_case book place code decided
+reversal_case book place decided (Aborted code) = refused_case book place code decided
+reversal_case book place decided (Unclear cause) = cond decided None (Some ReversalUnclear)
+reversal_case book place decided Reversed = None
+reversal_case book place decided DayClosed = None
+
+abbrev pub close_case : Outcome → Option Case
+close_case Registered = None
+close_case (Paid trace receipt) = None
+close_case (Declined code) = Some CloseRefused
+close_case (Refused code) = Some CloseRefused
+close_case (Aborted code) = Some CloseRefused
+close_case (Unclear cause) = Some CloseUnclear
+close_case Reversed = None
+close_case DayClosed = None
+
+abbrev pub unclear_case : (amount : ℕ) → Option Approval → Outcome → Option Case
+unclear_case amount approval Registered = None
+unclear_case amount approval (Paid trace receipt) = None
+unclear_case amount approval (Declined code) = None
+unclear_case amount approval (Refused code) = None
+unclear_case amount approval (Aborted code) = None
+unclear_case amount approval (Unclear cause) = Some (payment_case amount approval)
+unclear_case amount approval Reversed = None
+unclear_case amount approval DayClosed = None
+
+-- why to look at an order, in this book, before these later rows
+abbrev pub case_as : List Entry → (later : List OrderRow) → Option Approval → Outcome → Sent → Option Case
+case_as book later approval outcome (Register c) = None
+case_as book later approval outcome (Pay a) = unclear_case a approval outcome
+case_as book later approval outcome (Reverse e) = reversal_case book e (list_any (decides e) later) outcome
+case_as book later approval outcome CloseDay = close_case outcome
+case_as book later approval outcome Cancel = None
+case_as book later approval outcome Foreign = None
+
+-- the first later payment of the same amount that is booked or unclear; the first later row has this place
+abbrev pub paid_again : Sent → (place : ℕ) → (later : List OrderRow) → Option ℕ
+paid_again (Register c) place later = None
+paid_again (Pay a) place later = option_map (λ skipped. place + skipped) (position (may_pay a) later)
+paid_again (Reverse e) place later = None
+paid_again CloseDay place later = None
+paid_again Cancel place later = None
+paid_again Foreign place later = None
+
+abbrev pub look_at : List Entry → (place : ℕ) → OrderRow → (later : List OrderRow) → Option Look
+look_at book place row later =
+    option_map (λ case. record { case = case; order = place; again = paid_again row.order (place + 1) later }) (case_as book later row.approval row.outcome row.order)
+
+abbrev pub weight_of : Case → Weight
+weight_of ApprovedNotCompleted = Act
+weight_of OtherAmount = Act
+weight_of PaymentUnclear = Check
+weight_of ReversalUnclear = Act
+weight_of TakenBackBefore = Act
+weight_of ReversalRefused = Check
+weight_of CloseUnclear = Check
+weight_of CloseRefused = Check
+
+-- ---- all rows
+
+abbrev pub looks_from : List Entry → (place : ℕ) → List OrderRow → List Look
+looks_from book place [] = []
+looks_from book place (row ∷ later) = cons_option (look_at book place row later) (looks_from book (place + 1) later)
+
+-- in the order of the rows
+abbrev pub looks : List Entry → List OrderRow → List Look
+looks book rows = looks_from book 0 rows
+
+-- ---- laws
+
+abbrev pub is_unclear_by : Sent → Outcome → Bool
+is_unclear_by (Pay a) (Unclear cause) = true
+is_unclear_by _ _ = false
+
+-- the places of the unclear payments among these rows, the first of which has this place
+abbrev pub unclear_places : (place : ℕ) → List OrderRow → List ℕ
+unclear_places place [] = []
+unclear_places place (row ∷ later) = cond (is_unclear_by row.order row.outcome) (place ∷ []) [] ++ unclear_places (place + 1) later
+
+abbrev pub is_of_payment : Case → Bool
+is_of_payment ApprovedNotCompleted = true
+is_of_payment OtherAmount = true
+is_of_payment PaymentUnclear = true
+is_of_payment ReversalUnclear = false
+is_of_payment TakenBackBefore = false
+is_of_payment ReversalRefused = false
+is_of_payment CloseUnclear = false
+is_of_payment CloseRefused = false
+
+-- the places of these looks that are about a payment
+abbrev pub payments_looked_at : List Look → List ℕ
+payments_looked_at [] = []
+payments_looked_at (look ∷ more) = cond (is_of_payment look.case) (look.order ∷ []) [] ++ payments_looked_at more
+
+-- each unclear payment is looked at once, and no other payment is
+abbrev pub EachPaymentIsLookedAt : Type 0
+EachPaymentIsLookedAt = (book : List Entry) (rows : List OrderRow) → payments_looked_at (looks book rows) ≡ unclear_places 0 rows
+
+abbrev pub is_open_by : (place : ℕ) → Sent → Outcome → Bool
+is_open_by place (Reverse e) (Unclear cause) = e == place
+is_open_by place _ _ = false
+
+-- an unclear reversal of the entry at this place that no later one decides
+abbrev pub is_left_open : (place : ℕ) → List OrderRow → Bool
+is_left_open place [] = false
+is_left_open place (row ∷ later) = (is_open_by place row.order row.outcome && not (list_any (decides place) later)) || is_left_open place later
+
+-- the places of the rows that leave some reversal open, the first of which has this place
+abbrev pub open_by : Sent → Outcome → (later : List OrderRow) → Bool
+open_by (Reverse e) (Unclear cause) later = not (list_any (decides e) later)
+open_by _ _ later = false
+
+abbrev pub open_places : (place : ℕ) → List OrderRow → List ℕ
+open_places place [] = []
+open_places place (row ∷ later) = cond (open_by row.order row.outcome later) (place ∷ []) [] ++ open_places (place + 1) later
+
+abbrev pub is_of_reversal : Case → Bool
+is_of_reversal ApprovedNotCompleted = false
+is_of_reversal OtherAmount = false
+is_of_reversal PaymentUnclear = false
+is_of_reversal ReversalUnclear = true
+is_of_reversal TakenBackBefore = false
+is_of_reversal ReversalRefused = false
+is_of_reversal CloseUnclear = false
+is_of_reversal CloseRefused = false
+
+-- the places of these looks that are about an unclear reversal
+abbrev pub reversals_looked_at : List Look → List ℕ
+reversals_looked_at [] = []
+reversals_looked_at (look ∷ more) = cond (is_of_reversal look.case) (look.order ∷ []) [] ++ reversals_looked_at more
+
+-- each reversal that was left open is looked at once, and no other is called unclear
+abbrev pub EachReversalIsLookedAt : Type 0
+EachReversalIsLookedAt = (book : List Entry) (rows : List OrderRow) → reversals_looked_at (looks book rows) ≡ open_places 0 rows
+
+-- ---- rows worked by hand
+
+abbrev a_row : Sent → Outcome → Option Approval → OrderRow
+a_row order outcome approval = record { order = order; first = 1; last = 2; outcome = outcome; approval = approval }
+
+abbrev approved : ℕ → Option Approval
+approved amount = Some (record { line = 2; amount = amount; trace = Some 20; receipt = None })
+
+abbrev looked : Case → ℕ → Option ℕ → Look
+looked case order again = record { case = case; order = order; again = again }
+
+-- paid again after a lost line, with a decline between
+twice : looks [] (a_row (Pay 3499) (Unclear Line) (approved 3499) ∷ a_row (Pay 3499) (Declined 0x65) None ∷ a_row (Pay 3499) (Paid 21 None) (approved 3499) ∷ []) ≡ looked ApprovedNotCompleted 0 (Some 2) ∷ []
+twice = refl
+
+a_tip : looks [] (a_row (Pay 5000) (Unclear NoStatus) (approved 5500) ∷ a_row (Pay 500) (Unclear Line) None ∷ []) ≡ looked OtherAmount 0 None ∷ looked PaymentUnclear 1 None ∷ []
+a_tip = refl
+
+abbrev an_entry : Bool → Entry
+an_entry reversed = record { amount = 500; trace = 1; receipt = None; reversed = reversed; doubt = No }
+
+-- a second reversal decided what the first one left open
+decided_later : looks (an_entry true ∷ []) (a_row (Reverse 0) (Unclear Line) None ∷ a_row (Reverse 0) Reversed None ∷ a_row (Reverse 0) (Aborted 0xB4) None ∷ []) ≡ []
+decided_later = refl
+
+taken_back_before : looks (an_entry false ∷ []) (a_row (Reverse 0) (Unclear Line) None ∷ a_row (Reverse 0) (Refused 0xB4) None ∷ a_row CloseDay (Aborted 0x6C) None ∷ []) ≡ looked TakenBackBefore 1 None ∷ looked CloseRefused 2 None ∷ []
+taken_back_before = refl

@@ -1,0 +1,248 @@
+//! The orders that a person should look at, and why.
+ghost use Rattle.std.specs.Prelude.{◌≡◌, ◌+◌, ◌<◌, ◌^◌, IfOk, length};
+ghost use Rattle.std.specs.List.{list_any, position};
+ghost use Rattle.zvt_report.specs.Looks.{case_as, close_case, decides, decides_by, is_marked, look_at};
+ghost use Rattle.zvt_report.specs.Looks.{looks, may_pay, paid_again, payment_case, refused_case, reversal_case};
+ghost use Rattle.zvt_report.specs.Looks.{unclear_case};
+
+use crate::rows::{Approval, OrderRow};
+use std::alloc::{AllocError, Global};
+use zvt_bcd::Amount;
+use zvt_till::{Entry, Outcome, Sent};
+
+/// The result code of a reversal if the terminal had reversed the payment before.
+const ALREADY_REVERSED: u8 = 0xB4;
+
+/// How urgent it is to look at an order.
+#[derive(Clone, Copy, Debug, PartialEq, Eq)]
+pub enum Weight {
+    /// Money may be wrong, and a person can settle it.
+    Act,
+    /// A person should compare the order with the terminal's journal.
+    Check,
+}
+
+/// Why a person should look at an order.
+#[derive(Clone, Copy, Debug, PartialEq, Eq)]
+pub enum Case {
+    /// The terminal approved the payment, but the till does not know that it was completed.
+    ApprovedNotCompleted,
+    /// The terminal approved another amount than the till asked for, perhaps with a tip.
+    OtherAmount,
+    /// It is unknown whether the payment took place, and no approval of it was heard.
+    PaymentUnclear,
+    /// It is unknown whether the payment was taken back.
+    ReversalUnclear,
+    /// The terminal says that it had taken the payment back before.
+    TakenBackBefore,
+    /// The terminal did not take the payment back.
+    ReversalRefused,
+    /// It is unknown whether the day was closed.
+    CloseUnclear,
+    /// The terminal did not close the day.
+    CloseRefused,
+}
+
+impl Case {
+    ghost use Rattle.std.specs.Prelude.{◌≡◌};
+    ghost use Rattle.zvt_report.specs.Looks.{weight_of};
+
+    /// How urgent the case is.
+    pub fn weight(self) -> Weight
+        ensures { result ≡ weight_of self }
+    {
+        match self {
+            Case::ApprovedNotCompleted
+            | Case::OtherAmount
+            | Case::ReversalUnclear
+            | Case::TakenBackBefore => Weight::Act,
+            Case::PaymentUnclear
+            | Case::ReversalRefused
+            | Case::CloseUnclear
+            | Case::CloseRefused => Weight::Check,
+        }
+    }
+}
+
+/// An order that a person should look at.
+#[derive(Clone, Copy, Debug, PartialEq, Eq)]
+pub struct Look {
+    pub case: Case,
+    /// The index of the order's row, counted from 0.
+    pub order: usize,
+    /// The index of the first later payment of the same amount that is booked or unclear.
+    pub again: Option<usize>,
+}
+
+/// Whether this order is a payment of this amount that is booked or unclear.
+fn may_pay(amount: Amount, row: &OrderRow) -> bool
+    ensures { result ≡ may_pay amount row.now }
+{
+    match (&row.order, &row.outcome) {
+        (Sent::Pay(own), Outcome::Paid { .. } | Outcome::Unclear(_)) => *own == amount,
+        _ => false,
+    }
+}
+
+/// Whether a reversal with this outcome changes the mark or the doubt of its entry.
+fn decides_by(outcome: &Outcome) -> bool
+    ensures { result ≡ decides_by outcome.now }
+{
+    match outcome {
+        Outcome::Unclear(_) | Outcome::Reversed => true,
+        Outcome::Refused(code) | Outcome::Aborted(code) => *code == ALREADY_REVERSED,
+        _ => false,
+    }
+}
+
+/// Whether this order is a reversal of the entry at this place that changes its mark or its doubt.
+fn decides(place: usize, row: &OrderRow) -> bool
+    ensures { result ≡ decides place row.now }
+{
+    match &row.order {
+        Sent::Reverse(own) => *own == place && decides_by(&row.outcome),
+        _ => false,
+    }
+}
+
+/// Whether the entry at this place is marked as reversed.
+fn is_marked(book: &[Entry], place: usize) -> bool
+    ensures { result ≡ is_marked book.now place }
+{
+    match book.get(place) {
+        Some(entry) => entry.reversed,
+        None => false,
+    }
+}
+
+/// Returns why to look at an unclear payment.
+fn payment_case(amount: Amount, approval: &Option<Approval>) -> Case
+    ensures { result ≡ payment_case amount approval.now }
+{
+    match approval {
+        None => Case::PaymentUnclear,
+        Some(approval) if approval.amount == amount => Case::ApprovedNotCompleted,
+        Some(_) => Case::OtherAmount,
+    }
+}
+
+/// Returns why to look at a reversal that the terminal refused or aborted with this code.
+fn refused_case(book: &[Entry], place: usize, code: u8, decided: bool) -> Option<Case>
+    ensures { result ≡ refused_case book.now place code decided }
+{
+    if code != ALREADY_REVERSED {
+        Some(Case::ReversalRefused)
+    } else if is_marked(book, place) || decided {
+        None
+    } else {
+        Some(Case::TakenBackBefore)
+    }
+}
+
+/// Returns why to look at a reversal. `decided` says whether a later reversal of the entry changes its mark or doubt.
+fn reversal_case(book: &[Entry], place: usize, decided: bool, outcome: &Outcome) -> Option<Case>
+    ensures { result ≡ reversal_case book.now place decided outcome.now }
+{
+    match outcome {
+        Outcome::Declined(_) => Some(Case::ReversalRefused),
+        Outcome::Refused(code) | Outcome::Aborted(code) => {
+            refused_case(book, place, *code, decided)
+        }
+        Outcome::Unclear(_) if !decided => Some(Case::ReversalUnclear),
+        _ => None,
+    }
+}
+
+/// Returns why to look at an end of day.
+fn close_case(outcome: &Outcome) -> Option<Case>
+    ensures { result ≡ close_case outcome.now }
+{
+    match outcome {
+        Outcome::Declined(_) | Outcome::Refused(_) | Outcome::Aborted(_) => {
+            Some(Case::CloseRefused)
+        }
+        Outcome::Unclear(_) => Some(Case::CloseUnclear),
+        _ => None,
+    }
+}
+
+/// Returns why to look at a payment.
+fn unclear_case(amount: Amount, approval: &Option<Approval>, outcome: &Outcome) -> Option<Case>
+    ensures { result ≡ unclear_case amount approval.now outcome.now }
+{
+    match outcome {
+        Outcome::Unclear(_) => Some(payment_case(amount, approval)),
+        _ => None,
+    }
+}
+
+/// Returns why to look at an order, given the book and the later orders.
+fn case_of(book: &[Entry], row: &OrderRow, later: &[OrderRow]) -> Option<Case>
+    ensures { result ≡ case_as book.now later.now row.now.approval row.now.outcome row.now.order }
+{
+    match &row.order {
+        Sent::Pay(amount) => unclear_case(*amount, &row.approval, &row.outcome),
+        Sent::Reverse(place) => {
+            let decided = is_decided(*place, later);
+            reversal_case(book, *place, decided, &row.outcome)
+        }
+        Sent::CloseDay => close_case(&row.outcome),
+        _ => None,
+    }
+}
+
+/// Whether one of these orders is a reversal of the entry at this place that changes its mark or its doubt.
+fn is_decided(place: usize, rows: &[OrderRow]) -> bool
+    ensures { result ≡ list_any (decides place) rows.now }
+{
+    rows.iter().any(|row| decides(place, row))
+}
+
+/// Returns the index of the first of these orders that is a payment of this amount and is booked or unclear.
+fn first_paid(amount: Amount, rows: &[OrderRow]) -> Option<usize>
+    ensures { result ≡ position (may_pay amount) rows.now }
+{
+    rows.iter().position(|row| may_pay(amount, row))
+}
+
+/// Returns the place of the first later payment of the same amount that is booked or unclear. The first later order has
+/// this place.
+fn paid_again(order: &Sent, place: usize, later: &[OrderRow]) -> Option<usize>
+    requires { place + length later.now < 2 ^ 64 }
+    ensures { result ≡ paid_again order.now place later.now }
+{
+    let Sent::Pay(amount) = order else {
+        return None;
+    };
+    let skipped = first_paid(*amount, later)?;
+    Some(place + skipped)
+}
+
+/// Returns why to look at the order at this place, if there is a reason.
+fn look_at(book: &[Entry], place: usize, row: &OrderRow, later: &[OrderRow]) -> Option<Look>
+    requires { place + length later.now + 1 < 2 ^ 64 }
+    ensures { result ≡ look_at book.now place row.now later.now }
+{
+    Some(Look {
+        case: case_of(book, row, later)?,
+        order: place,
+        again: paid_again(&row.order, place + 1, later),
+    })
+}
+
+/// Returns the orders that a person should look at, in the order of their rows. Fails only if memory runs out.
+pub fn looks(alloc: Global, book: &[Entry], rows: &[OrderRow]) -> Result<Vec<Look>, AllocError>
+    ensures { IfOk result (λ found. found.items ≡ looks book.now rows.now) }
+{
+    let mut found = Vec::new(alloc);
+    let mut rest = rows;
+    let mut place = 0;
+    'rows: while let [row, later @ ..] = rest {
+        if let Some(look) = look_at(book, place, row, later) {
+            found.push(look)?;
+        }
+        rest = later;
+        place += 1;
+    }
+    Ok(found)
+}
