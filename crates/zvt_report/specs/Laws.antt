@@ -82,7 +82,7 @@ abbrev pub unclear_in : List OrderRow → List (ℕ × Cause)
 unclear_in [] = []
 unclear_in (row ∷ rows) = unclear_by row.order row.outcome ++ unclear_in rows
 
--- the rows are those of the orders, in their order, and the book and the unclear payments are those of the rows
+-- there is one row for each order, in the same order, and the rows give the book and the unclear payments
 abbrev pub EachOrderHasARow : Type 0
 EachOrderHasARow =
     (notes : List Noted)

@@ -146,7 +146,7 @@ abbrev pub is_unclear_by : Sent → Outcome → Bool
 is_unclear_by (Pay a) (Unclear cause) = true
 is_unclear_by _ _ = false
 
--- the places of the unclear payments among these rows, the first of which has this place
+-- the places of the unclear payments among these rows; the first row has this place
 abbrev pub unclear_places : (place : ℕ) → List OrderRow → List ℕ
 unclear_places place [] = []
 unclear_places place (row ∷ later) = cond (is_unclear_by row.order row.outcome) (place ∷ []) [] ++ unclear_places (place + 1) later
@@ -179,7 +179,7 @@ abbrev pub is_left_open : (place : ℕ) → List OrderRow → Bool
 is_left_open place [] = false
 is_left_open place (row ∷ later) = (is_open_by place row.order row.outcome && not (list_any (decides place) later)) || is_left_open place later
 
--- the places of the rows that leave some reversal open, the first of which has this place
+-- the places of the rows that leave some reversal open; the first row has this place
 abbrev pub open_by : Sent → Outcome → (later : List OrderRow) → Bool
 open_by (Reverse e) (Unclear cause) later = not (list_any (decides e) later)
 open_by _ _ later = false

@@ -3,13 +3,13 @@ ghost use Rattle.zvt_report.specs.Laws.{DoubtsAreLeftOpen, EachOrderHasARow, Sam
 ghost use Rattle.zvt_report.specs.Looks.{EachPaymentIsLookedAt, EachReversalIsLookedAt};
 ghost use Rattle.zvt_report.specs.Naming.{ReversalsNameEntries};
 
-/// A day books the payments of its log, and its unclear payments are those of the log.
+/// A day has the same payments, booked and unclear, as the books of its log.
 pub fn same_books()
     ensures { SameBooks }
 {}
 
-/// If each reversal of a day names an entry of the book and ended, the day's book is that of a till with the same log,
-/// with its marks and doubts.
+/// If each reversal of a day names an entry of the book and ended, the day has the same book as a till with its log:
+/// the same entries, marks and doubts.
 pub fn same_marks()
     ensures { SameMarks }
 {}
