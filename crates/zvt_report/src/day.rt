@@ -1,5 +1,5 @@
 //! Judges the orders of a day, one after another.
-ghost use Rattle.std.specs.Prelude.{◌≡◌, ◌++◌, ◌∷◌, [], List, None, OnOk};
+ghost use Rattle.std.specs.Prelude.{◌≡◌, ◌++◌, ◌∷◌, [], List, None, IfOk, OnOk};
 ghost use Rattle.zvt_till.specs.Segments.{begun};
 ghost use Rattle.zvt_till.specs.declared.orders.Order.TheVariants as order;
 ghost use Rattle.zvt_report.specs.Chapters.{Noted, chapters, noted};
@@ -9,6 +9,7 @@ ghost use Rattle.zvt_report.specs.Judging.{with_outcome};
 ghost use Rattle.zvt_report.specs.Naming.{reversing};
 ghost use Rattle.zvt_till.specs.declared.happenings.Happening.TheVariants.{Sent as SentOut};
 
+use crate::books::DayBooks;
 use crate::naming::reversing;
 use crate::rows::{Approval, OrderRow};
 use std::alloc::{AllocError, Global};
@@ -235,6 +236,19 @@ impl Day {
             self.add(open.row(open.last, Outcome::Unclear(Cause::Unfinished)))?;
         }
         Ok(())
+    }
+
+    /// Ends the day, and the running order as unfinished.
+    pub fn finish(self) -> Result<DayBooks, AllocError>
+        ensures { IfOk result (λ books. (notes : List Noted) → HasJudged notes self → books ≡ day_of notes) }
+    {
+        let mut day = self;
+        day.close()?;
+        Ok(DayBooks {
+            book: day.book,
+            unclear: day.unclear,
+            orders: day.orders,
+        })
     }
 
     /// Judges the next event, which stands at this line. If an allocation fails, the day is no longer valid.

@@ -1,12 +1,14 @@
 //! The report of a day: what became of each order of a till, and the book that is left.
 #![tactic(auto)]
 
+mod books;
 mod cases;
 mod day;
 pub mod laws;
 mod naming;
 mod rows;
 
+pub use books::DayBooks;
 pub use cases::{Case, Look, Weight, looks};
 pub use day::Day;
 pub use rows::{Approval, OrderRow};
