@@ -16,11 +16,11 @@ use zvt_trace::{Direction, Listener, ListenerError, Scope, TraceEvent};
 /// A listener that hears of a refused message what its control bytes say, where the scope is `OneMessage`: an order, a
 /// status without a result and an amount, or the end of an order. In every other scope, it hears the refusal.
 #[derive(Drop)]
-pub(crate) struct ByControl<L> {
-    pub(crate) listener: L,
-    pub(crate) scope: Scope,
+pub struct ByControl<L> {
+    pub listener: L,
+    pub scope: Scope,
     /// The number of refused messages that were passed over. It saturates.
-    pub(crate) passed: u64,
+    pub passed: u64,
 }
 
 impl<L: Listener> Listener for ByControl<L> {

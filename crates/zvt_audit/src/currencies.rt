@@ -7,7 +7,7 @@ use zvt_bcd::Currency;
 
 /// The currencies of the till's registrations.
 #[derive(Clone, Copy)]
-pub(crate) enum NamedCurrency {
+pub enum NamedCurrency {
     /// No registration names a currency.
     Absent,
     /// All registrations that name a currency name this one.
@@ -18,14 +18,14 @@ pub(crate) enum NamedCurrency {
 
 impl NamedCurrency {
     /// Starts before the first registration.
-    pub(crate) fn none() -> NamedCurrency
+    pub fn none() -> NamedCurrency
         ensures { result ≡ Absent }
     {
         NamedCurrency::Absent
     }
 
     /// Records the currency that a message of the till names, if any.
-    pub(crate) fn notice(&mut self, named: Option<Currency>)
+    pub fn notice(&mut self, named: Option<Currency>)
         ensures { self.new ≡ named_after self.old named }
     {
         if let Some(currency) = named {
@@ -51,7 +51,7 @@ impl NamedCurrency {
     }
 
     /// Returns the currency, if all registrations that name one agree.
-    pub(crate) fn agreed(&self) -> Option<Currency>
+    pub fn agreed(&self) -> Option<Currency>
         ensures { result ≡ agreed self.now }
     {
         match self {

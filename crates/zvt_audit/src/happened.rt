@@ -18,7 +18,7 @@ fn paid(fields: &FieldsView<'_>) -> Sent
 }
 
 /// Returns the order that a till gives with this message, if any.
-pub(crate) fn ordered(apdu: &ApduView<'_>) -> Option<Sent>
+pub fn ordered(apdu: &ApduView<'_>) -> Option<Sent>
     ensures { result ≡ ordered apdu.now }
 {
     match apdu.kind() {

@@ -17,7 +17,10 @@ mod sum;
 mod summary;
 mod unfollowed;
 
+pub use by_control::ByControl;
+pub use currencies::NamedCurrency;
 pub use follow::{Audit, follow_audit};
+pub use happened::ordered;
 pub use line::{LineAudit, LineBooks};
 pub use sum::Sum;
 pub use summary::{AuditSummary, audit_trace};
