@@ -6,3 +6,6 @@ pub mod MarkLemmas
 pub mod LookLemmas
 pub mod OpenLemmas
 pub mod NamingLemmas
+pub mod SaidLemmas
+pub mod ReporterLemmas
+pub mod ReportedLemmas

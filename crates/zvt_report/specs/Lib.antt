@@ -4,3 +4,6 @@ pub mod Judging
 pub mod Laws
 pub mod Looks
 pub mod Naming
+pub mod Reported
+pub mod Reports
+pub mod Said

@@ -2,6 +2,7 @@
 ghost use Rattle.zvt_report.specs.Laws.{DoubtsAreLeftOpen, EachOrderHasARow, SameBooks, SameMarks, SumsMakeBooked};
 ghost use Rattle.zvt_report.specs.Looks.{EachPaymentIsLookedAt, EachReversalIsLookedAt};
 ghost use Rattle.zvt_report.specs.Naming.{ReversalsNameEntries};
+ghost use Rattle.zvt_report.specs.Reported.{EachOrderHasAMessage, SameBooksAsAudit};
 
 /// A day has the same payments, booked and unclear, as the books of its log.
 pub fn same_books()
@@ -45,4 +46,15 @@ pub fn doubts_are_left_open()
 /// know.
 pub fn reversals_name_entries()
     ensures { ReversalsNameEntries }
+{}
+
+/// A report has the payments of the audit of the same trace, booked and unclear. Only a reversal differs: a report knows
+/// which payment it takes back.
+pub fn same_books_as_audit()
+    ensures { SameBooksAsAudit }
+{}
+
+/// A report has the message of each order.
+pub fn each_order_has_a_message()
+    ensures { EachOrderHasAMessage }
 {}

@@ -6,9 +6,14 @@ mod cases;
 mod day;
 pub mod laws;
 mod naming;
+mod ordering;
+mod report;
+mod reporter;
 mod rows;
+mod said;
 
 pub use books::DayBooks;
 pub use cases::{Case, Look, Weight, looks};
 pub use day::Day;
-pub use rows::{Approval, OrderRow};
+pub use report::{Report, report_trace};
+pub use rows::{Approval, OrderMessage, OrderRow};

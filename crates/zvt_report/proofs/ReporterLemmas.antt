@@ -1,0 +1,132 @@
+-- What a reporter becomes by an event, and what it finds after all events.
+use Rattle.std.proofs.Common.{◌≡◌, inl, inr, ℕ, List, [], ◌∷◌, ◌++◌, None, Ok, Err, fold, map, refl, sym, ◌∙◌, ap, subst, append_assoc, append-nil}
+use Rattle.std.specs.Str.Lines.{lines}
+use Rattle.zvt_grammar.specs.Reading.{Reading}
+use Rattle.zvt_apdu.specs.Message.{Message}
+use Rattle.zvt_till.specs.declared.entries.Entry.{Entry}
+use Rattle.zvt_till.specs.declared.happenings.Happening.{Happening}
+use Rattle.zvt_till.specs.declared.happenings.Happening.TheVariants.{Connected}
+use Rattle.zvt_trace.specs.Emitting.{EventsSoFar}
+use Rattle.zvt_trace.specs.Listening.{AnswersWalk, HearsAll, Stops}
+use Rattle.zvt_trace.specs.TraceEvent.{At, Tallies}
+use Rattle.zvt_trace.specs.declared.fault.Tally.{Tally}
+use Rattle.zvt_trace.specs.declared.fault.TraceFault.{TraceFault}
+use Rattle.zvt_trace.specs.declared.fault.TraceFault.TheVariants.{Memory, Read, TooLong, Trace, Write}
+use Rattle.zvt_trace.specs.declared.listener.ListenerError.TheVariants as failure
+use Rattle.zvt_trace.specs.declared.listener.Scope.{Scope}
+use Rattle.zvt_audit.specs.ByControl.{seen}
+use Rattle.zvt_audit.specs.Currencies.{agreed, currencies_of, named_after, named_by, one_currency}
+use Rattle.zvt_audit.specs.declared.by_control.ByControl.{ByControl}
+use Rattle.zvt_audit.specs.declared.currencies.NamedCurrency.{NamedCurrency}
+use Rattle.zvt_audit.specs.declared.currencies.NamedCurrency.TheVariants.{Absent}
+use Rattle.zvt_audit.proofs.ControlLemmas.{all_seen}
+use Rattle.zvt_audit.proofs.CurrencyLemmas.{after_all, all_agreed, one_more}
+use Rattle.zvt_report.specs.Chapters.{Noted, noted}
+use Rattle.zvt_report.specs.Day.{day_of}
+use Rattle.zvt_report.specs.Judging.{DaySoFar, HasJudged}
+use Rattle.zvt_report.specs.Reported.{beginning_in, beginnings, happenings_with, reported, with_event}
+use Rattle.zvt_report.specs.Reports.{AnswersReport, Finds, JudgesAll, Judges, Reports, ReportsBy, SaysMore, StartsIn, hears, hears_by, wants_memory_by}
+use Rattle.zvt_report.specs.Said.{AreSaidBy, IsSaidBy}
+use Rattle.zvt_report.specs.declared.report.Report.{Report}
+use Rattle.zvt_report.specs.declared.reporter.Reporter.{Reporter}
+use Rattle.zvt_report.specs.declared.rows.OrderMessage.{OrderMessage}
+
+-- ---- one event
+
+-- nothing happened
+pub judges_none : (day : DaySoFar) (line : ℕ) → JudgesAll day line [] day
+judges_none day line = λ notes judged. subst (λ (l : List Noted). HasJudged l day) (sym (append-nil notes)) judged
+
+-- one thing after another
+pub judges_more : (a b c : DaySoFar) (line : ℕ) (first : Happening) (more : List Happening) → JudgesAll a line (first ∷ []) b → JudgesAll b line more c → JudgesAll a line (first ∷ more) c
+judges_more a b c line first more one then =
+    λ notes judged. subst (λ (l : List Noted). HasJudged l c) (append_assoc notes (noted line first ∷ []) (map (noted line) more)) (then (notes ++ noted line first ∷ []) (one notes judged))
+
+-- what happened does not depend on the book
+pub judges_by : (old new : DaySoFar) (event : At) (happened : List Happening) → ((book : List Entry) → happenings_with book event.trace_event ≡ happened) → JudgesAll old event.line happened new → Judges old event new
+judges_by old new event happened same all =
+    λ notes judged. subst (λ (l : List Happening). HasJudged (notes ++ map (noted event.line) l) new) (sym (same (day_of notes).book)) (all notes judged)
+
+-- nothing more is said
+says_none : (old new : List OrderMessage) (more : List Message) → more ≡ [] → new ≡ old → SaysMore old more new
+says_none old new more none same =
+    λ messages said. subst (λ (l : List OrderMessage). AreSaidBy (messages ++ more) l) (sym same) (subst (λ (l : List Message). AreSaidBy l old) (sym (ap (λ (l : List Message). messages ++ l) none ∙ append-nil messages)) said)
+
+-- an event that is no order
+pub reports_by : (old new : Reporter) (event : At) (happened : List Happening) → ((book : List Entry) → happenings_with book event.trace_event ≡ happened) → named_by event.trace_event ≡ None → beginning_in event.trace_event ≡ []
+    → ReportsBy old event.line happened new → Reports old event new
+reports_by old new event happened same unnamed none (judged, named, messages) = (
+  judges_by old.day new.day event happened same judged,
+  named ∙ ap (named_after old.named) (sym unnamed),
+  says_none old.messages.items new.messages.items (beginning_in event.trace_event) none messages,
+)
+
+-- an event by which nothing happened
+pub reports_same : (old : Reporter) (event : At) → ((book : List Entry) → happenings_with book event.trace_event ≡ []) → named_by event.trace_event ≡ None → beginning_in event.trace_event ≡ [] → Reports old event old
+reports_same old event same unnamed none = reports_by old old event [] same unnamed none (judges_none old.day event.line, refl, refl)
+
+-- ---- all events
+
+pub all_judged : (events : List At) (old new : Reporter) (notes : List Noted) → HasJudged notes old.day → HearsAll hears old events new → HasJudged (fold with_event notes events) new.day
+all_judged [] old new notes judged same = subst (λ (s : Reporter). HasJudged notes s.day) (sym same) judged
+all_judged (event ∷ events) old new notes judged some = all_judged events some.0 new (with_event notes event) (some.1.0 notes judged) some.2
+
+pub all_named : (events : List At) (old new : Reporter) → HearsAll hears old events new → new.named ≡ after_all old.named (currencies_of events)
+all_named [] old new same = ap (λ (s : Reporter). s.named) same
+all_named (event ∷ events) old new some =
+    all_named events some.0 new some.2 ∙ ap (λ (n : NamedCurrency). after_all n (currencies_of events)) some.1.1 ∙ one_more old.named (named_by event.trace_event) (currencies_of events)
+
+currency_heard : (events : List At) (old new : Reporter) → old.named ≡ Absent → HearsAll hears old events new → agreed new.named ≡ one_currency (currencies_of events)
+currency_heard events old new unnamed heard =
+    ap agreed (all_named events old new heard ∙ ap (λ (n : NamedCurrency). after_all n (currencies_of events)) unnamed) ∙ all_agreed (currencies_of events)
+
+pub all_said : (events : List At) (old new : Reporter) (messages : List Message) → AreSaidBy messages old.messages.items → HearsAll hears old events new → AreSaidBy (messages ++ beginnings events) new.messages.items
+all_said [] old new messages said same =
+    subst (λ (s : Reporter). AreSaidBy (messages ++ []) s.messages.items) (sym same) (subst (λ (l : List Message). AreSaidBy l old.messages.items) (sym (append-nil messages)) said)
+all_said (event ∷ events) old new messages said some =
+    subst (λ (l : List Message). AreSaidBy l new.messages.items) (append_assoc messages (beginning_in event.trace_event) (beginnings events))
+    (all_said events some.0 new (messages ++ beginning_in event.trace_event) (some.1.2 messages said) some.2)
+
+-- one more message says this
+pub said_more : (messages : List Message) (m : Message) (old : List OrderMessage) (said : OrderMessage) → AreSaidBy messages old → IsSaidBy m said → AreSaidBy (messages ++ m ∷ []) (old ++ said ∷ [])
+said_more [] m [] said before is = (is, tt)
+said_more [] m (first ∷ old) said never is = absurd never
+said_more (first ∷ messages) m [] said never is = absurd never
+said_more (first ∷ messages) m (other ∷ old) said before is = (before.0, said_more messages m old said before.1 is)
+
+-- ---- the answer
+
+pub reported_all : (r : Reading) (scope : Scope) (trace : List ℕ) (tally : Tally) (report : Report) (old new : ByControl Reporter)
+    → StartsIn scope old → AnswersWalk r hears_by wants_memory_by scope (lines trace) old new (Ok tally) → Finds new.listener tally report → AnswersReport r scope trace (Ok report)
+reported_all r scope trace tally report old new starts walked finds =
+    let events = seen scope walked.0 in
+    let heard = (all_seen hears scope walked.0 old new starts.1 walked.2).0 in
+    let none : AreSaidBy [] old.listener.messages.items = subst (λ (l : List OrderMessage). AreSaidBy [] l) (sym starts.0.2) tt in (
+      walked.0,
+      walked.1,
+      subst (λ (t : Tally). Tallies t walked.0) (sym finds.tally) walked.3,
+      record {
+        currency = finds.currency ∙ currency_heard events old.listener new.listener starts.0.1 heard;
+        books = finds.books (reported events) (all_judged events old.listener new.listener (noted 0 Connected ∷ []) starts.0.0 heard);
+        messages = subst (λ (l : List OrderMessage). AreSaidBy (beginnings events) l) (sym finds.messages) (all_said events old.listener new.listener [] none heard);
+      },
+    )
+
+-- a reporter writes nothing, so no write fails
+no_write : {r : Reading} {scope : Scope} (lines : List (List ℕ)) (old new : ByControl Reporter) → AnswersWalk r hears_by wants_memory_by scope lines old new (Err Write) → ⊥
+no_write {r = r} {scope = scope} lines old new failed = by failed.stops
+  where
+    differ : failure.Write ≡ failure.Memory → ⊥
+    differ e = cc
+
+    by : Stops {S = ByControl Reporter} wants_memory_by failure.Write (EventsSoFar r scope lines) failed.events failed.middle new → ⊥
+    by (inl (is, so_far, same)) = differ is
+    by (inr (event, so_far, left)) = differ left
+
+pub walk_failed : (r : Reading) (scope : Scope) (trace : List ℕ) (fault : TraceFault) (old new : ByControl Reporter)
+    → AnswersWalk r hears_by wants_memory_by scope (lines trace) old new (Err fault) → AnswersReport r scope trace (Err fault)
+walk_failed r scope trace (Trace number what) old new walked = (walked.0, walked.1)
+walk_failed r scope trace Memory old new walked = tt
+walk_failed r scope trace Write old new walked = absurd (no_write (lines trace) old new walked)
+walk_failed r scope trace TooLong old new never = absurd never
+walk_failed r scope trace Read old new never = absurd never

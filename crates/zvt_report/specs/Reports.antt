@@ -1,0 +1,99 @@
+-- What a reporter becomes by the events of a trace, and what a report answers.
+use Rattle.std.specs.Prelude.{◌≡◌, ℕ, List, [], ◌∷◌, ◌++◌, map, Result, Ok, Err}
+use Rattle.std.specs.Str.Lines.{lines}
+use Rattle.zvt_grammar.specs.Reading.{Reading}
+use Rattle.zvt_apdu.specs.Message.{Message}
+use Rattle.zvt_till.specs.declared.happenings.Happening.{Happening}
+use Rattle.zvt_till.specs.declared.happenings.Happening.TheVariants.{Connected}
+use Rattle.zvt_trace.specs.Emitting.{BrokenTrace, WholeTrace}
+use Rattle.zvt_trace.specs.Listening.{Fails, Hears}
+use Rattle.zvt_trace.specs.TraceEvent.{At, Tallies}
+use Rattle.zvt_trace.specs.declared.fault.Tally.{Tally}
+use Rattle.zvt_trace.specs.declared.fault.TraceFault.{TraceFault}
+use Rattle.zvt_trace.specs.declared.fault.TraceFault.TheVariants.{Memory, Read, TooLong, Trace, Write}
+use Rattle.zvt_trace.specs.declared.listener.ListenerError.TheVariants as failure
+use Rattle.zvt_trace.specs.declared.listener.Scope.{Scope}
+use Rattle.zvt_audit.specs.ByControl.{FailsBy, HearsBy, seen}
+use Rattle.zvt_audit.specs.Currencies.{agreed, currencies_of, named_after, named_by, one_currency}
+use Rattle.zvt_audit.specs.declared.by_control.ByControl.{ByControl}
+use Rattle.zvt_audit.specs.declared.currencies.NamedCurrency.TheVariants.{Absent}
+use Rattle.zvt_report.specs.Chapters.{Noted, noted}
+use Rattle.zvt_report.specs.Day.{day_of}
+use Rattle.zvt_report.specs.Judging.{DaySoFar, HasJudged}
+use Rattle.zvt_report.specs.Reported.{beginning_in, beginnings, reported, with_event}
+use Rattle.zvt_report.specs.Said.{AreSaidBy}
+use Rattle.zvt_report.specs.declared.report.Report.{Report}
+use Rattle.zvt_report.specs.declared.reporter.Reporter.{Reporter}
+use Rattle.zvt_report.specs.declared.rows.OrderMessage.{OrderMessage}
+
+-- ---- one event
+
+-- the day of notes, after these happenings at a line
+abbrev pub JudgesAll : (old : DaySoFar) → (line : ℕ) → List Happening → (new : DaySoFar) → Type 0
+JudgesAll old line happened new = (notes : List Noted) → HasJudged notes old → HasJudged (notes ++ map (noted line) happened) new
+
+-- the day of notes, after an event
+abbrev pub Judges : (old : DaySoFar) → At → (new : DaySoFar) → Type 0
+Judges old event new = (notes : List Noted) → HasJudged notes old → HasJudged (with_event notes event) new
+
+-- what a reporter becomes by what happened at a line, apart from an order
+abbrev pub ReportsBy : Reporter → (line : ℕ) → List Happening → Reporter → Type 0
+ReportsBy old line happened new = JudgesAll old.day line happened new.day × (new.named ≡ old.named) × (new.messages.items ≡ old.messages.items)
+
+-- what is said by messages, and by one more if there is one
+abbrev pub SaysMore : (old : List OrderMessage) → List Message → (new : List OrderMessage) → Type 0
+SaysMore old more new = (messages : List Message) → AreSaidBy messages old → AreSaidBy (messages ++ more) new
+
+-- what a reporter becomes by an event
+abbrev pub Reports : Reporter → At → Reporter → Type 0
+Reports old event new =
+    Judges old.day event new.day × (new.named ≡ named_after old.named (named_by event.trace_event))
+    × SaysMore old.messages.items (beginning_in event.trace_event) new.messages.items
+
+-- ---- a reporter as a listener
+
+abbrev pub hears : Hears Reporter
+hears old event new = Reports old event new
+
+abbrev pub wants_memory : Fails Reporter
+wants_memory old event why new = why ≡ failure.Memory
+
+-- the same, where a refused message may be known by its control bytes
+abbrev pub hears_by : Hears (ByControl Reporter)
+hears_by = HearsBy hears
+
+abbrev pub wants_memory_by : Fails (ByControl Reporter)
+wants_memory_by = FailsBy wants_memory
+
+-- the till is connected, and nothing else happened at it
+abbrev pub IsConnected : Reporter → Type 0
+IsConnected reporter = HasJudged (noted 0 Connected ∷ []) reporter.day × (reporter.named ≡ Absent) × (reporter.messages.items ≡ [])
+
+-- no message was refused yet
+abbrev pub StartsIn : Scope → ByControl Reporter → Type 0
+StartsIn scope by = IsConnected by.listener × (by.scope ≡ scope) × (by.passed ≡ 0)
+
+-- what a reporter finds at the end of its trace
+pub record Finds (reporter : Reporter) (counted : Tally) (report : Report) : Type 0 where
+  pub tally : report.tally ≡ counted
+  pub currency : report.currency ≡ agreed reporter.named
+  pub books : (notes : List Noted) → HasJudged notes reporter.day → report.books ≡ day_of notes
+  pub messages : report.messages.items ≡ reporter.messages.items
+
+-- ---- the answer
+
+-- the report of what a till and its terminal did
+pub record IsReportOf (events : List At) (report : Report) : Type 0 where
+  pub currency : report.currency ≡ one_currency (currencies_of events)
+  pub books : report.books ≡ day_of (reported events)
+  pub messages : AreSaidBy (beginnings events) report.messages.items
+
+-- What a report answers for a trace, by that reading of lengths, and with what a refusal leaves unread.
+abbrev pub AnswersReport : Reading → Scope → (trace : List ℕ) → Result Report TraceFault → Type 0
+AnswersReport r scope trace (Ok report) =
+    (events : List At) × WholeTrace r scope (lines trace) events × Tallies report.tally events × IsReportOf (seen scope events) report
+AnswersReport r scope trace (Err (Trace number what)) = (events : List At) × BrokenTrace r scope (lines trace) number what events
+AnswersReport r scope trace (Err Memory) = Unit {0}
+AnswersReport r scope trace (Err Write) = ⊥
+AnswersReport r scope trace (Err TooLong) = ⊥
+AnswersReport r scope trace (Err Read) = ⊥

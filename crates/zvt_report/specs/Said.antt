@@ -1,0 +1,66 @@
+-- What the message of an order says beside the order itself.
+use Rattle.std.specs.Prelude.{◌≡◌, ℕ, ◌==◌, Bool, true, false, cond, ◌&&◌, ◌||◌, nat_lt, List, [], ◌∷◌, Option, Some, None, drop, slice_index}
+use Rattle.std.specs.Option.{option_and_then}
+use Rattle.zvt_grammar.specs.Reading.{padded}
+use Rattle.zvt_field.specs.Grammar.{Field, FieldList}
+use Rattle.zvt_field.specs.Named.{amount_of, receipt_of}
+use Rattle.zvt_apdu.specs.Message.{Message, other}
+use Rattle.zvt_apdu.specs.Views.{control_of, fields_in}
+use Rattle.zvt_report.specs.declared.rows.OrderMessage.{OrderMessage}
+
+-- ---- orders that a till of this software never sends
+
+-- 06 04, 06 09, 06 0A, 06 21 to 06 25 and 06 31: the data of these orders is fields, after a password for some
+abbrev pub moves_money : (high low : ℕ) → Bool
+moves_money high low = (high == 0x06) && ((low == 0x04) || (low == 0x09) || (low == 0x0A) || (low == 0x31) || (nat_lt 0x20 low && nat_lt low 0x26))
+
+-- the reversal of a pre-authorisation, and a refund
+abbrev pub has_password : (low : ℕ) → Bool
+has_password low = (low == 0x25) || (low == 0x31)
+
+-- the data after the three bytes of the password
+abbrev pub listed_in : (low : ℕ) → (payload : List ℕ) → List ℕ
+listed_in low payload = cond (has_password low) (drop 3 payload) payload
+
+-- ---- the fields of a message
+
+-- the fields that the data spells, or none if it spells no fields
+abbrev pub AreSpelledBy : List ℕ → Option (List Field) → Type 0
+AreSpelledBy listed None = (fields : List Field) → FieldList padded fields listed → ⊥
+AreSpelledBy listed (Some fields) = FieldList padded fields listed
+
+abbrev pub AreListedIf : Bool → List ℕ → Option (List Field) → Type 0
+AreListedIf true listed fields = AreSpelledBy listed fields
+AreListedIf false listed fields = fields ≡ None
+
+-- the fields of a message, also of an order that moves money and that a till of this software never sends
+abbrev pub HasFields : Message → Option (List Field) → Type 0
+HasFields (other high low payload) fields = AreListedIf (moves_money high low) (listed_in low payload) fields
+HasFields m fields = fields ≡ fields_in m
+
+-- ---- one order
+
+-- the control bytes, and what the fields say
+abbrev pub said_with : (control : List ℕ) → Option (List Field) → OrderMessage
+said_with control fields =
+    record {
+      high = slice_index control 0;
+      low = slice_index control 1;
+      amount = option_and_then amount_of fields;
+      receipt = option_and_then receipt_of fields;
+    }
+
+-- what the message of an order says
+pub record IsSaidBy (m : Message) (said : OrderMessage) : Type 0 where
+  pub fields : Option (List Field)
+  pub has : HasFields m fields
+  pub is : said ≡ said_with (control_of m) fields
+
+-- ---- all orders
+
+-- what these messages say, each in its place
+abbrev pub AreSaidBy : List Message → List OrderMessage → Type 0
+AreSaidBy [] [] = Unit {0}
+AreSaidBy [] (said ∷ more) = ⊥
+AreSaidBy (m ∷ messages) [] = ⊥
+AreSaidBy (m ∷ messages) (said ∷ more) = IsSaidBy m said × AreSaidBy messages more

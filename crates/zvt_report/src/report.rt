@@ -1,0 +1,84 @@
+//! The report of a whole trace.
+ghost use Rattle.std.specs.Prelude.{◌≤◌, length, IfOk};
+ghost use Rattle.zvt_grammar.specs.Lengths.{reading_of};
+ghost use Rattle.zvt_trace.specs.Written.{limit};
+ghost use Rattle.zvt_report.specs.Reports.{AnswersReport, StartsIn};
+
+use crate::books::DayBooks;
+use crate::day::Day;
+use crate::reporter::Reporter;
+use crate::rows::OrderMessage;
+use std::alloc::{AllocError, Global};
+use zvt_audit::{ByControl, NamedCurrency};
+use zvt_bcd::Currency;
+use zvt_grammar::Lengths;
+use zvt_till::Happening;
+use zvt_trace::{Scope, Tally, TraceFault, walk};
+
+/// The report of a trace.
+#[derive(Drop)]
+pub struct Report {
+    pub tally: Tally,
+    /// The currency of the till's registrations, if all that name one agree.
+    pub currency: Option<Currency>,
+    pub books: DayBooks,
+    /// What the message of each order says: one for each row of `books.orders`.
+    pub messages: Vec<OrderMessage>,
+}
+
+/// Judges the orders of the trace. `lengths` selects the accepted forms of length, and `scope` says how much is not read
+/// after a refused message. With `OneMessage`, its side is read on after the message, which is known by its control
+/// bytes alone.
+///
+/// The trace is that of a till that starts connected. A reversal takes back the last payment with its receipt number.
+pub fn report_trace(
+    alloc: Global,
+    scope: Scope,
+    lengths: Lengths,
+    trace: &[u8],
+) -> Result<Report, TraceFault>
+    requires { length trace.now ≤ limit }
+    ensures { AnswersReport (reading_of lengths) scope trace.now result }
+{
+    let mut reporter = connected(alloc, scope)?;
+    let tally = walk(&mut reporter, alloc, scope, lengths, trace)?;
+    let report = reporter.listener.finish(tally)?;
+    Ok(report)
+}
+
+/// Creates a reporter of a connected till that has heard nothing. It hears events in this scope.
+fn connected(alloc: Global, scope: Scope) -> Result<ByControl<Reporter>, AllocError>
+    ensures { IfOk result (StartsIn scope) }
+{
+    let mut day = Day::new(alloc);
+    day.take(0, &Happening::Connected)?;
+    Ok(ByControl {
+        listener: Reporter {
+            alloc,
+            day,
+            named: NamedCurrency::none(),
+            messages: Vec::new(alloc),
+        },
+        scope,
+        passed: 0,
+    })
+}
+
+impl Reporter {
+    ghost use Rattle.std.specs.Prelude.{IfOk};
+    ghost use Rattle.zvt_report.specs.Reports.{Finds};
+
+    /// Ends the day, and returns the report with this tally.
+    fn finish(self, tally: Tally) -> Result<Report, AllocError>
+        ensures { IfOk result (Finds self tally) }
+    {
+        let currency = self.named.agreed();
+        let books = self.day.finish()?;
+        Ok(Report {
+            tally,
+            currency,
+            books,
+            messages: self.messages,
+        })
+    }
+}
