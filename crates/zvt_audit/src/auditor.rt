@@ -70,10 +70,11 @@ impl Auditor {
     fn hear_order(&mut self, line: u64, apdu: &ApduView<'_>) -> Result<(), AllocError>
         ensures { OnOk result (Becomes self.old (on line (trace_event.message FromTill apdu.now)) self.new) }
     {
-        self.orders.notice(Direction::FromTill, apdu);
-        self.unfollowed.notice(line, apdu)?;
+        self.orders.notice(Direction::FromTill, apdu.kind());
+        let order = ordered(apdu);
+        self.unfollowed.notice(line, apdu, &order)?;
         self.named.notice(apdu.currency());
-        match ordered(apdu) {
+        match order {
             Some(order) => {
                 self.books.take(&Happening::Sent(order))?;
                 self.ends.notice(&self.books, line)
@@ -87,10 +88,11 @@ impl Auditor {
     fn hear_terminal(&mut self, line: u64, apdu: &ApduView<'_>) -> Result<(), AllocError>
         ensures { OnOk result (Becomes self.old (on line (trace_event.message FromTerminal apdu.now)) self.new) }
     {
-        self.orders.notice(Direction::FromTerminal, apdu);
+        let kind = apdu.kind();
+        self.orders.notice(Direction::FromTerminal, kind);
         self.books.hear(apdu)?;
         self.unfollowed.hear(apdu)?;
-        if can_end(apdu.kind()) {
+        if can_end(kind) {
             self.ends.notice(&self.books, line)
         } else {
             Ok(())

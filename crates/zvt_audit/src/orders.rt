@@ -1,9 +1,8 @@
 //! Records which sides of the line sent orders.
 ghost use Rattle.std.specs.Prelude.{◌≡◌, false, not, ◌&&◌};
-ghost use Rattle.zvt_audit.specs.Orders.{is_order, noticed};
-ghost use Rattle.zvt_trace.specs.TraceEvent as trace_event;
+ghost use Rattle.zvt_audit.specs.Orders.{is_order, noticed_kind};
 
-use zvt_apdu::{ApduView, Kind};
+use zvt_apdu::Kind;
 use zvt_trace::Direction;
 
 /// The sides that have sent a till's order.
@@ -24,18 +23,19 @@ impl Orders {
         }
     }
 
-    /// Records a message.
-    pub(crate) fn notice(&mut self, from: Direction, apdu: &ApduView<'_>)
-        ensures { self.new ≡ noticed self.old (trace_event.message from apdu.now) }
+    /// Records a message of this kind.
+    #[inline(always)]
+    pub(crate) fn notice(&mut self, from: Direction, kind: Kind)
+        ensures { self.new ≡ noticed_kind self.old from kind }
     {
         match from {
             Direction::FromTill => {
-                if is_order(apdu) {
+                if is_order(kind) {
                     self.till = true;
                 }
             }
             Direction::FromTerminal => {
-                if is_order(apdu) {
+                if is_order(kind) {
                     self.terminal = true;
                 }
             }
@@ -50,11 +50,12 @@ impl Orders {
     }
 }
 
-/// Whether this message of a till is an order.
-fn is_order(apdu: &ApduView<'_>) -> bool
-    ensures { result ≡ is_order apdu.now }
+/// Whether a message of this kind is an order.
+#[inline(always)]
+fn is_order(kind: Kind) -> bool
+    ensures { result ≡ is_order kind }
 {
-    match apdu.kind() {
+    match kind {
         Kind::Registration
         | Kind::Authorisation
         | Kind::Reversal

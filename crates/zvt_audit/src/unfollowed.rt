@@ -6,16 +6,16 @@ ghost use Rattle.zvt_till.specs.Hearing.{heard_as};
 ghost use Rattle.zvt_till.specs.Segments.{begun, ends, is_positive};
 ghost use Rattle.zvt_till.specs.declared.happenings.Happening.TheVariants.{Heard as HeardIn};
 ghost use Rattle.zvt_trace.specs.TraceEvent as trace_event;
+ghost use Rattle.zvt_audit.specs.Happened.{ordered};
 ghost use Rattle.zvt_trace.specs.TraceEvent.{on};
 ghost use Rattle.zvt_trace.specs.declared.direction.Direction.TheVariants.{FromTill};
 ghost use Rattle.zvt_audit.specs.Unfollowed.{Finds, FindsBy, approval_by, found_then, is_unfollowed_from};
 ghost use Rattle.zvt_audit.specs.Unfollowed.{moves_apart, pays_unknown, with_approval, with_unfollowed};
 
-use crate::happened::ordered;
 use std::alloc::{AllocError, Global};
 use zvt_apdu::{ApduView, Kind};
 use zvt_bcd::{Amount, Trace};
-use zvt_till::{Happening, Heard, Sent, heard_view};
+use zvt_till::{Happening, Heard, Sent, begun, ends, heard_view};
 
 /// What the terminal approved for an order.
 #[derive(Clone, Copy, Debug, PartialEq, Eq)]
@@ -67,11 +67,17 @@ impl Unfollowed {
         }
     }
 
-    /// Records a message of the till that ends at this line.
-    pub(crate) fn notice(&mut self, line: u64, apdu: &ApduView<'_>) -> Result<(), AllocError>
+    /// Records a message of the till that ends at this line, and that gives this order, if any.
+    pub(crate) fn notice(
+        &mut self,
+        line: u64,
+        apdu: &ApduView<'_>,
+        order: &Option<Sent>,
+    ) -> Result<(), AllocError>
+        requires { order.now ≡ ordered apdu.now }
         ensures { OnOk result (Finds self.old (on line (trace_event.message FromTill apdu.now)) self.new) }
     {
-        if is_unfollowed(apdu) {
+        if is_unfollowed(apdu, order) {
             self.settle(None)?;
             let [high, low] = apdu.control();
             let order = UnfollowedOrder {
@@ -86,8 +92,8 @@ impl Unfollowed {
             });
             return Ok(());
         }
-        match ordered(apdu) {
-            Some(order) => self.take(&Happening::Sent(order)),
+        match order {
+            Some(order) => self.take(&Happening::Sent(*order)),
             None => Ok(()),
         }
     }
@@ -162,15 +168,7 @@ impl Unfollowed {
 fn is_over(positive: bool, happening: &Happening) -> bool
     ensures { result ≡ (is_some (begun happening.now) || ends positive happening.now) }
 {
-    match happening {
-        Happening::Sent(Sent::Cancel) => false,
-        Happening::Sent(_)
-        | Happening::Heard(Heard::Completion | Heard::Abort(_))
-        | Happening::Malformed
-        | Happening::Lost => true,
-        Happening::Heard(Heard::Negative(_)) => !positive,
-        _ => false,
-    }
+    begun(happening).is_some() || ends(positive, happening)
 }
 
 /// Whether the terminal has accepted an order after this event.
@@ -196,11 +194,12 @@ fn approval_by(happening: &Happening) -> Option<Approval>
     }
 }
 
-/// Whether this message of a till moves money in a way that the books do not follow.
-fn is_unfollowed(apdu: &ApduView<'_>) -> bool
+/// Whether this message of a till, which gives this order, moves money in a way that the books do not follow.
+fn is_unfollowed(apdu: &ApduView<'_>, order: &Option<Sent>) -> bool
+    requires { order.now ≡ ordered apdu.now }
     ensures { result ≡ is_unfollowed_from FromTill apdu.now }
 {
-    moves_apart(apdu) || pays_unknown(apdu)
+    moves_apart(apdu) || pays_unknown(apdu, order)
 }
 
 /// Whether this message of a till moves money in a way that the books do not follow: a refund (06 31), or an order of a
@@ -215,15 +214,13 @@ fn moves_apart(apdu: &ApduView<'_>) -> bool
     high == 0x06 && (low == 0x31 || (low > 0x21 && low < 0x26))
 }
 
-/// Whether this message of a till is a payment whose amount is not known.
-fn pays_unknown(apdu: &ApduView<'_>) -> bool
+/// Whether this message of a till, which gives this order, is a payment whose amount is not known.
+fn pays_unknown(apdu: &ApduView<'_>, order: &Option<Sent>) -> bool
+    requires { order.now ≡ ordered apdu.now }
     ensures { result ≡ pays_unknown apdu.now }
 {
-    match apdu.kind() {
-        Kind::Authorisation => match apdu.fields() {
-            Some(fields) => fields.amount().is_none(),
-            None => true,
-        },
+    match (apdu.kind(), order) {
+        (Kind::Authorisation, Some(Sent::Foreign)) => true,
         _ => false,
     }
 }
