@@ -4,3 +4,7 @@ pub mod Judging
 pub mod Laws
 pub mod Looks
 pub mod Naming
+pub mod Places
+pub mod Words
+pub mod Kinds
+pub mod Sums

@@ -1,12 +1,18 @@
 //! The report of a day: what became of each order of a till, and the book that is left.
 #![tactic(auto)]
 
+mod books;
 mod cases;
 mod day;
+mod endings;
+mod kinds;
 pub mod laws;
 mod naming;
+mod places;
 mod rows;
+mod sums;
 
+pub use books::DayBooks;
 pub use cases::{Case, Look, Weight, looks};
 pub use day::Day;
-pub use rows::{Approval, OrderRow};
+pub use rows::{Approval, OrderMessage, OrderRow};

@@ -27,3 +27,16 @@ pub struct OrderRow {
     /// The first approval that the terminal stated before the end.
     pub approval: Option<Approval>,
 }
+
+/// What the message of an order says beside the order itself.
+#[derive(Clone, Copy, Debug, PartialEq, Eq)]
+pub struct OrderMessage {
+    /// The first control byte.
+    pub high: u8,
+    /// The second control byte.
+    pub low: u8,
+    /// The amount, if there is exactly one.
+    pub amount: Option<Amount>,
+    /// The receipt number of the payment to take back, if there is exactly one.
+    pub receipt: Option<[u8; 2]>,
+}
