@@ -6,3 +6,4 @@ pub mod MarkLemmas
 pub mod LookLemmas
 pub mod OpenLemmas
 pub mod NamingLemmas
+pub mod MemberLemmas

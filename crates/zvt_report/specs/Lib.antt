@@ -8,3 +8,4 @@ pub mod Places
 pub mod Words
 pub mod Kinds
 pub mod Sums
+pub mod Members

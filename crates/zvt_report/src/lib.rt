@@ -7,6 +7,7 @@ mod day;
 mod endings;
 mod kinds;
 pub mod laws;
+mod members;
 mod naming;
 mod places;
 mod rows;
