@@ -11,7 +11,7 @@ use Rattle.zvt_text.specs.Writing.{Adds}
 use Rattle.zvt_till.specs.Names.{cause_name}
 use Rattle.zvt_till.specs.declared.outcomes.Cause.{Cause}
 use Rattle.zvt_till.specs.declared.outcomes.Cause.TheVariants as cause
-use Rattle.zvt_report.specs.Members.{member_text, name_text, object_name, object_value, said, value_data, word_text}
+use Rattle.zvt_report.specs.Members.{member_text, name_text, object_name, object_text, object_value, said, value_data, word_text}
 use Rattle.zvt_report.specs.Words.{case_name, ending_name, weight_name}
 use Rattle.zvt_report.specs.declared.cases.Case.{Case}
 use Rattle.zvt_report.specs.declared.cases.Case.TheVariants as case_of
@@ -169,3 +169,9 @@ object_line (Ok done) old a b c d new o members first second third fourth fifth 
     fifth ∙ ap (λ (l : List ℕ). l ++ codes "}\n") three ∙ append_assoc old (codes "{\"" ++ object_name o ++ codes "\":{" ++ members_text false (said members)) (codes "}\n")
     ∙ ap (λ (l : List ℕ). old ++ l) (object_said o members)
 object_line (Err refused) old a b c d new o members first second third fourth fifth = tt
+
+-- an object is written with members that are the same
+pub members_same : (r : Result (Unit {0}) AllocError) (old new : List ℕ) (o : Object) (written meant : List (Option Member))
+    → written ≡ meant → OnOk r (new ≡ old ++ object_text o written) → OnOk r (new ≡ old ++ object_text o meant)
+members_same (Ok done) old new o written meant same adds = adds ∙ ap (λ (l : List (Option Member)). old ++ object_text o l) same
+members_same (Err refused) old new o written meant same adds = tt

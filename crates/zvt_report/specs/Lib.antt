@@ -9,3 +9,4 @@ pub mod Words
 pub mod Kinds
 pub mod Sums
 pub mod Members
+pub mod Objects

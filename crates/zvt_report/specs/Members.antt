@@ -93,6 +93,10 @@ said (Some m ∷ members) = member (name_text m.name) (value_data m.value) (said
 abbrev pub object_value : Object → List (Option Member) → Data
 object_value o members = object (member (object_name o) (object (said members)) no_members)
 
+-- the line of an object
+unfoldable pub object_text : Object → List (Option Member) → List ℕ
+object_text o members = line_text (object_value o members)
+
 -- ---- the same texts, as they are written
 
 abbrev pub member_text : (later : Bool) → Member → List ℕ
@@ -103,17 +107,17 @@ member_text later m = comma_if later ++ ((34 ∷ name_text m.name ++ 34 ∷ 58 �
 abbrev of : Name → Value → Option Member
 of n v = Some (record { name = n; value = v })
 
-two_members : line_text (object_value object_of.Payment (of name.Amount (value.Count 1234) ∷ None ∷ of name.Cause (value.Word (word.Cause NoStatus)) ∷ []))
+two_members : object_text object_of.Payment (of name.Amount (value.Count 1234) ∷ None ∷ of name.Cause (value.Word (word.Cause NoStatus)) ∷ [])
     ≡ codes "{\"payment\":{\"amount\":1234,\"cause\":\"NoStatus\"}}\n"
-unfolding digits escape_byte
+unfolding object_text digits escape_byte
 two_members = refl
 
 -- the first member may be left out
-no_first : line_text (object_value object_of.Order (None ∷ of name.Code (value.Byte 0x6C) ∷ of name.Control (value.Bytes (0x06 ∷ 0x31 ∷ [])) ∷ of name.Lines (value.Lines 4 10) ∷ []))
+no_first : object_text object_of.Order (None ∷ of name.Code (value.Byte 0x6C) ∷ of name.Control (value.Bytes (0x06 ∷ 0x31 ∷ [])) ∷ of name.Lines (value.Lines 4 10) ∷ [])
     ≡ codes "{\"order\":{\"code\":\"6C\",\"control\":\"0631\",\"lines\":[4,10]}}\n"
-unfolding digits escape_byte encode_with
+unfolding object_text digits escape_byte encode_with
 no_first = refl
 
-no_member : line_text (object_value object_of.Close (None ∷ [])) ≡ codes "{\"close\":{}}\n"
-unfolding escape_byte
+no_member : object_text object_of.Close (None ∷ []) ≡ codes "{\"close\":{}}\n"
+unfolding object_text escape_byte
 no_member = refl

@@ -2,9 +2,9 @@
 ghost use Rattle.std.specs.Prelude.{◌≡◌, ◌++◌, ◌∷◌, [], false, OnOk};
 ghost use Rattle.serde_json.specs.Data.{string};
 ghost use Rattle.serde_json.specs.Written.{comma_if, compact_text, members_text};
-ghost use Rattle.zvt_json.specs.Strings.{hex_value, line_text};
+ghost use Rattle.zvt_json.specs.Strings.{hex_value};
 ghost use Rattle.zvt_text.specs.MessageTexts.{four_digits};
-ghost use Rattle.zvt_report.specs.Members.{lines_value, member_text, name_text, object_value, said, value_data, word_text};
+ghost use Rattle.zvt_report.specs.Members.{lines_value, member_text, name_text, object_text, said, value_data, word_text};
 
 use crate::cases::{Case, Weight};
 use crate::endings::Ending;
@@ -186,7 +186,7 @@ pub(crate) fn write_object(
     object: Object,
     members: &[Option<Member>],
 ) -> Result<(), AllocError>
-    ensures { OnOk result (text.new ≡ text.old ++ line_text (object_value object members.now)) }
+    ensures { OnOk result (text.new ≡ text.old ++ object_text object members.now) }
 {
     text.word(b"{\"")?;
     text.word(object.name().as_bytes())?;

@@ -1,7 +1,7 @@
 //! The numbers of orders and payments, and the entries of the book that they booked or take back.
 //!
 //! The rows are gone through from the first one, with the counts so far.
-ghost use Rattle.std.specs.Prelude.{◌≡◌, ◌+◌, ◌<◌, ◌^◌};
+ghost use Rattle.std.specs.Prelude.{◌≡◌, ◌+◌, ◌<◌, ◌≤◌, ◌^◌, length};
 ghost use Rattle.std.specs.List.{position};
 ghost use Rattle.zvt_report.specs.Places.{books_as, entries_by, entry_by, payment_by, payment_of, payments_by, payments_in};
 ghost use Rattle.zvt_report.specs.Places.{reversed_by, takes_back};
@@ -112,7 +112,8 @@ fn entries_by(order: &Sent, outcome: &Outcome) -> usize
 
 /// Returns the number of payments among these rows.
 pub(crate) fn payments_in(rows: &[OrderRow]) -> usize
-    ensures { result ≡ payments_in rows.now }
+    ensures value { result ≡ payments_in rows.now }
+    ensures bound { result ≤ length rows.now }
 {
     let mut count = 0;
     for row in rows {
