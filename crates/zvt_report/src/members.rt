@@ -4,7 +4,8 @@ ghost use Rattle.serde_json.specs.Data.{string};
 ghost use Rattle.serde_json.specs.Written.{comma_if, compact_text, members_text};
 ghost use Rattle.zvt_json.specs.Strings.{hex_value};
 ghost use Rattle.zvt_text.specs.MessageTexts.{four_digits};
-ghost use Rattle.zvt_report.specs.Members.{lines_value, member_text, name_text, object_text, said, value_data, word_text};
+ghost use Rattle.zvt_report.specs.Members.{lines_value, member_text, name_text, object_text, said, value_data};
+ghost use Rattle.zvt_report.specs.Members.{word_text};
 
 use crate::cases::{Case, Weight};
 use crate::endings::Ending;

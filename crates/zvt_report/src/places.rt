@@ -3,7 +3,8 @@
 //! The rows are gone through from the first one, with the counts so far.
 ghost use Rattle.std.specs.Prelude.{◌≡◌, ◌+◌, ◌<◌, ◌≤◌, ◌^◌, length};
 ghost use Rattle.std.specs.List.{position};
-ghost use Rattle.zvt_report.specs.Places.{books_as, entries_by, entry_by, payment_by, payment_of, payments_by, payments_in};
+ghost use Rattle.zvt_report.specs.Places.{books_as, entries_by, entry_by, payment_by, payment_of, payments_by};
+ghost use Rattle.zvt_report.specs.Places.{payments_in};
 ghost use Rattle.zvt_report.specs.Places.{reversed_by, takes_back};
 
 use crate::rows::OrderRow;
