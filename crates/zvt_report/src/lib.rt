@@ -4,13 +4,21 @@
 mod books;
 mod cases;
 mod day;
+mod endings;
+mod kinds;
 pub mod laws;
+mod members;
 mod naming;
+pub mod objects;
+mod order_objects;
 mod ordering;
+mod parts;
+mod places;
 mod report;
 mod reporter;
 mod rows;
 mod said;
+mod sums;
 
 pub use books::DayBooks;
 pub use cases::{Case, Look, Weight, looks};

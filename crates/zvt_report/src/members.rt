@@ -1,0 +1,294 @@
+//! The members of the objects of a report, and how they are written.
+ghost use Rattle.std.specs.Prelude.{◌≡◌, ◌++◌, ◌∷◌, [], false, OnOk};
+ghost use Rattle.serde_json.specs.Data.{string};
+ghost use Rattle.serde_json.specs.Written.{comma_if, compact_text, members_text};
+ghost use Rattle.zvt_json.specs.Strings.{hex_value};
+ghost use Rattle.zvt_text.specs.MessageTexts.{four_digits};
+ghost use Rattle.zvt_report.specs.Members.{lines_value, member_text, name_text, object_text, said, value_data};
+ghost use Rattle.zvt_report.specs.Members.{word_text};
+
+use crate::cases::{Case, Weight};
+use crate::endings::Ending;
+use std::alloc::AllocError;
+use zvt_bcd::Currency;
+use zvt_text::{Text, command_name, meaning};
+use zvt_till::Cause;
+
+/// The object of a line.
+#[derive(Clone, Copy, Debug, PartialEq, Eq)]
+pub(crate) enum Object {
+    Close,
+    Look,
+    Order,
+    Other,
+    Payment,
+    Reversal,
+    Summary,
+}
+
+impl Object {
+    ghost use Rattle.std.specs.Prelude.{◌≡◌};
+    ghost use Rattle.zvt_report.specs.Members.{object_name};
+
+    /// Returns the name of the object.
+    fn name(self) -> &'static str
+        ensures { result.now ≡ object_name self }
+    {
+        match self {
+            Object::Close => "close",
+            Object::Look => "look",
+            Object::Order => "order",
+            Object::Other => "other",
+            Object::Payment => "payment",
+            Object::Reversal => "reversal",
+            Object::Summary => "summary",
+        }
+    }
+}
+
+/// The name of a member.
+#[derive(Clone, Copy, Debug, PartialEq, Eq)]
+pub(crate) enum Name {
+    Again,
+    Amount,
+    Approved,
+    Bad,
+    Booked,
+    Case,
+    Cause,
+    Code,
+    Control,
+    Currency,
+    Lines,
+    Looks,
+    Messages,
+    Name,
+    Net,
+    Order,
+    Others,
+    Outcome,
+    Payment,
+    Receipt,
+    ReversalUnclear,
+    ReversalsUnclear,
+    Reversed,
+    ReversedBy,
+    TakenBack,
+    Total,
+    Trace,
+    Unclear,
+    UnclearAmount,
+    Weight,
+    Words,
+}
+
+impl Name {
+    ghost use Rattle.std.specs.Prelude.{◌≡◌};
+    ghost use Rattle.zvt_report.specs.Members.{name_text};
+
+    /// Returns the name.
+    fn text(self) -> &'static str
+        ensures { result.now ≡ name_text self }
+    {
+        match self {
+            Name::Again => "again",
+            Name::Amount => "amount",
+            Name::Approved => "approved",
+            Name::Bad => "bad",
+            Name::Booked => "booked",
+            Name::Case => "case",
+            Name::Cause => "cause",
+            Name::Code => "code",
+            Name::Control => "control",
+            Name::Currency => "currency",
+            Name::Lines => "lines",
+            Name::Looks => "looks",
+            Name::Messages => "messages",
+            Name::Name => "name",
+            Name::Net => "net",
+            Name::Order => "order",
+            Name::Others => "others",
+            Name::Outcome => "outcome",
+            Name::Payment => "payment",
+            Name::Receipt => "receipt",
+            Name::ReversalUnclear => "reversal_unclear",
+            Name::ReversalsUnclear => "reversals_unclear",
+            Name::Reversed => "reversed",
+            Name::ReversedBy => "reversed_by",
+            Name::TakenBack => "taken_back",
+            Name::Total => "total",
+            Name::Trace => "trace",
+            Name::Unclear => "unclear",
+            Name::UnclearAmount => "unclear_amount",
+            Name::Weight => "weight",
+            Name::Words => "words",
+        }
+    }
+}
+
+/// A word of a closed list.
+#[derive(Clone, Copy, Debug, PartialEq, Eq)]
+pub(crate) enum Word {
+    Case(Case),
+    Weight(Weight),
+    Cause(Cause),
+    Ending(Ending),
+    /// What this result code means, or no text if it is not listed.
+    Meaning(u8),
+    /// The name of the command with these control bytes, or no text if it has none.
+    Command(u8, u8),
+}
+
+impl Word {
+    ghost use Rattle.std.specs.Prelude.{◌≡◌};
+    ghost use Rattle.zvt_report.specs.Members.{word_text};
+
+    /// Returns the word. JSON escapes none of its characters.
+    fn text(self) -> &'static str
+        ensures { result.now ≡ word_text self }
+    {
+        match self {
+            Word::Case(case) => case.name(),
+            Word::Weight(weight) => weight.name(),
+            Word::Cause(cause) => cause.name(),
+            Word::Ending(ending) => ending.name(),
+            Word::Meaning(code) => meaning(code).unwrap_or(""),
+            Word::Command(high, low) => command_name(high, low).unwrap_or(""),
+        }
+    }
+}
+
+/// The value of a member.
+#[derive(Clone, Copy, Debug, PartialEq, Eq)]
+pub(crate) enum Value {
+    True,
+    /// A number, or an amount in the smallest unit of the currency.
+    Count(u128),
+    /// The first and the last line of an order.
+    Lines(u64, u64),
+    /// A byte in hexadecimal.
+    Byte(u8),
+    /// Two bytes in hexadecimal.
+    Bytes([u8; 2]),
+    Currency(Currency),
+    Word(Word),
+}
+
+/// A member of an object.
+#[derive(Clone, Copy, Debug, PartialEq, Eq)]
+pub(crate) struct Member {
+    pub(crate) name: Name,
+    pub(crate) value: Value,
+}
+
+/// Writes the line of an object with those of these members that have a value.
+pub(crate) fn write_object(
+    text: &mut Text,
+    object: Object,
+    members: &[Option<Member>],
+) -> Result<(), AllocError>
+    ensures { OnOk result (text.new ≡ text.old ++ object_text object members.now) }
+{
+    text.word(b"{\"")?;
+    text.word(object.name().as_bytes())?;
+    text.word(b"\":{")?;
+    write_members(text, members)?;
+    text.word(b"}\n")
+}
+
+/// Writes the members of an object that have a value, and the end of the object.
+fn write_members(text: &mut Text, members: &[Option<Member>]) -> Result<(), AllocError>
+    ensures { OnOk result (text.new ≡ text.old ++ members_text false (said members.now)) }
+{
+    let mut later = false;
+    let mut rest = members;
+    'members: while let [first, after @ ..] = rest {
+        if let Some(member) = first {
+            write_member(text, later, member)?;
+            later = true;
+        }
+        rest = after;
+    }
+    text.push(b'}')
+}
+
+/// Writes a member, with a comma before it if there is an earlier one.
+fn write_member(text: &mut Text, later: bool, member: &Member) -> Result<(), AllocError>
+    ensures { OnOk result (text.new ≡ text.old ++ member_text later member.now) }
+{
+    write_comma(text, later)?;
+    write_name(text, member.name)?;
+    write_value(text, &member.value)
+}
+
+/// Writes a comma if there is an earlier member.
+fn write_comma(text: &mut Text, later: bool) -> Result<(), AllocError>
+    ensures { OnOk result (text.new ≡ text.old ++ comma_if later) }
+{
+    if later {
+        return text.push(b',');
+    }
+    Ok(())
+}
+
+/// Writes the name of a member and a colon.
+fn write_name(text: &mut Text, name: Name) -> Result<(), AllocError>
+    ensures { OnOk result (text.new ≡ text.old ++ 34 ∷ name_text name ++ 34 ∷ 58 ∷ []) }
+{
+    text.push(b'"')?;
+    text.word(name.text().as_bytes())?;
+    text.word(b"\":")
+}
+
+/// Writes a value.
+fn write_value(text: &mut Text, value: &Value) -> Result<(), AllocError>
+    ensures { OnOk result (text.new ≡ text.old ++ compact_text (value_data value.now)) }
+{
+    match value {
+        Value::True => text.word(b"true"),
+        Value::Count(number) => text.number(*number),
+        Value::Lines(first, last) => write_lines(text, *first, *last),
+        Value::Byte(byte) => write_bytes(text, &[*byte]),
+        Value::Bytes(bytes) => write_bytes(text, bytes.as_slice()),
+        Value::Currency(currency) => write_currency(text, *currency),
+        Value::Word(word) => write_word(text, *word),
+    }
+}
+
+/// Writes two lines as an array.
+fn write_lines(text: &mut Text, first: u64, last: u64) -> Result<(), AllocError>
+    ensures { OnOk result (text.new ≡ text.old ++ compact_text (lines_value first last)) }
+{
+    text.push(b'[')?;
+    text.number(first)?;
+    text.push(b',')?;
+    text.number(last)?;
+    text.push(b']')
+}
+
+/// Writes bytes in hexadecimal, between quotation marks.
+fn write_bytes(text: &mut Text, bytes: &[u8]) -> Result<(), AllocError>
+    ensures { OnOk result (text.new ≡ text.old ++ compact_text (hex_value bytes.now)) }
+{
+    text.push(b'"')?;
+    zvt_text::hexadecimal(text, bytes)?;
+    text.push(b'"')
+}
+
+/// Writes the digits of a currency, between quotation marks.
+fn write_currency(text: &mut Text, currency: Currency) -> Result<(), AllocError>
+    ensures { OnOk result (text.new ≡ text.old ++ compact_text (string (four_digits currency))) }
+{
+    text.push(b'"')?;
+    zvt_text::currency_digits(text, currency)?;
+    text.push(b'"')
+}
+
+/// Writes a word between quotation marks.
+fn write_word(text: &mut Text, word: Word) -> Result<(), AllocError>
+    ensures { OnOk result (text.new ≡ text.old ++ compact_text (string (word_text word))) }
+{
+    text.push(b'"')?;
+    text.word(word.text().as_bytes())?;
+    text.push(b'"')
+}

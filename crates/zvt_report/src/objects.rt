@@ -1,0 +1,232 @@
+//! The report of a trace as JSON objects, one per line.
+ghost use Rattle.std.specs.Prelude.{◌≡◌, ◌++◌, ◌<◌, ◌^◌, OnOk, length};
+ghost use Rattle.zvt_report.specs.Members.{object_text};
+ghost use Rattle.zvt_report.specs.Objects.{again, look_line, look_members, looks_json, message_at};
+ghost use Rattle.zvt_report.specs.Objects.{one_if_other, order_line, others_from, payment_at, report_json};
+ghost use Rattle.zvt_report.specs.Objects.{row_line, rows_json, summary_line};
+ghost use Rattle.zvt_report.specs.Places.{no_counts};
+ghost use Rattle.zvt_report.specs.declared.members.Object.TheVariants as object_of;
+
+use crate::books::DayBooks;
+use crate::cases::Look;
+use crate::kinds::{OrderKind, kind_of};
+use crate::members::{Member, Name, Object, Value, Word, write_object};
+use crate::order_objects::{close, other, payment, plain, reversal};
+use crate::parts::{cause_of, count, lines, maybe_cause, maybe_count, maybe_currency, said_as};
+use crate::places::{Counts, Place, payments_in};
+use crate::rows::{OrderMessage, OrderRow};
+use crate::sums::{booked_total, net_total, reversed_count, unclear_reversals, unclear_total};
+use std::alloc::AllocError;
+use zvt_bcd::Currency;
+use zvt_text::Text;
+use zvt_till::Sent;
+use zvt_trace::Tally;
+
+/// Writes an object for the whole trace, then one per order that a person should look at, and then one per order.
+/// `messages` has the message of each order.
+pub fn write(
+    text: &mut Text,
+    tally: Tally,
+    currency: Option<Currency>,
+    books: &DayBooks,
+    messages: &[OrderMessage],
+    looks: &[Look],
+) -> Result<(), AllocError>
+    ensures { OnOk result (text.new ≡ text.old ++ report_json tally currency books.now messages.now looks.now) }
+{
+    summary(text, tally, currency, books, messages, looks)?;
+    look_rows(text, books.orders.as_slice(), looks)?;
+    order_rows(text, books, messages)
+}
+
+/// Writes the object of the whole trace.
+fn summary(
+    text: &mut Text,
+    tally: Tally,
+    currency: Option<Currency>,
+    books: &DayBooks,
+    messages: &[OrderMessage],
+    looks: &[Look],
+) -> Result<(), AllocError>
+    ensures { OnOk result (text.new ≡ text.old ++ summary_line tally currency books.now messages.now looks.now) }
+{
+    let book = books.book.as_slice();
+    let unclear = books.unclear.as_slice();
+    let members = [
+        count(Name::Bad, tally.bad),
+        count(Name::Booked, book.len() as u64),
+        maybe_currency(currency),
+        count(Name::Looks, looks.len() as u64),
+        count(Name::Messages, tally.messages),
+        said_as(Name::Net, Value::Count(net_total(book))),
+        count(
+            Name::Others,
+            others(books.orders.as_slice(), messages) as u64,
+        ),
+        count(Name::ReversalsUnclear, unclear_reversals(book) as u64),
+        count(Name::Reversed, reversed_count(book) as u64),
+        said_as(Name::Total, Value::Count(booked_total(book))),
+        count(Name::Unclear, unclear.len() as u64),
+        said_as(Name::UnclearAmount, Value::Count(unclear_total(unclear))),
+    ];
+    write_object(text, Object::Summary, &members)
+}
+
+/// Returns the message of the order at this place. An order without a message has one without control bytes.
+fn message_at(messages: &[OrderMessage], place: usize) -> OrderMessage
+    ensures { result ≡ message_at messages.now place }
+{
+    match messages.get(place) {
+        Some(message) => *message,
+        None => OrderMessage {
+            high: 0,
+            low: 0,
+            amount: None,
+            receipt: None,
+        },
+    }
+}
+
+/// Returns 1 for an order that moves money and that the book does not follow, and 0 for another one.
+fn one_if_other(kind: OrderKind) -> usize
+    ensures { result ≡ one_if_other kind }
+{
+    match kind {
+        OrderKind::OtherMoney => 1,
+        _ => 0,
+    }
+}
+
+/// Returns the number of orders that move money and that the book does not follow.
+fn others(rows: &[OrderRow], messages: &[OrderMessage]) -> usize
+    ensures { result ≡ others_from messages.now 0 rows.now }
+{
+    let mut found = 0;
+    let mut place = 0;
+    let mut rest = rows;
+    'rows: while let [row, later @ ..] = rest {
+        let message = message_at(messages, place);
+        found += one_if_other(kind_of(&row.order, message.high, message.low));
+        place += 1;
+        rest = later;
+    }
+    found
+}
+
+/// Writes one object per look.
+fn look_rows(text: &mut Text, rows: &[OrderRow], looks: &[Look]) -> Result<(), AllocError>
+    ensures { OnOk result (text.new ≡ text.old ++ looks_json rows.now looks.now) }
+{
+    for look in looks {
+        look_row(text, rows, look)?;
+    }
+    Ok(())
+}
+
+/// Writes the object of a look at one of these rows.
+fn look_row(text: &mut Text, rows: &[OrderRow], look: &Look) -> Result<(), AllocError>
+    ensures { OnOk result (text.new ≡ text.old ++ look_line rows.now look.now) }
+{
+    match rows.get(look.order) {
+        Some(row) => write_look(text, rows, look, row),
+        None => Ok(()),
+    }
+}
+
+/// Writes the object of a look at this row.
+fn write_look(
+    text: &mut Text,
+    rows: &[OrderRow],
+    look: &Look,
+    row: &OrderRow,
+) -> Result<(), AllocError>
+    requires { look.now.order < length rows.now }
+    ensures { OnOk result (text.new ≡ text.old ++ object_text object_of.Look
+        (look_members rows.now look.now row.now)) }
+{
+    let members = [
+        again(look.again),
+        said_as(Name::Case, Value::Word(Word::Case(look.case))),
+        maybe_cause(Name::Cause, cause_of(&row.outcome)),
+        lines(row),
+        count(Name::Order, look.order as u64 + 1),
+        maybe_count(Name::Payment, payment_at(look.order, rows, &row.order)),
+        said_as(Name::Weight, Value::Word(Word::Weight(look.case.weight()))),
+    ];
+    write_object(text, Object::Look, &members)
+}
+
+/// Returns the member of the order that paid the same amount again, if there is one.
+fn again(place: Option<usize>) -> Option<Member>
+    ensures { result ≡ again place }
+{
+    said_as(Name::Again, Value::Count(u128::from(place? as u64) + 1))
+}
+
+/// Returns the number of the payment at this place, if the order there is one.
+fn payment_at(place: usize, rows: &[OrderRow], order: &Sent) -> Option<usize>
+    requires { place < length rows.now }
+    ensures { result ≡ payment_at place rows.now order.now }
+{
+    match order {
+        Sent::Pay(_) => Some(payments_in(&rows[..place]) + 1),
+        _ => None,
+    }
+}
+
+/// Writes one object per order.
+fn order_rows(
+    text: &mut Text,
+    books: &DayBooks,
+    messages: &[OrderMessage],
+) -> Result<(), AllocError>
+    ensures { OnOk result (text.new ≡ text.old ++ rows_json books.now messages.now no_counts books.now.orders) }
+{
+    let mut counts = Counts::none();
+    let mut rest = books.orders.as_slice();
+    'rows: while let [row, later @ ..] = rest {
+        let message = message_at(messages, counts.orders);
+        write_row(text, books, &counts.place(row), row, &message)?;
+        counts = counts.after(row);
+        rest = later;
+    }
+    Ok(())
+}
+
+/// Writes the object of an order.
+fn write_row(
+    text: &mut Text,
+    books: &DayBooks,
+    place: &Place,
+    row: &OrderRow,
+    message: &OrderMessage,
+) -> Result<(), AllocError>
+    ensures { OnOk result (text.new ≡ text.old ++ row_line books.now place.now row.now message.now) }
+{
+    match &row.order {
+        Sent::Pay(amount) => payment(text, books, place, row, *amount),
+        order => {
+            let kind = kind_of(order, message.high, message.low);
+            write_order(text, kind, books, place, row, message)
+        }
+    }
+}
+
+/// Writes the object of an order that is no payment.
+fn write_order(
+    text: &mut Text,
+    kind: OrderKind,
+    books: &DayBooks,
+    place: &Place,
+    row: &OrderRow,
+    message: &OrderMessage,
+) -> Result<(), AllocError>
+    ensures { OnOk result (text.new ≡ text.old ++ order_line kind books.now place.now row.now message.now) }
+{
+    match kind {
+        OrderKind::Reversal => reversal(text, books, place, row, message),
+        OrderKind::OtherMoney => other(text, place, row, message),
+        OrderKind::Close => close(text, place, row),
+        OrderKind::Payment | OrderKind::Plain => plain(text, place, row, message),
+    }
+}
