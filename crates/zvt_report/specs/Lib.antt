@@ -10,3 +10,7 @@ pub mod Kinds
 pub mod Sums
 pub mod Members
 pub mod Objects
+pub mod Amounts
+pub mod Columns
+pub mod Currencies
+pub mod Summary

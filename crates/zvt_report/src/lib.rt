@@ -1,8 +1,11 @@
 //! The report of a day: what became of each order of a till, and the book that is left.
 #![tactic(auto)]
 
+mod amounts;
 mod books;
 mod cases;
+mod columns;
+mod currencies;
 mod day;
 mod endings;
 mod kinds;
@@ -14,6 +17,7 @@ mod order_objects;
 mod parts;
 mod places;
 mod rows;
+mod summary;
 mod sums;
 
 pub use books::DayBooks;
