@@ -13,4 +13,6 @@ pub mod Objects
 pub mod Amounts
 pub mod Columns
 pub mod Currencies
+pub mod Phrases
+pub mod Sentences
 pub mod Summary

@@ -15,8 +15,10 @@ mod naming;
 pub mod objects;
 mod order_objects;
 mod parts;
+mod phrases;
 mod places;
 mod rows;
+mod sentences;
 mod summary;
 mod sums;
 
