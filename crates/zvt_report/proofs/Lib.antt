@@ -10,3 +10,4 @@ pub mod SaidLemmas
 pub mod ReporterLemmas
 pub mod ReportedLemmas
 pub mod MemberLemmas
+pub mod TextLemmas

@@ -13,3 +13,9 @@ pub mod Kinds
 pub mod Sums
 pub mod Members
 pub mod Objects
+pub mod Amounts
+pub mod Columns
+pub mod Currencies
+pub mod Phrases
+pub mod Sentences
+pub mod Summary

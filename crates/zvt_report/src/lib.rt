@@ -1,8 +1,11 @@
 //! The report of a day: what became of each order of a till, and the book that is left.
 #![tactic(auto)]
 
+mod amounts;
 mod books;
 mod cases;
+mod columns;
+mod currencies;
 mod day;
 mod endings;
 mod kinds;
@@ -13,11 +16,14 @@ pub mod objects;
 mod order_objects;
 mod ordering;
 mod parts;
+mod phrases;
 mod places;
 mod report;
 mod reporter;
 mod rows;
 mod said;
+mod sentences;
+mod summary;
 mod sums;
 
 pub use books::DayBooks;

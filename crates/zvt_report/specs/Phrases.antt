@@ -1,0 +1,99 @@
+-- The parts of sentences about an order.
+use Rattle.std.specs.Prelude.{ℕ, Bool, true, false, List, [], ◌++◌, codes, Option, Some, None, option_map}
+use Rattle.std.specs.Fmt.{decimal}
+use Rattle.hex.specs.Hex.{encode_upper}
+use Rattle.zvt_text.specs.Numbers.{zero_padded}
+use Rattle.zvt_text.specs.Results.{result_words}
+use Rattle.zvt_till.specs.Names.{cause_words}
+use Rattle.zvt_till.specs.declared.entries.Entry.{Entry}
+use Rattle.zvt_till.specs.declared.happenings.Sent.{Sent}
+use Rattle.zvt_till.specs.declared.happenings.Sent.TheVariants.{Register, Pay, Reverse, CloseDay, Cancel, Foreign}
+use Rattle.zvt_till.specs.declared.outcomes.Outcome.{Outcome}
+use Rattle.zvt_till.specs.declared.outcomes.Outcome.TheVariants.{Registered, Paid, Declined, Refused, Aborted, Unclear, Reversed, DayClosed}
+use Rattle.zvt_report.specs.Amounts.{amount_text}
+use Rattle.zvt_report.specs.declared.currencies.Decimals.{Decimals}
+use Rattle.zvt_report.specs.declared.rows.Approval.{Approval}
+use Rattle.zvt_report.specs.declared.rows.OrderRow.{OrderRow}
+
+-- the amount of a payment, or of the payment that a reversal takes back
+abbrev pub amount_of : Option Entry → Sent → Option ℕ
+amount_of entry (Register c) = None
+amount_of entry (Pay amount) = Some amount
+amount_of entry (Reverse e) = option_map (λ (paid : Entry). paid.amount) entry
+amount_of entry CloseDay = None
+amount_of entry Cancel = None
+amount_of entry Foreign = None
+
+unfoldable pub amount_or_dash : Decimals → Option ℕ → List ℕ
+amount_or_dash decimals None = codes "-"
+amount_or_dash decimals (Some amount) = amount_text decimals amount
+
+abbrev pub trace_part : Option ℕ → List ℕ
+trace_part None = []
+trace_part (Some trace) = codes ", trace " ++ zero_padded 6 trace
+
+abbrev pub receipt_part : Option (List ℕ) → List ℕ
+receipt_part None = []
+receipt_part (Some receipt) = codes ", receipt " ++ encode_upper receipt
+
+-- where it stands, and its numbers
+abbrev pub numbers_part : (line : ℕ) → Option ℕ → Option (List ℕ) → List ℕ
+numbers_part line trace receipt = codes " (line " ++ decimal line ++ trace_part trace ++ receipt_part receipt ++ codes ")"
+
+abbrev pub approved_amount : Option Approval → Option ℕ
+approved_amount approval = option_map (λ (a : Approval). a.amount) approval
+
+unfoldable pub approval_part : Option Approval → List ℕ
+approval_part None = []
+approval_part (Some a) = numbers_part a.line a.trace a.receipt
+
+-- the receipt number of a payment to look for
+abbrev pub receipt_name : Option (List ℕ) → List ℕ
+receipt_name None = codes "this payment"
+receipt_name (Some receipt) = codes "receipt " ++ encode_upper receipt
+
+unfoldable pub approved_receipt : Option Approval → List ℕ
+approved_receipt None = codes "this payment"
+approved_receipt (Some a) = receipt_name a.receipt
+
+unfoldable pub entry_part : Option Entry → List ℕ
+entry_part None = []
+entry_part (Some entry) = codes " (" ++ receipt_name entry.receipt ++ codes ")"
+
+-- why an order is unclear, or with which result it was not done
+unfoldable pub reason : Outcome → List ℕ
+reason Registered = []
+reason (Paid trace receipt) = []
+reason (Declined code) = result_words code
+reason (Refused code) = result_words code
+reason (Aborted code) = result_words code
+reason (Unclear cause) = cause_words cause
+reason Reversed = []
+reason DayClosed = []
+
+unfoldable pub twice_part : Option OrderRow → List ℕ
+twice_part None = []
+twice_part (Some again) = codes " twice"
+
+-- the numbers of a payment that was booked
+abbrev pub paid_numbers : Outcome → Option (ℕ × Option (List ℕ))
+paid_numbers (Paid trace receipt) = Some (trace, receipt)
+paid_numbers _ = None
+
+unfoldable pub paid_again_by : Decimals → (line : ℕ) → Option ℕ → Option (ℕ × Option (List ℕ)) → List ℕ
+paid_again_by decimals line amount None = codes " A later payment of " ++ amount_or_dash decimals amount ++ codes " (line " ++ decimal line ++ codes ") is unclear, too."
+paid_again_by decimals line amount (Some numbers) =
+    codes " Then " ++ amount_or_dash decimals amount ++ codes " was paid again" ++ numbers_part line (Some numbers.0) numbers.1 ++ codes "."
+
+-- a later payment of the same amount
+unfoldable pub again_part : Decimals → Option ℕ → Option OrderRow → List ℕ
+again_part decimals amount None = []
+again_part decimals amount (Some again) = paid_again_by decimals again.first amount (paid_numbers again.outcome)
+
+abbrev pub total_part : Bool → List ℕ
+total_part true = codes " The net total does not count the payment."
+total_part false = codes " The net total still counts the payment."
+
+unfoldable pub counted_part : Option Entry → List ℕ
+counted_part None = []
+counted_part (Some entry) = total_part entry.reversed
