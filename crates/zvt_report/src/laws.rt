@@ -1,4 +1,4 @@
-//! Laws of every day, each stated as the contract of an empty function.
+//! Laws of every day and of every report, each stated as the contract of an empty function.
 ghost use Rattle.zvt_report.specs.Laws.{DoubtsAreLeftOpen, EachOrderHasARow, SameBooks, SameMarks, SumsMakeBooked};
 ghost use Rattle.zvt_report.specs.Looks.{EachPaymentIsLookedAt, EachReversalIsLookedAt};
 ghost use Rattle.zvt_report.specs.Naming.{ReversalsNameEntries};
@@ -48,13 +48,13 @@ pub fn reversals_name_entries()
     ensures { ReversalsNameEntries }
 {}
 
-/// A report has the payments of the audit of the same trace, booked and unclear. Only a reversal differs: a report knows
-/// which payment it takes back.
+/// A report has the same payments, booked and unclear, as the audit of its trace. Only the report knows which payment a
+/// reversal takes back.
 pub fn same_books_as_audit()
     ensures { SameBooksAsAudit }
 {}
 
-/// A report has the message of each order.
+/// A report has a message for each order.
 pub fn each_order_has_a_message()
     ensures { EachOrderHasAMessage }
 {}
