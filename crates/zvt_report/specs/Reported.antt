@@ -103,9 +103,16 @@ beginnings events = flat_map (λ (event : At). beginning_in event.trace_event) e
 abbrev pub SameBooksAsAudit : Type 0
 SameBooksAsAudit = (events : List At) → books (happenings (reported events)) ≡ books (log_of events)
 
--- There is a message for each row.
+-- the lines of the messages that begin an order
+abbrev pub beginning_lines : List At → List ℕ
+beginning_lines events = flat_map (λ (event : At). map (λ (m : Message). event.line) (beginning_in event.trace_event)) events
+
+-- There is a message for each row, and it ends at the line at which the row begins.
 abbrev pub EachOrderHasAMessage : Type 0
-EachOrderHasAMessage = (events : List At) → length (beginnings events) ≡ length (day_of (reported events)).orders
+EachOrderHasAMessage =
+    (events : List At)
+    → (length (beginnings events) ≡ length (day_of (reported events)).orders)
+    × (beginning_lines events ≡ map (λ (row : OrderRow). row.first) (day_of (reported events)).orders)
 
 -- ---- rows worked by hand
 

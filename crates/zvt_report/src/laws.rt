@@ -54,7 +54,7 @@ pub fn same_books_as_audit()
     ensures { SameBooksAsAudit }
 {}
 
-/// A report has a message for each order.
+/// A report has a message for each row of an order, in the same order: each row begins at the line of its message.
 pub fn each_order_has_a_message()
     ensures { EachOrderHasAMessage }
 {}
