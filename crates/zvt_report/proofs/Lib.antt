@@ -9,3 +9,4 @@ pub mod NamingLemmas
 pub mod SaidLemmas
 pub mod ReporterLemmas
 pub mod ReportedLemmas
+pub mod EntryLemmas

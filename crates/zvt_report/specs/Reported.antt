@@ -17,8 +17,9 @@ use Rattle.zvt_trace.specs.TraceEvent as trace_event
 use Rattle.zvt_trace.specs.declared.direction.Direction.{Direction}
 use Rattle.zvt_trace.specs.declared.direction.Direction.TheVariants.{FromTill, FromTerminal}
 use Rattle.zvt_audit.specs.Happened.{happened, happenings_of, log_of, ordered}
-use Rattle.zvt_report.specs.Chapters.{Noted, happenings, noted}
-use Rattle.zvt_report.specs.Day.{day_of}
+use Rattle.zvt_report.specs.Chapters.{Noted, chapters, happenings, noted}
+use Rattle.zvt_report.specs.Day.{day_of, no_orders}
+use Rattle.zvt_report.specs.Laws.{AreOfEntries}
 use Rattle.zvt_report.specs.Naming.{reversing}
 use Rattle.zvt_report.specs.declared.ordering.TillOrder.{TillOrder}
 use Rattle.zvt_report.specs.declared.ordering.TillOrder.TheVariants.{Reversal, Plain}
@@ -102,6 +103,10 @@ beginnings events = flat_map (λ (event : At). beginning_in event.trace_event) e
 -- A report has the books of the audit of the same events.
 abbrev pub SameBooksAsAudit : Type 0
 SameBooksAsAudit = (events : List At) → books (happenings (reported events)) ≡ books (log_of events)
+
+-- Each reversal of a report takes back an entry of the book before it.
+abbrev pub EachReversalNamesAnEntry : Type 0
+EachReversalNamesAnEntry = (events : List At) → AreOfEntries no_orders (chapters (reported events))
 
 -- the lines of the messages that begin an order
 abbrev pub beginning_lines : List At → List ℕ
