@@ -11,3 +11,4 @@ pub mod ReporterLemmas
 pub mod ReportedLemmas
 pub mod MemberLemmas
 pub mod TextLemmas
+pub mod EntryLemmas

@@ -1,7 +1,7 @@
 -- A report has the books of the audit, and a message for each row.
 use Rattle.std.proofs.Common.{◌≡◌, ℕ, ◌+◌, List, [], ◌∷◌, ◌++◌, length, Option, Some, None, map, fold, refl, sym, ap, ◌∙◌, arith, append-nil, append_assoc}
 use Rattle.std.proofs.lemmas.List.{length-append, length-map}
-use Rattle.zvt_apdu.specs.Message.{ack, nack, registration, authorisation, reversal, end_of_day, abort_order, status, intermediate, print_line, text_block, completion, abort, other}
+use Rattle.zvt_apdu.specs.Message.{Message, ack, nack, registration, authorisation, reversal, end_of_day, abort_order, status, intermediate, print_line, text_block, completion, abort, other}
 use Rattle.zvt_field.specs.Named.{amount_of, receipt_of}
 use Rattle.zvt_till.specs.Books.{Books, empty_books, judge}
 use Rattle.zvt_till.specs.Segments.{begun, force_after, segments_from, up_to_order}
@@ -18,7 +18,8 @@ use Rattle.zvt_report.specs.Chapters.{Noted, Chapter, chapters, chapters_from, h
 use Rattle.zvt_report.specs.Chapters as chapter
 use Rattle.zvt_report.specs.Day.{day_of}
 use Rattle.zvt_report.specs.Naming.{reversing, reversing_at, last_with}
-use Rattle.zvt_report.specs.Reported.{EachOrderHasAMessage, SameBooksAsAudit, beginning_in, beginnings, happenings_with, message_if, reported, with_event}
+use Rattle.zvt_report.proofs.NamingLemmas.{begins}
+use Rattle.zvt_report.specs.Reported.{EachOrderHasAMessage, SameBooksAsAudit, beginning_in, beginning_lines, beginnings, happenings_with, message_if, reported, with_event}
 use Rattle.zvt_report.specs.declared.rows.OrderRow.{OrderRow}
 use Rattle.zvt_report.proofs.LawLemmas.{each_order_has_a_row}
 
@@ -139,82 +140,86 @@ same_books_as_audit events =
 
 -- ---- a message for each row
 
-abbrev one_if : Option Sent → ℕ
-one_if None = 0
-one_if (Some order) = 1
+abbrev line_if : ℕ → Option Sent → List ℕ
+line_if line None = []
+line_if line (Some order) = line ∷ []
 
--- the number of orders that these begin
-abbrev begun_in : List Happening → ℕ
-begun_in [] = 0
-begun_in (h ∷ happened) = one_if (begun h) + begun_in happened
+-- the lines at which these notes begin an order
+abbrev begun_lines : List Noted → List ℕ
+begun_lines [] = []
+begun_lines (n ∷ notes) = line_if n.line (begun n.happening) ++ begun_lines notes
 
-begun_append : (xs ys : List Happening) → begun_in (xs ++ ys) ≡ begun_in xs + begun_in ys
-begun_append [] ys = omega arith
-begun_append (h ∷ xs) ys = let later = begun_append xs ys in omega (arith, later)
+begun_append : (xs ys : List Noted) → begun_lines (xs ++ ys) ≡ begun_lines xs ++ begun_lines ys
+begun_append [] ys = refl
+begun_append (n ∷ xs) ys =
+    ap (λ (l : List ℕ). line_if n.line (begun n.happening) ++ l) (begun_append xs ys) ∙ sym (append_assoc (line_if n.line (begun n.happening)) (begun_lines xs) (begun_lines ys))
 
-chapters_begun : (force : Option ℕ) (notes : List Noted) → length (chapters_from force notes) ≡ begun_in (happenings notes)
+chapters_begun : (force : Option ℕ) (notes : List Noted) → map (λ (c : Chapter). c.line) (chapters_from force notes) ≡ begun_lines notes
 chapters_begun force [] = refl
 chapters_begun force (n ∷ notes) = by (begun n.happening) (chapter.up_to_order notes) (chapters_from (force_after force n.happening) notes) (chapters_begun (force_after force n.happening) notes)
   where
-    by : (b : Option Sent) (answers : List Noted) (later : List Chapter) → length later ≡ begun_in (happenings notes)
-        → length (elim b as (λ x. List Chapter) [ None ↦ later | Some o ↦ record { order = o; currency = force; line = n.line; answers = answers } ∷ later ]) ≡ one_if b + begun_in (happenings notes)
-    by None answers later same = omega (arith, same)
-    by (Some o) answers later same = omega (arith, same)
+    by : (b : Option Sent) (answers : List Noted) (later : List Chapter) → map (λ (c : Chapter). c.line) later ≡ begun_lines notes
+        → map (λ (c : Chapter). c.line) (elim b as (λ x. List Chapter) [ None ↦ later | Some o ↦ record { order = o; currency = force; line = n.line; answers = answers } ∷ later ]) ≡ line_if n.line b ++ begun_lines notes
+    by None answers later same = same
+    by (Some o) answers later same = ap (λ (l : List ℕ). n.line ∷ l) same
 
-begun_reversal : (book : List Entry) (receipt : Option (List ℕ)) → one_if (begun (SentOut (reversing book receipt))) ≡ 1
-begun_reversal book None = refl
-begun_reversal book (Some receipt) = by (last_with receipt 0 book)
-  where
-    by : (found : Option ℕ) → one_if (begun (SentOut (reversing_at found))) ≡ 1
-    by None = refl
-    by (Some place) = refl
+begun_reversal : (line : ℕ) (book : List Entry) (receipt : Option (List ℕ)) → line_if line (begun (SentOut (reversing book receipt))) ≡ line ∷ []
+begun_reversal line book receipt = ap (line_if line) (begins book receipt)
+
+abbrev lines_at : ℕ → TraceEvent → List ℕ
+lines_at line event = map (λ (m : Message). line) (beginning_in event)
 
 -- an event has a message for the order that it begins
-one_message : (book : List Entry) (event : TraceEvent) → length (beginning_in event) ≡ begun_in (happenings_with book event)
-one_message book (trace_event.message FromTill (ack payload)) = refl
-one_message book (trace_event.message FromTill (nack code payload)) = refl
-one_message book (trace_event.message FromTill (registration password config rest)) = refl
-one_message book (trace_event.message FromTill (authorisation fields)) = by (amount_of fields)
+one_message : (book : List Entry) (line : ℕ) (event : TraceEvent) → begun_lines (map (noted line) (happenings_with book event)) ≡ lines_at line event
+one_message book line (trace_event.message FromTill (ack payload)) = refl
+one_message book line (trace_event.message FromTill (nack code payload)) = refl
+one_message book line (trace_event.message FromTill (registration password config rest)) = refl
+one_message book line (trace_event.message FromTill (authorisation fields)) = by (amount_of fields)
   where
-    by : (amount : Option ℕ) → length (message_if (authorisation fields) (begun (SentOut (paid amount)))) ≡ begun_in (SentOut (paid amount) ∷ [])
+    by : (amount : Option ℕ) → begun_lines (noted line (SentOut (paid amount)) ∷ []) ≡ map (λ (m : Message). line) (message_if (authorisation fields) (begun (SentOut (paid amount))))
     by None = refl
     by (Some amount) = refl
-one_message book (trace_event.message FromTill (reversal password fields)) = let one = begun_reversal book (receipt_of fields) in omega (arith, one)
-one_message book (trace_event.message FromTill (end_of_day password fields)) = refl
-one_message book (trace_event.message FromTill (abort_order fields)) = refl
-one_message book (trace_event.message FromTill (status fields)) = refl
-one_message book (trace_event.message FromTill (intermediate step payload)) = refl
-one_message book (trace_event.message FromTill (print_line attribute text)) = refl
-one_message book (trace_event.message FromTill (text_block fields)) = refl
-one_message book (trace_event.message FromTill (completion fields)) = refl
-one_message book (trace_event.message FromTill (abort code payload)) = refl
-one_message book (trace_event.message FromTill (other high low payload)) = refl
-one_message book (trace_event.message FromTerminal m) = refl
-one_message book (trace_event.refused from head byte place why) = refl
-one_message book (trace_event.unread from) = refl
-one_message book (trace_event.resumed from size) = refl
-one_message book (trace_event.cut_off from head have) = refl
-one_message book trace_event.lost = refl
+one_message book line (trace_event.message FromTill (reversal password fields)) = ap (λ (l : List ℕ). l ++ []) (begun_reversal line book (receipt_of fields))
+one_message book line (trace_event.message FromTill (end_of_day password fields)) = refl
+one_message book line (trace_event.message FromTill (abort_order fields)) = refl
+one_message book line (trace_event.message FromTill (status fields)) = refl
+one_message book line (trace_event.message FromTill (intermediate step payload)) = refl
+one_message book line (trace_event.message FromTill (print_line attribute text)) = refl
+one_message book line (trace_event.message FromTill (text_block fields)) = refl
+one_message book line (trace_event.message FromTill (completion fields)) = refl
+one_message book line (trace_event.message FromTill (abort code payload)) = refl
+one_message book line (trace_event.message FromTill (other high low payload)) = refl
+one_message book line (trace_event.message FromTerminal m) = refl
+one_message book line (trace_event.refused from head byte place why) = refl
+one_message book line (trace_event.unread from) = refl
+one_message book line (trace_event.resumed from size) = refl
+one_message book line (trace_event.cut_off from head have) = refl
+one_message book line trace_event.lost = refl
 
-begun_with : (notes : List Noted) (event : At) → begun_in (happenings (with_event notes event)) ≡ begun_in (happenings notes) + length (beginning_in event.trace_event)
+begun_with : (notes : List Noted) (event : At) → begun_lines (with_event notes event) ≡ begun_lines notes ++ lines_at event.line event.trace_event
 begun_with notes event =
-    let happened = happenings_with (day_of notes).book event.trace_event in
-    ap begun_in (map_append (λ (n : Noted). n.happening) notes (map (noted event.line) happened) ∙ ap (λ (l : List Happening). happenings notes ++ l) (happenings_at event.line happened))
-    ∙ begun_append (happenings notes) happened
-    ∙ ap (λ (n : ℕ). begun_in (happenings notes) + n) (sym (one_message (day_of notes).book event.trace_event))
+    begun_append notes (map (noted event.line) (happenings_with (day_of notes).book event.trace_event))
+    ∙ ap (λ (l : List ℕ). begun_lines notes ++ l) (one_message (day_of notes).book event.line event.trace_event)
 
-all_begun : (notes : List Noted) (events : List At) → begun_in (happenings (fold with_event notes events)) ≡ begun_in (happenings notes) + length (beginnings events)
-all_begun notes [] = let none : length (beginnings []) ≡ 0 = refl in omega (arith, none)
+all_begun : (notes : List Noted) (events : List At) → begun_lines (fold with_event notes events) ≡ begun_lines notes ++ beginning_lines events
+all_begun notes [] = sym (append-nil (begun_lines notes))
 all_begun notes (event ∷ events) =
-    let later = all_begun (with_event notes event) events in
-    let first = begun_with notes event in
-    let both : length (beginnings (event ∷ events)) ≡ length (beginning_in event.trace_event) + length (beginnings events) = length-append (beginning_in event.trace_event) (beginnings events) in
-    omega (arith, later, first, both)
+    all_begun (with_event notes event) events
+    ∙ ap (λ (l : List ℕ). l ++ beginning_lines events) (begun_with notes event)
+    ∙ append_assoc (begun_lines notes) (lines_at event.line event.trace_event) (beginning_lines events)
+
+-- each message has a line
+each_has_a_line : (events : List At) → length (beginnings events) ≡ length (beginning_lines events)
+each_has_a_line [] = refl
+each_has_a_line (event ∷ events) =
+    let later = each_has_a_line events in
+    let messages : length (beginnings (event ∷ events)) ≡ length (beginning_in event.trace_event) + length (beginnings events) = length-append (beginning_in event.trace_event) (beginnings events) in
+    let lines : length (beginning_lines (event ∷ events)) ≡ length (lines_at event.line event.trace_event) + length (beginning_lines events) = length-append (lines_at event.line event.trace_event) (beginning_lines events) in
+    let same : length (lines_at event.line event.trace_event) ≡ length (beginning_in event.trace_event) = length-map (beginning_in event.trace_event) (λ (m : Message). event.line) in
+    omega (arith, later, messages, lines, same)
 
 pub each_order_has_a_message : EachOrderHasAMessage
 each_order_has_a_message events =
-    let all : begun_in (happenings (reported events)) ≡ begun_in (happenings (noted 0 Connected ∷ [])) + length (beginnings events) = all_begun (noted 0 Connected ∷ []) events in
-    let rows : length (day_of (reported events)).orders ≡ length (chapters (reported events)) =
-    sym (length-map (day_of (reported events)).orders (λ (row : OrderRow). row.order)) ∙ ap length (each_order_has_a_row (reported events)).0 ∙ length-map (chapters (reported events)) (λ (c : Chapter). c.order) in
-    let begun : length (chapters (reported events)) ≡ begun_in (happenings (reported events)) = chapters_begun None (reported events) in
-    omega (arith, all, rows, begun)
+    let lines : beginning_lines events ≡ map (λ (row : OrderRow). row.first) (day_of (reported events)).orders =
+    sym (all_begun (noted 0 Connected ∷ []) events) ∙ sym (chapters_begun None (reported events)) ∙ sym (each_order_has_a_row (reported events)).1 in
+    (each_has_a_line events ∙ ap length lines ∙ length-map (day_of (reported events)).orders (λ (row : OrderRow). row.first), lines)

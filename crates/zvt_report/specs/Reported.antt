@@ -17,8 +17,9 @@ use Rattle.zvt_trace.specs.TraceEvent as trace_event
 use Rattle.zvt_trace.specs.declared.direction.Direction.{Direction}
 use Rattle.zvt_trace.specs.declared.direction.Direction.TheVariants.{FromTill, FromTerminal}
 use Rattle.zvt_audit.specs.Happened.{happened, happenings_of, log_of, ordered}
-use Rattle.zvt_report.specs.Chapters.{Noted, happenings, noted}
-use Rattle.zvt_report.specs.Day.{day_of}
+use Rattle.zvt_report.specs.Chapters.{Noted, chapters, happenings, noted}
+use Rattle.zvt_report.specs.Day.{day_of, no_orders}
+use Rattle.zvt_report.specs.Laws.{AreOfEntries}
 use Rattle.zvt_report.specs.Naming.{reversing}
 use Rattle.zvt_report.specs.declared.ordering.TillOrder.{TillOrder}
 use Rattle.zvt_report.specs.declared.ordering.TillOrder.TheVariants.{Reversal, Plain}
@@ -103,9 +104,20 @@ beginnings events = flat_map (λ (event : At). beginning_in event.trace_event) e
 abbrev pub SameBooksAsAudit : Type 0
 SameBooksAsAudit = (events : List At) → books (happenings (reported events)) ≡ books (log_of events)
 
--- There is a message for each row.
+-- Each reversal of a report takes back an entry of the book before it.
+abbrev pub EachReversalNamesAnEntry : Type 0
+EachReversalNamesAnEntry = (events : List At) → AreOfEntries no_orders (chapters (reported events))
+
+-- the lines of the messages that begin an order
+abbrev pub beginning_lines : List At → List ℕ
+beginning_lines events = flat_map (λ (event : At). map (λ (m : Message). event.line) (beginning_in event.trace_event)) events
+
+-- There is a message for each row, and it ends at the line at which the row begins.
 abbrev pub EachOrderHasAMessage : Type 0
-EachOrderHasAMessage = (events : List At) → length (beginnings events) ≡ length (day_of (reported events)).orders
+EachOrderHasAMessage =
+    (events : List At)
+    → (length (beginnings events) ≡ length (day_of (reported events)).orders)
+    × (beginning_lines events ≡ map (λ (row : OrderRow). row.first) (day_of (reported events)).orders)
 
 -- ---- rows worked by hand
 

@@ -1,16 +1,16 @@
 -- What the message of an order says beside the order itself.
-use Rattle.std.specs.Prelude.{◌≡◌, ℕ, ◌==◌, Bool, true, false, cond, ◌&&◌, ◌||◌, nat_lt, List, [], ◌∷◌, Option, Some, None, drop, slice_index}
+use Rattle.std.specs.Prelude.{◌≡◌, ℕ, ◌==◌, Bool, true, false, cond, ◌&&◌, ◌||◌, nat_lt, List, [], ◌∷◌, Option, Some, None, drop, slice_index, refl}
 use Rattle.std.specs.Option.{option_and_then}
 use Rattle.zvt_grammar.specs.Reading.{padded}
-use Rattle.zvt_field.specs.Grammar.{Field, FieldList}
+use Rattle.zvt_field.specs.Grammar.{Field, FieldList, plain}
 use Rattle.zvt_field.specs.Named.{amount_of, receipt_of}
 use Rattle.zvt_apdu.specs.Message.{Message, other}
 use Rattle.zvt_apdu.specs.Views.{control_of, fields_in}
 use Rattle.zvt_report.specs.declared.rows.OrderMessage.{OrderMessage}
 
--- ---- orders that a till of this software never sends
+-- ---- messages that this library does not name, and that move money
 
--- 06 04, 06 09, 06 0A, 06 21 to 06 25 and 06 31: the data of these orders is fields, after a password for some
+-- 06 04, 06 09, 06 0A, 06 21 to 06 25 and 06 31: the data of these messages is fields, after a password in some
 abbrev pub moves_money : (high low : ℕ) → Bool
 moves_money high low = (high == 0x06) && ((low == 0x04) || (low == 0x09) || (low == 0x0A) || (low == 0x31) || (nat_lt 0x20 low && nat_lt low 0x26))
 
@@ -24,7 +24,7 @@ listed_in low payload = cond (has_password low) (drop 3 payload) payload
 
 -- ---- the fields of a message
 
--- the fields that the data spells, or none if it spells no fields
+-- the fields that the data spells, if it spells fields
 abbrev pub AreSpelledBy : List ℕ → Option (List Field) → Type 0
 AreSpelledBy listed None = (fields : List Field) → FieldList padded fields listed → ⊥
 AreSpelledBy listed (Some fields) = FieldList padded fields listed
@@ -33,7 +33,7 @@ abbrev pub AreListedIf : Bool → List ℕ → Option (List Field) → Type 0
 AreListedIf true listed fields = AreSpelledBy listed fields
 AreListedIf false listed fields = fields ≡ None
 
--- the fields of a message, also of an order that moves money and that a till of this software never sends
+-- the fields of a message, also of one that this library does not name and that moves money
 abbrev pub HasFields : Message → Option (List Field) → Type 0
 HasFields (other high low payload) fields = AreListedIf (moves_money high low) (listed_in low payload) fields
 HasFields m fields = fields ≡ fields_in m
@@ -64,3 +64,26 @@ AreSaidBy [] [] = Unit {0}
 AreSaidBy [] (said ∷ more) = ⊥
 AreSaidBy (m ∷ messages) [] = ⊥
 AreSaidBy (m ∷ messages) (said ∷ more) = IsSaidBy m said × AreSaidBy messages more
+
+-- ---- rows worked by hand
+
+a_refund : moves_money 0x06 0x31 ≡ true
+a_refund = refl
+
+a_reservation : moves_money 0x06 0x22 ≡ true
+a_reservation = refl
+
+-- the repetition of a receipt moves no money
+a_repetition : moves_money 0x06 0x20 ≡ false
+a_repetition = refl
+
+-- a refund of 5.00 after a password
+refunded : listed_in 0x31 (0x12 ∷ 0x34 ∷ 0x56 ∷ 0x04 ∷ 0 ∷ 0 ∷ 0 ∷ 0 ∷ 0x05 ∷ 0x00 ∷ []) ≡ 0x04 ∷ 0 ∷ 0 ∷ 0 ∷ 0 ∷ 0x05 ∷ 0x00 ∷ []
+refunded = refl
+
+-- a pre-authorisation has no password
+reserved : listed_in 0x22 (0x04 ∷ 0 ∷ 0 ∷ 0 ∷ 0 ∷ 0x05 ∷ 0x00 ∷ []) ≡ 0x04 ∷ 0 ∷ 0 ∷ 0 ∷ 0 ∷ 0x05 ∷ 0x00 ∷ []
+reserved = refl
+
+said_of_a_refund : said_with (0x06 ∷ 0x31 ∷ []) (Some (plain 0x04 (0 ∷ 0 ∷ 0 ∷ 0 ∷ 0x05 ∷ 0x00 ∷ []) ∷ [])) ≡ record { high = 0x06; low = 0x31; amount = Some 500; receipt = None }
+said_of_a_refund = refl

@@ -267,8 +267,8 @@ impl Day {
         Ok(())
     }
 
-    /// Judges a reversal that was sent at this line and names this receipt number, if it names exactly one. It takes back
-    /// the last payment with that number; without such a payment, it is an order that the book does not know.
+    /// Judges a reversal that was sent at this line and names this receipt number, if it names exactly one. It takes
+    /// back the last payment with that number; without such a payment, it is an order that the book does not know.
     pub fn reverse(&mut self, line: u64, receipt: Option<[u8; 2]>) -> Result<(), AllocError>
         ensures { OnOk result ((notes : List Noted) → HasJudged notes self.old → HasJudged
             (notes ++ noted line (SentOut (reversing (day_of notes).book receipt)) ∷ []) self.new) }

@@ -1,8 +1,8 @@
-//! Laws of every day, each stated as the contract of an empty function.
+//! Laws of every day and of every report, each stated as the contract of an empty function.
 ghost use Rattle.zvt_report.specs.Laws.{DoubtsAreLeftOpen, EachOrderHasARow, SameBooks, SameMarks, SumsMakeBooked};
 ghost use Rattle.zvt_report.specs.Looks.{EachPaymentIsLookedAt, EachReversalIsLookedAt};
 ghost use Rattle.zvt_report.specs.Naming.{ReversalsNameEntries};
-ghost use Rattle.zvt_report.specs.Reported.{EachOrderHasAMessage, SameBooksAsAudit};
+ghost use Rattle.zvt_report.specs.Reported.{EachOrderHasAMessage, EachReversalNamesAnEntry, SameBooksAsAudit};
 
 /// A day has the same payments, booked and unclear, as the books of its log.
 pub fn same_books()
@@ -48,13 +48,19 @@ pub fn reversals_name_entries()
     ensures { ReversalsNameEntries }
 {}
 
-/// A report has the payments of the audit of the same trace, booked and unclear. Only a reversal differs: a report knows
-/// which payment it takes back.
+/// A report has the same payments, booked and unclear, as the audit of its trace. Only the report knows which payment a
+/// reversal takes back.
 pub fn same_books_as_audit()
     ensures { SameBooksAsAudit }
 {}
 
-/// A report has the message of each order.
+/// A report has a message for each row of an order, in the same order: each row begins at the line of its message.
 pub fn each_order_has_a_message()
     ensures { EachOrderHasAMessage }
+{}
+
+/// Each reversal of a report takes back an entry of the book before it, or it is an order that the book does not know.
+/// So the law on doubts holds of every report.
+pub fn each_reversal_names_an_entry()
+    ensures { EachReversalNamesAnEntry }
 {}

@@ -1,4 +1,4 @@
-//! The report of a day: what became of each order of a till, and the book that is left.
+//! The report of a trace: what became of each order of a till, and the book that is left.
 #![tactic(auto)]
 
 mod amounts;

@@ -26,11 +26,12 @@ pub struct Report {
     pub messages: Vec<OrderMessage>,
 }
 
-/// Judges the orders of the trace. `lengths` selects the accepted forms of length, and `scope` says how much is not read
-/// after a refused message. With `OneMessage`, its side is read on after the message, which is known by its control
-/// bytes alone.
+/// Reports what became of each order in the trace of a till that starts connected. A reversal takes back the last
+/// payment with its receipt number. `lengths` selects the accepted forms of length.
 ///
-/// The trace is that of a till that starts connected. A reversal takes back the last payment with its receipt number.
+/// `scope` says how much is not read after a refused message. With `WholeLine`, neither side is read until the
+/// connection is lost, and the line was malformed. With `OneMessage`, its side is read on after the message, which is
+/// known by its control bytes alone. With `OneSide`, its side is not read until the connection is lost.
 pub fn report_trace(
     alloc: Global,
     scope: Scope,

@@ -15,8 +15,8 @@ use zvt_grammar::Scan;
 /// The number of bytes of a password.
 const PASSWORD: usize = 3;
 
-/// Returns what a message of a till says beside the order that it begins. Of an order that no till of this software
-/// sends, only one that moves money says more than its control bytes.
+/// Returns what a message of a till says beside the order that it begins. A message that this library does not name
+/// says more than its control bytes only if it moves money.
 pub(crate) fn order_message(alloc: Global, apdu: &ApduView<'_>) -> Result<OrderMessage, AllocError>
     ensures { IfOk result (IsSaidBy apdu.now) }
 {
@@ -26,7 +26,7 @@ pub(crate) fn order_message(alloc: Global, apdu: &ApduView<'_>) -> Result<OrderM
     }
 }
 
-/// Returns what a message says whose data is known.
+/// Returns what a message that this library names says.
 fn known_message(apdu: &ApduView<'_>) -> OrderMessage
     ensures { result ≡ said_with (control_of apdu.now) (fields_in apdu.now) }
 {
@@ -42,7 +42,7 @@ fn known_message(apdu: &ApduView<'_>) -> OrderMessage
     }
 }
 
-/// Returns a message that says nothing more than its control bytes.
+/// Returns what a message without fields says.
 fn silent_message(high: u8, low: u8) -> OrderMessage
     ensures { result ≡ said_with (high ∷ low ∷ []) Option.None }
 {
@@ -54,7 +54,7 @@ fn silent_message(high: u8, low: u8) -> OrderMessage
     }
 }
 
-/// Returns what a message of a till says whose data is not known.
+/// Returns what a message that this library does not name says.
 fn other_message(alloc: Global, apdu: &ApduView<'_>) -> Result<OrderMessage, AllocError>
     requires { kind_of apdu.now ≡ Other }
     ensures { IfOk result (IsSaidBy apdu.now) }
@@ -70,10 +70,8 @@ fn other_message(alloc: Global, apdu: &ApduView<'_>) -> Result<OrderMessage, All
     }
 }
 
-/// Whether this is an order that moves money and that no till of this software sends.
-///
-/// PA00P015: Refund (06 31), the orders of a pre-authorisation (06 22 to 06 25), and the other payments (06 04, 06 09,
-/// 06 0A, 06 21).
+/// Whether a message with these control bytes moves money: a refund (06 31), an order of a pre-authorisation (06 22 to
+/// 06 25), or 06 04, 06 09, 06 0A or 06 21.
 fn moves_money(high: u8, low: u8) -> bool
     ensures { result ≡ moves_money high low }
 {
@@ -81,7 +79,7 @@ fn moves_money(high: u8, low: u8) -> bool
         && (low == 0x04 || low == 0x09 || low == 0x0A || low == 0x31 || (low > 0x20 && low < 0x26))
 }
 
-/// Whether the data of such an order begins with a password.
+/// Whether the data of such a message begins with a password.
 fn has_password(low: u8) -> bool
     ensures { result ≡ has_password low }
 {
@@ -101,7 +99,8 @@ fn listed_in<'a>(low: u8, payload: &'a [u8]) -> &'a [u8]
     }
 }
 
-/// Returns what a message says whose data is these fields. If it is no fields, it says nothing more than its control bytes.
+/// Returns what a message with these control bytes and this data says. If the data spells no fields, the message says
+/// nothing more than its control bytes.
 fn listed_message(
     alloc: Global,
     high: u8,
