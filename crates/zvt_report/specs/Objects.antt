@@ -20,7 +20,7 @@ use Rattle.zvt_trace.specs.declared.fault.Tally.{Tally}
 use Rattle.zvt_report.specs.Day.{DayValue}
 use Rattle.zvt_report.specs.Kinds.{kind_of}
 use Rattle.zvt_report.specs.Laws.{booked_total}
-use Rattle.zvt_report.specs.Looks.{weight_of}
+use Rattle.zvt_report.specs.Looks.{looks, weight_of}
 use Rattle.zvt_report.specs.Members.{object_text}
 use Rattle.zvt_report.specs.Places.{counted, no_counts, payment_of, payments_in, place_after, reversed_by}
 use Rattle.zvt_report.specs.Sums.{reversed_count, unclear_reversals, unclear_total}
@@ -369,3 +369,11 @@ a_summary : summary_line (record { messages = 12; bad = 0 }) (Some 978) (record 
     ≡ codes "{\"summary\":{\"bad\":0,\"booked\":2,\"currency\":\"0978\",\"looks\":0,\"messages\":12,\"net\":500,\"others\":0,\"reversals_unclear\":0,\"reversed\":1,\"total\":1734,\"unclear\":1,\"unclear_amount\":700}}\n"
 unfolding object_text digits escape_byte
 a_summary = refl
+
+-- the summary comes first, then the look, then the orders
+a_report : let orders = a_row (sent.Register None) 2 4 outcome.Registered None ∷ a_row (sent.Pay 3499) 6 8 (outcome.Unclear cause.Line) None ∷ a_row (sent.Pay 3499) 10 12 (outcome.Paid 21 None) None ∷ [] in
+    let book : List Entry = record { amount = 3499; trace = 21; receipt = None; reversed = false; doubt = doubt.No } ∷ [] in
+    report_json (record { messages = 24; bad = 0 }) (Some 978) (record { book = book; unclear = (3499, cause.Line) ∷ []; orders = orders }) (a_message 0x00 None None ∷ a_message 0x01 (Some 3499) None ∷ a_message 0x01 (Some 3499) None ∷ []) (looks book orders)
+    ≡ codes "{\"summary\":{\"bad\":0,\"booked\":1,\"currency\":\"0978\",\"looks\":1,\"messages\":24,\"net\":3499,\"others\":0,\"reversals_unclear\":0,\"reversed\":0,\"total\":3499,\"unclear\":1,\"unclear_amount\":3499}}\n{\"look\":{\"again\":3,\"case\":\"PaymentUnclear\",\"cause\":\"Line\",\"lines\":[6,8],\"order\":2,\"payment\":1,\"weight\":\"check\"}}\n{\"order\":{\"control\":\"0600\",\"lines\":[2,4],\"order\":1,\"outcome\":\"completed\"}}\n{\"payment\":{\"amount\":3499,\"cause\":\"Line\",\"lines\":[6,8],\"order\":2,\"outcome\":\"unclear\",\"payment\":1}}\n{\"payment\":{\"amount\":3499,\"lines\":[10,12],\"order\":3,\"outcome\":\"paid\",\"payment\":2,\"trace\":21}}\n"
+unfolding object_text digits escape_byte encode_with command_name
+a_report = refl
