@@ -7,3 +7,4 @@ pub mod LookLemmas
 pub mod OpenLemmas
 pub mod NamingLemmas
 pub mod MemberLemmas
+pub mod ReadLemmas

@@ -10,3 +10,4 @@ pub mod Kinds
 pub mod Sums
 pub mod Members
 pub mod Objects
+pub mod Reading

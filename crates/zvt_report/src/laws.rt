@@ -2,6 +2,7 @@
 ghost use Rattle.zvt_report.specs.Laws.{DoubtsAreLeftOpen, EachOrderHasARow, SameBooks, SameMarks, SumsMakeBooked};
 ghost use Rattle.zvt_report.specs.Looks.{EachPaymentIsLookedAt, EachReversalIsLookedAt};
 ghost use Rattle.zvt_report.specs.Naming.{ReversalsNameEntries};
+ghost use Rattle.zvt_report.specs.Reading.{ObjectsReadBack};
 
 /// A day has the same payments, booked and unclear, as the books of its log.
 pub fn same_books()
@@ -45,4 +46,10 @@ pub fn doubts_are_left_open()
 /// know.
 pub fn reversals_name_entries()
     ensures { ReversalsNameEntries }
+{}
+
+/// If the numbers of an object of a report fit into 64 bits, the reader of the crate `serde_json` gives the object back
+/// from its text: its members are in the order of their names, and each is there once.
+pub fn objects_read_back()
+    ensures { ObjectsReadBack }
 {}
