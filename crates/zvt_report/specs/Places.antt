@@ -1,11 +1,13 @@
 -- The number of an order, and the entry of the book that it booked or takes back.
-use Rattle.std.specs.Prelude.{◌≡◌, ℕ, ◌+◌, ◌<◌, ◌≤◌, ◌^◌, ◌==◌, Bool, false, cond, List, [], ◌∷◌, Option, Some, None, option_map, sum_by, refl}
+use Rattle.std.specs.Prelude.{◌≡◌, ℕ, ◌+◌, ◌<◌, ◌≤◌, ◌^◌, ◌==◌, Bool, false, cond, List, [], ◌∷◌, ◌++◌, Option, Some, None, option_map, sum_by, refl}
 use Rattle.std.specs.List.{position}
 use Rattle.zvt_till.specs.declared.happenings.Sent.{Sent}
 use Rattle.zvt_till.specs.declared.happenings.Sent.TheVariants.{Register, Pay, Reverse}
 use Rattle.zvt_till.specs.declared.outcomes.Cause.TheVariants.{Line}
 use Rattle.zvt_till.specs.declared.outcomes.Outcome.{Outcome}
 use Rattle.zvt_till.specs.declared.outcomes.Outcome.TheVariants.{Registered, Paid, Declined, Unclear, Reversed}
+use Rattle.zvt_report.specs.Chapters.{Noted}
+use Rattle.zvt_report.specs.Day.{day_of}
 use Rattle.zvt_report.specs.declared.places.Counts.{Counts}
 use Rattle.zvt_report.specs.declared.places.Place.{Place}
 use Rattle.zvt_report.specs.declared.rows.OrderRow.{OrderRow}
@@ -83,6 +85,26 @@ takes_back place row = takes_back_as place row.order row.outcome
 -- the number of the first order that took back the entry at this place
 abbrev pub reversed_by : (place : ℕ) → List OrderRow → Option ℕ
 reversed_by place rows = option_map (λ (skipped : ℕ). skipped + 1) (position (takes_back place) rows)
+
+-- ---- a law
+
+-- the entry that the payment at this place booked, if it did
+abbrev pub booked_place : Place → List ℕ
+booked_place p = elim p.payment [ None ↦ [] | Some n ↦ elim p.entry [ None ↦ [] | Some e ↦ e ∷ [] ] ]
+
+-- the entries that the payments at these places booked
+abbrev pub booked_places : List Place → List ℕ
+booked_places [] = []
+booked_places (p ∷ ps) = booked_place p ++ booked_places ps
+
+-- the places of the items of a list whose first one has this place
+abbrev pub indices_from : {A : Type 0} → (first : ℕ) → List A → List ℕ
+indices_from first [] = []
+indices_from first (item ∷ items) = first ∷ indices_from (first + 1) items
+
+-- the payments that were booked have the entries of the book, each one once, in the same order
+abbrev pub PlacesNameEntries : Type 0
+PlacesNameEntries = (notes : List Noted) → booked_places (places (day_of notes).orders) ≡ indices_from 0 (day_of notes).book
 
 -- ---- rows worked by hand
 

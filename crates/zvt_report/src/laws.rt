@@ -2,6 +2,7 @@
 ghost use Rattle.zvt_report.specs.Laws.{DoubtsAreLeftOpen, EachOrderHasARow, SameBooks, SameMarks, SumsMakeBooked};
 ghost use Rattle.zvt_report.specs.Looks.{EachPaymentIsLookedAt, EachReversalIsLookedAt};
 ghost use Rattle.zvt_report.specs.Naming.{ReversalsNameEntries};
+ghost use Rattle.zvt_report.specs.Places.{PlacesNameEntries};
 ghost use Rattle.zvt_report.specs.Reading.{ObjectsReadBack};
 
 /// A day has the same payments, booked and unclear, as the books of its log.
@@ -52,4 +53,9 @@ pub fn reversals_name_entries()
 /// from its text: its members are in the order of their names, and each is there once.
 pub fn objects_read_back()
     ensures { ObjectsReadBack }
+{}
+
+/// The payments that a day booked have the entries of its book, each one once, in the same order.
+pub fn places_name_entries()
+    ensures { PlacesNameEntries }
 {}
