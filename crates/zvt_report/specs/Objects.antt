@@ -2,7 +2,7 @@
 use Rattle.std.specs.Prelude.{◌≡◌, ℕ, ◌+◌, Bool, true, false, cond, List, [], ◌∷◌, ◌++◌, length, Option, Some, None, codes, option_map, slice_get, take, refl}
 use Rattle.std.specs.List.{flat_map}
 use Rattle.std.specs.Fmt.{digits}
-use Rattle.std.specs.Option.{option_and_then}
+use Rattle.std.specs.Option.{option_and_then, option_or}
 use Rattle.hex.specs.Hex.{encode_with}
 use Rattle.json.specs.Print.{escape_byte}
 use Rattle.zvt_text.specs.Meanings.{command_name, meaning_of}
@@ -55,11 +55,12 @@ code_of (outcome.Refused code) = Some code
 code_of (outcome.Aborted code) = Some code
 code_of _ = None
 
--- of a payment that was booked, its own; otherwise, of the first approval
+-- the trace number of a booked payment, or the one in the first approval
 abbrev pub trace_by : Outcome → Option Approval → Option ℕ
 trace_by (outcome.Paid trace receipt) approval = Some trace
 trace_by _ approval = option_and_then (λ (a : Approval). a.trace) approval
 
+-- the receipt number of a booked payment, or the one in the first approval
 abbrev pub receipt_by : Outcome → Option Approval → Option (List ℕ)
 receipt_by (outcome.Paid trace receipt) approval = receipt
 receipt_by _ approval = option_and_then (λ (a : Approval). a.receipt) approval
@@ -94,11 +95,6 @@ payment_for place rows = option_and_then (λ (p : ℕ). payment_of p rows) place
 -- the number of the order that took back the entry at this place
 abbrev pub reversed_at : (place : Option ℕ) → List OrderRow → Option ℕ
 reversed_at place rows = option_and_then (λ (p : ℕ). reversed_by p rows) place
-
--- the first of both
-abbrev pub amount_or : Option ℕ → Option ℕ → Option ℕ
-amount_or None other = other
-amount_or (Some amount) other = Some amount
 
 -- ---- members
 
@@ -166,7 +162,7 @@ payment_members books place row amount =
 -- The amount of a payment that is not in the trace is the one that the message names.
 abbrev pub reversal_members : DayValue → Place → OrderRow → OrderMessage → List (Option Member)
 reversal_members books place row message =
-    maybe_count name.Amount (amount_or (amount_at books.book place.entry) message.amount)
+    maybe_count name.Amount (option_or (amount_at books.book place.entry) message.amount)
     ∷ maybe_cause name.Cause (cause_of row.outcome)
     ∷ code row.outcome
     ∷ lines row
@@ -180,7 +176,7 @@ reversal_members books place row message =
 -- the amount is the one that the message names, or the first that was approved
 abbrev pub other_members : Place → OrderRow → OrderMessage → List (Option Member)
 other_members place row message =
-    maybe_count name.Amount (amount_or message.amount (approved_of row))
+    maybe_count name.Amount (option_or message.amount (approved_of row))
     ∷ maybe_cause name.Cause (cause_of row.outcome)
     ∷ code row.outcome
     ∷ control message

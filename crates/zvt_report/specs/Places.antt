@@ -14,12 +14,12 @@ use Rattle.zvt_report.specs.declared.rows.OrderRow.{OrderRow}
 
 -- ---- one row
 
--- the number of the order if it is a payment, after so many payments
+-- the number of the order among the payments, if it is one
 abbrev pub payment_by : (payments : ℕ) → Sent → Option ℕ
 payment_by payments (Pay a) = Some (payments + 1)
 payment_by payments _ = None
 
--- the entry that a payment booked after so many entries, or that a reversal takes back
+-- the entry that a payment booked, or the one that a reversal takes back
 abbrev pub entry_by : (entries : ℕ) → Sent → Outcome → Option ℕ
 entry_by entries (Pay a) (Paid trace receipt) = Some entries
 entry_by entries (Reverse e) outcome = Some e
@@ -36,7 +36,7 @@ entries_by _ _ = 0
 abbrev pub no_counts : Counts
 no_counts = record { orders = 0; payments = 0; entries = 0 }
 
--- one more order can be counted, and no more payments and entries than orders were
+-- one more order can be counted, and there were no more payments or entries than orders
 abbrev pub HasRoom : Counts → Type 0
 HasRoom c = (c.orders + 1 < 2 ^ 64) × (c.payments ≤ c.orders) × (c.entries ≤ c.orders)
 
@@ -61,7 +61,7 @@ places rows = places_from no_counts rows
 abbrev pub payments_in : List OrderRow → ℕ
 payments_in rows = sum_by (λ (row : OrderRow). payments_by row.order) rows
 
--- a payment that booked the entry at this place, after so many entries
+-- a payment that booked the entry at this place
 abbrev pub books_as : (entries place : ℕ) → Sent → Outcome → Bool
 books_as entries place (Pay a) (Paid trace receipt) = entries == place
 books_as entries place _ _ = false
