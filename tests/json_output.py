@@ -59,6 +59,9 @@ NO_LINES = [
     {"unclear": {"amount": 1, "cause": "Lost"}}, {"unclear": {"amount": 1, "cause": "Line", "line": 0}}, {"total": -1}, {"bad": -1, "messages": 1, "total": 1},
     {"booked": {"amount": 1, "ref": "A 1", "trace": 1}}, {"booked": {"amount": 1, "at": "2026-11-28", "trace": 1}}, {"unclear": {"amount": 1, "cause": "Line", "ref": ""}},
     {"bad": 0, "currency": "978", "messages": 1, "total": 1}, {"bad": 0, "currency": None, "messages": 1, "total": 1},
+    {"look": {"case": "Lost", "lines": [1, 2], "order": 1, "weight": "act"}}, {"look": {"case": "OtherAmount", "lines": [1, 2], "order": 0, "weight": "act"}},
+    {"payment": {"amount": 1, "lines": [1], "order": 1, "outcome": "paid", "payment": 1}}, {"close": {"lines": [1, 2], "order": 1, "outcome": "paid"}},
+    {"other": {"control": "0670", "lines": [1, 2], "order": 1, "outcome": "completed"}}, {"summary": {"bad": 0}},
 ]
 check, counts, validated = Checks(), {"traces": 0, "lines": 0}, []
 

@@ -12,3 +12,5 @@ pub mod ReportedLemmas
 pub mod MemberLemmas
 pub mod TextLemmas
 pub mod EntryLemmas
+pub mod ReadLemmas
+pub mod PlaceLemmas

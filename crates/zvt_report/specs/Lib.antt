@@ -19,3 +19,4 @@ pub mod Currencies
 pub mod Phrases
 pub mod Sentences
 pub mod Summary
+pub mod Reading

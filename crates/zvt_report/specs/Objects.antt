@@ -2,7 +2,7 @@
 use Rattle.std.specs.Prelude.{◌≡◌, ℕ, ◌+◌, Bool, true, false, cond, List, [], ◌∷◌, ◌++◌, length, Option, Some, None, codes, option_map, slice_get, take, refl}
 use Rattle.std.specs.List.{flat_map}
 use Rattle.std.specs.Fmt.{digits}
-use Rattle.std.specs.Option.{option_and_then}
+use Rattle.std.specs.Option.{option_and_then, option_or}
 use Rattle.hex.specs.Hex.{encode_with}
 use Rattle.json.specs.Print.{escape_byte}
 use Rattle.zvt_text.specs.Meanings.{command_name, meaning_of}
@@ -20,7 +20,7 @@ use Rattle.zvt_trace.specs.declared.fault.Tally.{Tally}
 use Rattle.zvt_report.specs.Day.{DayValue}
 use Rattle.zvt_report.specs.Kinds.{kind_of}
 use Rattle.zvt_report.specs.Laws.{booked_total}
-use Rattle.zvt_report.specs.Looks.{weight_of}
+use Rattle.zvt_report.specs.Looks.{looks, weight_of}
 use Rattle.zvt_report.specs.Members.{object_text}
 use Rattle.zvt_report.specs.Places.{counted, no_counts, payment_of, payments_in, place_after, reversed_by}
 use Rattle.zvt_report.specs.Sums.{reversed_count, unclear_reversals, unclear_total}
@@ -35,7 +35,6 @@ use Rattle.zvt_report.specs.declared.members.Name.TheVariants as name
 use Rattle.zvt_report.specs.declared.members.Object.TheVariants as object_of
 use Rattle.zvt_report.specs.declared.members.Value.{Value}
 use Rattle.zvt_report.specs.declared.members.Value.TheVariants as value
-use Rattle.zvt_report.specs.declared.members.Word.{Word}
 use Rattle.zvt_report.specs.declared.members.Word.TheVariants as word
 use Rattle.zvt_report.specs.declared.places.Counts.{Counts}
 use Rattle.zvt_report.specs.declared.places.Place.{Place}
@@ -56,11 +55,12 @@ code_of (outcome.Refused code) = Some code
 code_of (outcome.Aborted code) = Some code
 code_of _ = None
 
--- of a payment that was booked, its own; otherwise, of the first approval
+-- the trace number of a booked payment, or the one in the first approval
 abbrev pub trace_by : Outcome → Option Approval → Option ℕ
 trace_by (outcome.Paid trace receipt) approval = Some trace
 trace_by _ approval = option_and_then (λ (a : Approval). a.trace) approval
 
+-- the receipt number of a booked payment, or the one in the first approval
 abbrev pub receipt_by : Outcome → Option Approval → Option (List ℕ)
 receipt_by (outcome.Paid trace receipt) approval = receipt
 receipt_by _ approval = option_and_then (λ (a : Approval). a.receipt) approval
@@ -95,11 +95,6 @@ payment_for place rows = option_and_then (λ (p : ℕ). payment_of p rows) place
 -- the number of the order that took back the entry at this place
 abbrev pub reversed_at : (place : Option ℕ) → List OrderRow → Option ℕ
 reversed_at place rows = option_and_then (λ (p : ℕ). reversed_by p rows) place
-
--- the first of both
-abbrev pub amount_or : Option ℕ → Option ℕ → Option ℕ
-amount_or None other = other
-amount_or (Some amount) other = Some amount
 
 -- ---- members
 
@@ -167,7 +162,7 @@ payment_members books place row amount =
 -- The amount of a payment that is not in the trace is the one that the message names.
 abbrev pub reversal_members : DayValue → Place → OrderRow → OrderMessage → List (Option Member)
 reversal_members books place row message =
-    maybe_count name.Amount (amount_or (amount_at books.book place.entry) message.amount)
+    maybe_count name.Amount (option_or (amount_at books.book place.entry) message.amount)
     ∷ maybe_cause name.Cause (cause_of row.outcome)
     ∷ code row.outcome
     ∷ lines row
@@ -181,7 +176,7 @@ reversal_members books place row message =
 -- the amount is the one that the message names, or the first that was approved
 abbrev pub other_members : Place → OrderRow → OrderMessage → List (Option Member)
 other_members place row message =
-    maybe_count name.Amount (amount_or message.amount (approved_of row))
+    maybe_count name.Amount (option_or message.amount (approved_of row))
     ∷ maybe_cause name.Cause (cause_of row.outcome)
     ∷ code row.outcome
     ∷ control message
@@ -369,3 +364,11 @@ a_summary : summary_line (record { messages = 12; bad = 0 }) (Some 978) (record 
     ≡ codes "{\"summary\":{\"bad\":0,\"booked\":2,\"currency\":\"0978\",\"looks\":0,\"messages\":12,\"net\":500,\"others\":0,\"reversals_unclear\":0,\"reversed\":1,\"total\":1734,\"unclear\":1,\"unclear_amount\":700}}\n"
 unfolding object_text digits escape_byte
 a_summary = refl
+
+-- the summary comes first, then the look, then the orders
+a_report : let orders = a_row (sent.Register None) 2 4 outcome.Registered None ∷ a_row (sent.Pay 3499) 6 8 (outcome.Unclear cause.Line) None ∷ a_row (sent.Pay 3499) 10 12 (outcome.Paid 21 None) None ∷ [] in
+    let book : List Entry = record { amount = 3499; trace = 21; receipt = None; reversed = false; doubt = doubt.No } ∷ [] in
+    report_json (record { messages = 24; bad = 0 }) (Some 978) (record { book = book; unclear = (3499, cause.Line) ∷ []; orders = orders }) (a_message 0x00 None None ∷ a_message 0x01 (Some 3499) None ∷ a_message 0x01 (Some 3499) None ∷ []) (looks book orders)
+    ≡ codes "{\"summary\":{\"bad\":0,\"booked\":1,\"currency\":\"0978\",\"looks\":1,\"messages\":24,\"net\":3499,\"others\":0,\"reversals_unclear\":0,\"reversed\":0,\"total\":3499,\"unclear\":1,\"unclear_amount\":3499}}\n{\"look\":{\"again\":3,\"case\":\"PaymentUnclear\",\"cause\":\"Line\",\"lines\":[6,8],\"order\":2,\"payment\":1,\"weight\":\"check\"}}\n{\"order\":{\"control\":\"0600\",\"lines\":[2,4],\"order\":1,\"outcome\":\"completed\"}}\n{\"payment\":{\"amount\":3499,\"cause\":\"Line\",\"lines\":[6,8],\"order\":2,\"outcome\":\"unclear\",\"payment\":1}}\n{\"payment\":{\"amount\":3499,\"lines\":[10,12],\"order\":3,\"outcome\":\"paid\",\"payment\":2,\"trace\":21}}\n"
+unfolding object_text digits escape_byte encode_with command_name
+a_report = refl

@@ -1,23 +1,25 @@
 -- The number of an order, and the entry of the book that it booked or takes back.
-use Rattle.std.specs.Prelude.{◌≡◌, ℕ, ◌+◌, ◌<◌, ◌≤◌, ◌^◌, ◌==◌, Bool, false, cond, List, [], ◌∷◌, Option, Some, None, option_map, sum_by, refl}
+use Rattle.std.specs.Prelude.{◌≡◌, ℕ, ◌+◌, ◌<◌, ◌≤◌, ◌^◌, ◌==◌, Bool, false, cond, List, [], ◌∷◌, ◌++◌, Option, Some, None, option_map, sum_by, refl}
 use Rattle.std.specs.List.{position}
 use Rattle.zvt_till.specs.declared.happenings.Sent.{Sent}
 use Rattle.zvt_till.specs.declared.happenings.Sent.TheVariants.{Register, Pay, Reverse}
 use Rattle.zvt_till.specs.declared.outcomes.Cause.TheVariants.{Line}
 use Rattle.zvt_till.specs.declared.outcomes.Outcome.{Outcome}
 use Rattle.zvt_till.specs.declared.outcomes.Outcome.TheVariants.{Registered, Paid, Declined, Unclear, Reversed}
+use Rattle.zvt_report.specs.Chapters.{Noted}
+use Rattle.zvt_report.specs.Day.{day_of}
 use Rattle.zvt_report.specs.declared.places.Counts.{Counts}
 use Rattle.zvt_report.specs.declared.places.Place.{Place}
 use Rattle.zvt_report.specs.declared.rows.OrderRow.{OrderRow}
 
 -- ---- one row
 
--- the number of the order if it is a payment, after so many payments
+-- the number of the order among the payments, if it is one
 abbrev pub payment_by : (payments : ℕ) → Sent → Option ℕ
 payment_by payments (Pay a) = Some (payments + 1)
 payment_by payments _ = None
 
--- the entry that a payment booked after so many entries, or that a reversal takes back
+-- the entry that a payment booked, or the one that a reversal takes back
 abbrev pub entry_by : (entries : ℕ) → Sent → Outcome → Option ℕ
 entry_by entries (Pay a) (Paid trace receipt) = Some entries
 entry_by entries (Reverse e) outcome = Some e
@@ -34,7 +36,7 @@ entries_by _ _ = 0
 abbrev pub no_counts : Counts
 no_counts = record { orders = 0; payments = 0; entries = 0 }
 
--- one more order can be counted, and no more payments and entries than orders were
+-- one more order can be counted, and there were no more payments or entries than orders
 abbrev pub HasRoom : Counts → Type 0
 HasRoom c = (c.orders + 1 < 2 ^ 64) × (c.payments ≤ c.orders) × (c.entries ≤ c.orders)
 
@@ -59,7 +61,7 @@ places rows = places_from no_counts rows
 abbrev pub payments_in : List OrderRow → ℕ
 payments_in rows = sum_by (λ (row : OrderRow). payments_by row.order) rows
 
--- a payment that booked the entry at this place, after so many entries
+-- a payment that booked the entry at this place
 abbrev pub books_as : (entries place : ℕ) → Sent → Outcome → Bool
 books_as entries place (Pay a) (Paid trace receipt) = entries == place
 books_as entries place _ _ = false
@@ -83,6 +85,26 @@ takes_back place row = takes_back_as place row.order row.outcome
 -- the number of the first order that took back the entry at this place
 abbrev pub reversed_by : (place : ℕ) → List OrderRow → Option ℕ
 reversed_by place rows = option_map (λ (skipped : ℕ). skipped + 1) (position (takes_back place) rows)
+
+-- ---- a law
+
+-- the entry that the payment at this place booked, if it did
+abbrev pub booked_place : Place → List ℕ
+booked_place p = elim p.payment [ None ↦ [] | Some n ↦ elim p.entry [ None ↦ [] | Some e ↦ e ∷ [] ] ]
+
+-- the entries that the payments at these places booked
+abbrev pub booked_places : List Place → List ℕ
+booked_places [] = []
+booked_places (p ∷ ps) = booked_place p ++ booked_places ps
+
+-- the places of the items of a list whose first one has this place
+abbrev pub indices_from : {A : Type 0} → (first : ℕ) → List A → List ℕ
+indices_from first [] = []
+indices_from first (item ∷ items) = first ∷ indices_from (first + 1) items
+
+-- the payments that were booked have the entries of the book, each one once, in the same order
+abbrev pub PlacesNameEntries : Type 0
+PlacesNameEntries = (notes : List Noted) → booked_places (places (day_of notes).orders) ≡ indices_from 0 (day_of notes).book
 
 -- ---- rows worked by hand
 

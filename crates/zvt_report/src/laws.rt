@@ -3,6 +3,8 @@ ghost use Rattle.zvt_report.specs.Laws.{DoubtsAreLeftOpen, EachOrderHasARow, Sam
 ghost use Rattle.zvt_report.specs.Looks.{EachPaymentIsLookedAt, EachReversalIsLookedAt};
 ghost use Rattle.zvt_report.specs.Naming.{ReversalsNameEntries};
 ghost use Rattle.zvt_report.specs.Reported.{EachOrderHasAMessage, EachReversalNamesAnEntry, SameBooksAsAudit};
+ghost use Rattle.zvt_report.specs.Places.{PlacesNameEntries};
+ghost use Rattle.zvt_report.specs.Reading.{ObjectsReadBack};
 
 /// A day has the same payments, booked and unclear, as the books of its log.
 pub fn same_books()
@@ -63,4 +65,11 @@ pub fn each_order_has_a_message()
 /// So the law on doubts holds of every report.
 pub fn each_reversal_names_an_entry()
     ensures { EachReversalNamesAnEntry }
+/// If the numbers of an object of a report fit into 64 bits, the reader of the crate `serde_json` gives the object back
+/// from its text: its members are in the order of their names, and each is there once.
+pub fn objects_read_back()
+    ensures { ObjectsReadBack }
+/// The payments that a day booked have the entries of its book, each one once, in the same order.
+pub fn places_name_entries()
+    ensures { PlacesNameEntries }
 {}

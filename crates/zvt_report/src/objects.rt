@@ -72,7 +72,7 @@ fn summary(
     write_object(text, Object::Summary, &members)
 }
 
-/// Returns the message of the order at this place. An order without a message has one without control bytes.
+/// Returns the message of the order at this place, or an empty one if there is none.
 fn message_at(messages: &[OrderMessage], place: usize) -> OrderMessage
     ensures { result ≡ message_at messages.now place }
 {

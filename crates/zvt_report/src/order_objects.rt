@@ -8,9 +8,9 @@ ghost use Rattle.zvt_report.specs.declared.members.Object.TheVariants as object_
 use crate::books::DayBooks;
 use crate::members::{Name, Object, write_object};
 use crate::parts::{
-    amount_at, amount_or, approved_of, cause_of, code, command, control, count, ending, lines,
-    maybe_amount, maybe_cause, maybe_count, maybe_receipt, maybe_trace, payment_for, receipt_by,
-    reversed_at, taken_back_at, trace_by, true_if, unclear_at, words,
+    amount_at, approved_of, cause_of, code, command, control, count, ending, lines, maybe_amount,
+    maybe_cause, maybe_count, maybe_receipt, maybe_trace, payment_for, receipt_by, reversed_at,
+    taken_back_at, trace_by, true_if, unclear_at, words,
 };
 use crate::places::Place;
 use crate::rows::{OrderMessage, OrderRow};
@@ -66,7 +66,7 @@ pub(crate) fn reversal(
 {
     let taken_back = amount_at(books.book.as_slice(), place.entry);
     let members = [
-        maybe_amount(Name::Amount, amount_or(taken_back, message.amount)),
+        maybe_amount(Name::Amount, taken_back.or(message.amount)),
         maybe_cause(Name::Cause, cause_of(&row.outcome)),
         code(&row.outcome),
         lines(row),
@@ -94,7 +94,7 @@ pub(crate) fn other(
         (other_members place.now row.now message.now)) }
 {
     let members = [
-        maybe_amount(Name::Amount, amount_or(message.amount, approved_of(row))),
+        maybe_amount(Name::Amount, message.amount.or(approved_of(row))),
         maybe_cause(Name::Cause, cause_of(&row.outcome)),
         code(&row.outcome),
         control(message),

@@ -1,6 +1,6 @@
 //! The members of the objects of a report.
 ghost use Rattle.std.specs.Prelude.{◌≡◌};
-ghost use Rattle.zvt_report.specs.Objects.{amount_at, amount_or, approved_of, cause_of, code, code_of, command};
+ghost use Rattle.zvt_report.specs.Objects.{amount_at, approved_of, cause_of, code, code_of, command};
 ghost use Rattle.zvt_report.specs.Objects.{control, count, ending, lines, maybe_cause, maybe_count};
 ghost use Rattle.zvt_report.specs.Objects.{maybe_currency, maybe_receipt, payment_for, receipt_by};
 ghost use Rattle.zvt_report.specs.Objects.{reversed_at, said_as, taken_back_at, trace_by, true_if, unclear_at, words};
@@ -115,16 +115,6 @@ pub(crate) fn reversed_at(place: Option<usize>, rows: &[OrderRow]) -> Option<usi
     ensures { result ≡ reversed_at place rows.now }
 {
     places::reversed_by(place?, rows)
-}
-
-/// Returns the first of these amounts.
-pub(crate) fn amount_or(first: Option<Amount>, second: Option<Amount>) -> Option<Amount>
-    ensures { result ≡ amount_or first second }
-{
-    match first {
-        Some(amount) => Some(amount),
-        None => second,
-    }
 }
 
 /// Returns a member with this value.

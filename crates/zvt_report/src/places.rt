@@ -1,6 +1,6 @@
 //! The numbers of orders and payments, and the entries of the book that they booked or take back.
 //!
-//! The rows are gone through from the first one, with the counts so far.
+//! A caller goes through the rows from the first one and keeps the counts of those before.
 ghost use Rattle.std.specs.Prelude.{◌≡◌, ◌+◌, ◌<◌, ◌≤◌, ◌^◌, length};
 ghost use Rattle.std.specs.List.{position};
 ghost use Rattle.zvt_report.specs.Places.{books_as, entries_by, entry_by, payment_by, payment_of, payments_by};
@@ -21,7 +21,7 @@ pub(crate) struct Place {
     pub(crate) entry: Option<usize>,
 }
 
-/// The numbers of orders, of payments and of booked payments so far.
+/// How many orders, payments and booked payments came before a row.
 #[derive(Clone, Copy, Debug, PartialEq, Eq)]
 pub(crate) struct Counts {
     pub(crate) orders: usize,
@@ -69,7 +69,7 @@ impl Counts {
     }
 }
 
-/// Returns the number of this order if it is a payment, after so many payments.
+/// Returns the number of this order among the payments, if it is one. `payments` have come before.
 fn payment_by(payments: usize, order: &Sent) -> Option<usize>
     requires { payments + 1 < 2 ^ 64 }
     ensures { result ≡ payment_by payments order.now }
@@ -80,7 +80,7 @@ fn payment_by(payments: usize, order: &Sent) -> Option<usize>
     }
 }
 
-/// Returns the entry that a payment booked after so many entries, or that a reversal takes back.
+/// Returns the entry that a payment booked, if `entries` have come before, or the one that a reversal takes back.
 fn entry_by(entries: usize, order: &Sent, outcome: &Outcome) -> Option<usize>
     ensures { result ≡ entry_by entries order.now outcome.now }
 {
@@ -123,7 +123,7 @@ pub(crate) fn payments_in(rows: &[OrderRow]) -> usize
     count
 }
 
-/// Whether this is a payment that booked the entry at this place, after so many entries.
+/// Whether this is a payment that booked the entry at this place, if `entries` have come before.
 fn books_as(entries: usize, place: usize, order: &Sent, outcome: &Outcome) -> bool
     ensures { result ≡ books_as entries place order.now outcome.now }
 {

@@ -1,0 +1,212 @@
+-- The members of the objects of a report come in the order of their names, so that an object is read back from its text.
+use Rattle.std.proofs.Common.{◌≡◌, ℕ, ◌≤◌, ◌&&◌, Bool, true, false, Some, None, Option, List, [], ◌∷◌, ◌++◌, refl, ◌∙◌, ap, arith}
+use Rattle.std.specs.Option.{option_and_then, option_map}
+use Rattle.std.specs.Ordering.{nat_cmp, match_ordering}
+use Rattle.std.specs.Cmp.Lexicographic.{slice_cmp}
+use Rattle.std.specs.declared.cmp.Ordering.{Ordering}
+use Rattle.std.specs.declared.cmp.Ordering.TheVariants.{Less, Equal, Greater}
+use Rattle.std.proofs.lemmas.Bool.{and_from, and_parts}
+use Rattle.serde_json.specs.Data.{Data, Members, no_members, member, depth, members_depth}
+use Rattle.zvt_json.specs.Reading.{and_then, comes_after, members_ordered, ordered}
+use Rattle.zvt_json.proofs.ReadBack.{reads_back}
+use Rattle.zvt_text.specs.Meanings.{command_name, meaning_of}
+use Rattle.zvt_till.specs.declared.outcomes.Cause.{Cause}
+use Rattle.zvt_till.specs.declared.outcomes.Outcome.{Outcome}
+use Rattle.zvt_report.specs.Members.{name_text, object_value, said, value_data}
+use Rattle.zvt_report.specs.Objects.{again, close_members, code, code_of, command, look_members, maybe_cause, maybe_count, maybe_currency, maybe_receipt, other_members, payment_members, plain_members, reversal_members, summary_members, true_if, words}
+use Rattle.zvt_report.specs.Reading.{ObjectsReadBack, ReadsBack}
+use Rattle.zvt_report.specs.declared.members.Member.{Member}
+use Rattle.zvt_report.specs.declared.members.Name.{Name}
+use Rattle.zvt_report.specs.declared.members.Name.TheVariants as name
+use Rattle.zvt_report.specs.declared.members.Object.{Object}
+use Rattle.zvt_report.specs.declared.members.Object.TheVariants as object_of
+use Rattle.zvt_report.specs.declared.members.Value.{Value}
+use Rattle.zvt_report.specs.declared.members.Value.TheVariants as value
+use Rattle.zvt_report.specs.declared.members.Word.TheVariants as word
+use Rattle.zvt_report.specs.declared.rows.OrderMessage.{OrderMessage}
+
+-- ---- names in order
+
+-- the member has this name, if there is one
+abbrev IsNamed : Option Member → Name → Type 0
+IsNamed None n = Unit {0}
+IsNamed (Some m) n = m.name ≡ n
+
+-- each member has the name at its place
+abbrev AreNamed : List (Option Member) → List Name → Type 0
+AreNamed [] ns = Unit {0}
+AreNamed (m ∷ ms) [] = ⊥
+AreNamed (m ∷ ms) (n ∷ ns) = IsNamed m n × AreNamed ms ns
+
+-- the key comes after each of these names
+abbrev after_all : List ℕ → List Name → Bool
+after_all k [] = true
+after_all k (n ∷ ns) = match_ordering (slice_cmp nat_cmp k (name_text n)) false false (after_all k ns)
+
+-- each name comes after those before it
+abbrev in_order : (before : List Name) → List Name → Bool
+in_order before [] = true
+in_order before (n ∷ ns) = after_all (name_text n) before && in_order (before ++ n ∷ []) ns
+
+-- a key that comes after these names comes after the names of these members
+abbrev Covers : List Name → Members → Type 0
+Covers before found = (k : List ℕ) → after_all k before ≡ true → comes_after k found ≡ true
+
+greater : (o : Ordering) (t : Bool) → match_ordering o false false t ≡ true → (o ≡ Greater) × (t ≡ true)
+greater Less t h = absurd (cc (h))
+greater Equal t h = absurd (cc (h))
+greater Greater t h = (refl, h)
+
+after_first : (k : List ℕ) (before : List Name) (n : Name) → after_all k (before ++ n ∷ []) ≡ true → after_all k before ≡ true
+after_first k [] n h = refl
+after_first k (b ∷ before) n h =
+    let g = greater (slice_cmp nat_cmp k (name_text b)) (after_all k (before ++ n ∷ [])) h in
+    ap (λ (o : Ordering). match_ordering o false false (after_all k before)) g.0 ∙ after_first k before n g.1
+
+after_last : (k : List ℕ) (before : List Name) (n : Name) → after_all k (before ++ n ∷ []) ≡ true → slice_cmp nat_cmp k (name_text n) ≡ Greater
+after_last k [] n h = (greater (slice_cmp nat_cmp k (name_text n)) true h).0
+after_last k (b ∷ before) n h = after_last k before n (greater (slice_cmp nat_cmp k (name_text b)) (after_all k (before ++ n ∷ [])) h).1
+
+comes_last : (k l : List ℕ) (d : Data) (found : Members) → comes_after k found ≡ true → slice_cmp nat_cmp k l ≡ Greater → comes_after k (and_then found (member l d no_members)) ≡ true
+comes_last k l d no_members h is = ap (λ (o : Ordering). match_ordering o false false true) is
+comes_last k l d (member j e found) h is =
+    let g = greater (slice_cmp nat_cmp k j) (comes_after k found) h in
+    ap (λ (o : Ordering). match_ordering o false false (comes_after k (and_then found (member l d no_members)))) g.0 ∙ comes_last k l d found g.1 is
+
+covers_less : (before : List Name) (n : Name) (found : Members) → Covers before found → Covers (before ++ n ∷ []) found
+covers_less before n found covers k h = covers k (after_first k before n h)
+
+covers_more : (before : List Name) (n : Name) (d : Data) (found : Members) → Covers before found → Covers (before ++ n ∷ []) (and_then found (member (name_text n) d no_members))
+covers_more before n d found covers k h = comes_last k (name_text n) d found (covers k (after_first k before n h)) (after_last k before n h)
+
+value_ordered : (v : Value) → ordered (value_data v) ≡ true
+value_ordered value.True = refl
+value_ordered (value.Count n) = refl
+value_ordered (value.Lines first last) = refl
+value_ordered (value.Byte byte) = refl
+value_ordered (value.Bytes bytes) = refl
+value_ordered (value.Currency currency) = refl
+value_ordered (value.Word w) = refl
+
+said_ordered : (ms : List (Option Member)) (ns before : List Name) (found : Members) → AreNamed ms ns → in_order before ns ≡ true → Covers before found → members_ordered (said ms) found ≡ true
+said_ordered [] ns before found named order covers = refl
+said_ordered (m ∷ ms) [] before found named order covers = absurd named
+said_ordered (None ∷ ms) (n ∷ ns) before found named order covers =
+    let p = and_parts (after_all (name_text n) before) (in_order (before ++ n ∷ []) ns) order in
+    said_ordered ms ns (before ++ n ∷ []) found named.1 p.1 (covers_less before n found covers)
+said_ordered (Some m ∷ ms) (n ∷ ns) before found named order covers =
+    let p = and_parts (after_all (name_text n) before) (in_order (before ++ n ∷ []) ns) order in
+    let d = value_data m.value in
+    let all : members_ordered (member (name_text n) d (said ms)) found ≡ true =
+    and_from (comes_after (name_text n) found) (ordered d && members_ordered (said ms) (and_then found (member (name_text n) d no_members))) (covers (name_text n) p.0)
+    (and_from (ordered d) (members_ordered (said ms) (and_then found (member (name_text n) d no_members))) (value_ordered m.value)
+    (said_ordered ms ns (before ++ n ∷ []) (and_then found (member (name_text n) d no_members)) named.1 p.1 (covers_more before n d found covers))) in
+    ap (λ (k : Name). members_ordered (member (name_text k) d (said ms)) found) named.0 ∙ all
+
+-- ---- depth
+
+value_shallow : (v : Value) → depth (value_data v) ≤ 1
+value_shallow value.True = omega arith
+value_shallow (value.Count n) = omega arith
+value_shallow (value.Lines first last) = omega arith
+value_shallow (value.Byte byte) = omega arith
+value_shallow (value.Bytes bytes) = omega arith
+value_shallow (value.Currency currency) = omega arith
+value_shallow (value.Word w) = omega arith
+
+said_shallow : (ms : List (Option Member)) → members_depth (said ms) ≤ 1
+said_shallow [] = omega arith
+said_shallow (None ∷ ms) = said_shallow ms
+said_shallow (Some m ∷ ms) = omega (arith, value_shallow m.value, said_shallow ms)
+
+-- an object whose members have these names, in order
+read_named : (o : Object) (ms : List (Option Member)) (ns : List Name) → AreNamed ms ns → in_order [] ns ≡ true → ReadsBack o ms
+read_named o ms ns named order = λ fit.
+    let names = said_ordered ms ns [] no_members named order (λ k h. refl) in
+    reads_back (object_value o ms) fit (ap (λ (b : Bool). b && true) names) (omega (arith, said_shallow ms))
+
+-- ---- the members
+
+count_named : (n : Name) (number : Option ℕ) → IsNamed (maybe_count n number) n
+count_named n None = tt
+count_named n (Some number) = refl
+
+cause_named : (n : Name) (cause : Option Cause) → IsNamed (maybe_cause n cause) n
+cause_named n None = tt
+cause_named n (Some cause) = refl
+
+receipt_named : (receipt : Option (List ℕ)) → IsNamed (maybe_receipt receipt) name.Receipt
+receipt_named None = tt
+receipt_named (Some receipt) = refl
+
+currency_named : (currency : Option ℕ) → IsNamed (maybe_currency currency) name.Currency
+currency_named None = tt
+currency_named (Some currency) = refl
+
+again_named : (place : Option ℕ) → IsNamed (again place) name.Again
+again_named None = tt
+again_named (Some place) = refl
+
+true_named : (n : Name) (holds : Bool) → IsNamed (true_if n holds) n
+true_named n false = tt
+true_named n true = refl
+
+code_by : (found : Option ℕ) → IsNamed (option_map (λ (c : ℕ). record { name = name.Code; value = value.Byte c }) found) name.Code
+code_by None = tt
+code_by (Some c) = refl
+
+code_named : (o : Outcome) → IsNamed (code o) name.Code
+code_named o = code_by (code_of o)
+
+words_for : (c : ℕ) (meaning : Option (List ℕ)) → IsNamed (option_map (λ (said : List ℕ). record { name = name.Words; value = value.Word (word.Meaning c) }) meaning) name.Words
+words_for c None = tt
+words_for c (Some meaning) = refl
+
+words_by : (found : Option ℕ)
+    → IsNamed (option_and_then (λ (c : ℕ). option_map (λ (said : List ℕ). record { name = name.Words; value = value.Word (word.Meaning c) }) (meaning_of c)) found) name.Words
+words_by None = tt
+words_by (Some c) = words_for c (meaning_of c)
+
+words_named : (o : Outcome) → IsNamed (words o) name.Words
+words_named o = words_by (code_of o)
+
+command_by : (high low : ℕ) (found : Option (List ℕ)) → IsNamed (option_map (λ (n : List ℕ). record { name = name.Name; value = value.Word (word.Command high low) }) found) name.Name
+command_by high low None = tt
+command_by high low (Some n) = refl
+
+command_named : (message : OrderMessage) → IsNamed (command message) name.Name
+command_named message = command_by message.high message.low (command_name message.high message.low)
+
+-- ---- the objects
+
+abbrev names_of_summary : List Name
+names_of_summary = name.Bad ∷ name.Booked ∷ name.Currency ∷ name.Looks ∷ name.Messages ∷ name.Net ∷ name.Others ∷ name.ReversalsUnclear ∷ name.Reversed ∷ name.Total ∷ name.Unclear ∷ name.UnclearAmount ∷ []
+
+abbrev names_of_look : List Name
+names_of_look = name.Again ∷ name.Case ∷ name.Cause ∷ name.Lines ∷ name.Order ∷ name.Payment ∷ name.Weight ∷ []
+
+abbrev names_of_payment : List Name
+names_of_payment = name.Amount ∷ name.Approved ∷ name.Cause ∷ name.Code ∷ name.Lines ∷ name.Order ∷ name.Outcome ∷ name.Payment ∷ name.Receipt ∷ name.ReversalUnclear ∷ name.ReversedBy ∷ name.TakenBack ∷ name.Trace ∷ name.Words ∷ []
+
+abbrev names_of_reversal : List Name
+names_of_reversal = name.Amount ∷ name.Cause ∷ name.Code ∷ name.Lines ∷ name.Order ∷ name.Outcome ∷ name.Payment ∷ name.Receipt ∷ name.Words ∷ []
+
+abbrev names_of_other : List Name
+names_of_other = name.Amount ∷ name.Cause ∷ name.Code ∷ name.Control ∷ name.Lines ∷ name.Name ∷ name.Order ∷ name.Outcome ∷ name.Words ∷ []
+
+abbrev names_of_close : List Name
+names_of_close = name.Cause ∷ name.Code ∷ name.Lines ∷ name.Order ∷ name.Outcome ∷ name.Words ∷ []
+
+abbrev names_of_order : List Name
+names_of_order = name.Cause ∷ name.Code ∷ name.Control ∷ name.Lines ∷ name.Name ∷ name.Order ∷ name.Outcome ∷ name.Words ∷ []
+
+pub objects_read_back : ObjectsReadBack
+objects_read_back = (
+  (λ tally currency books messages looks. read_named object_of.Summary (summary_members tally currency books messages looks) names_of_summary (refl, (refl, (currency_named currency, (refl, (refl, (refl, (refl, (refl, (refl, (refl, (refl, (refl, tt)))))))))))) refl),
+  (λ rows look row. read_named object_of.Look (look_members rows look row) names_of_look (again_named look.again, (refl, (cause_named name.Cause _, (refl, (refl, (count_named name.Payment _, (refl, tt))))))) refl),
+  (λ books place row amount. read_named object_of.Payment (payment_members books place row amount) names_of_payment (refl, (count_named name.Approved _, (cause_named name.Cause _, (code_named row.outcome, (refl, (refl, (refl, (count_named name.Payment _, (receipt_named _, (cause_named name.ReversalUnclear _, (count_named name.ReversedBy _, (true_named name.TakenBack _, (count_named name.Trace _, (words_named row.outcome, tt)))))))))))))) refl),
+  (λ books place row message. read_named object_of.Reversal (reversal_members books place row message) names_of_reversal (count_named name.Amount _, (cause_named name.Cause _, (code_named row.outcome, (refl, (refl, (refl, (count_named name.Payment _, (receipt_named message.receipt, (words_named row.outcome, tt))))))))) refl),
+  (λ place row message. read_named object_of.Other (other_members place row message) names_of_other (count_named name.Amount _, (cause_named name.Cause _, (code_named row.outcome, (refl, (refl, (command_named message, (refl, (refl, (words_named row.outcome, tt))))))))) refl),
+  (λ place row. read_named object_of.Close (close_members place row) names_of_close (cause_named name.Cause _, (code_named row.outcome, (refl, (refl, (refl, (words_named row.outcome, tt)))))) refl),
+  (λ place row message. read_named object_of.Order (plain_members place row message) names_of_order (cause_named name.Cause _, (code_named row.outcome, (refl, (refl, (command_named message, (refl, (refl, (words_named row.outcome, tt)))))))) refl),
+)
