@@ -16,3 +16,5 @@ pub mod Currencies
 pub mod Phrases
 pub mod Sentences
 pub mod Summary
+pub mod Wrapping
+pub mod LookList

@@ -10,6 +10,7 @@ mod day;
 mod endings;
 mod kinds;
 pub mod laws;
+mod look_list;
 mod members;
 mod naming;
 pub mod objects;
@@ -21,6 +22,7 @@ mod rows;
 mod sentences;
 mod summary;
 mod sums;
+mod wrapping;
 
 pub use books::DayBooks;
 pub use cases::{Case, Look, Weight, looks};
