@@ -18,3 +18,4 @@ pub mod Sentences
 pub mod Summary
 pub mod Wrapping
 pub mod LookList
+pub mod PaymentTable

@@ -16,6 +16,7 @@ mod naming;
 pub mod objects;
 mod order_objects;
 mod parts;
+mod payment_table;
 mod phrases;
 mod places;
 mod rows;
