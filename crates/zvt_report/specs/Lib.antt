@@ -20,3 +20,6 @@ pub mod Phrases
 pub mod Sentences
 pub mod Summary
 pub mod Reading
+pub mod Wrapping
+pub mod LookList
+pub mod PaymentTable

@@ -40,9 +40,6 @@ receipt_part (Some receipt) = codes ", receipt " ++ encode_upper receipt
 abbrev pub numbers_part : (line : ℕ) → Option ℕ → Option (List ℕ) → List ℕ
 numbers_part line trace receipt = codes " (line " ++ decimal line ++ trace_part trace ++ receipt_part receipt ++ codes ")"
 
-abbrev pub approved_amount : Option Approval → Option ℕ
-approved_amount approval = option_map (λ (a : Approval). a.amount) approval
-
 unfoldable pub approval_part : Option Approval → List ℕ
 approval_part None = []
 approval_part (Some a) = numbers_part a.line a.trace a.receipt

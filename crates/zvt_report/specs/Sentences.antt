@@ -8,7 +8,8 @@ use Rattle.zvt_till.specs.declared.outcomes.Outcome.{Outcome}
 use Rattle.zvt_till.specs.declared.outcomes.Outcome.TheVariants.{Paid, Unclear}
 use Rattle.zvt_till.specs.declared.outcomes.Cause.TheVariants.{Line}
 use Rattle.zvt_report.specs.Amounts.{amount_text}
-use Rattle.zvt_report.specs.Phrases.{amount_of, amount_or_dash, twice_part, approved_amount, approval_part, approved_receipt, entry_part, reason, again_part, paid_again_by, counted_part}
+use Rattle.zvt_report.specs.Objects.{approved_of}
+use Rattle.zvt_report.specs.Phrases.{amount_of, amount_or_dash, twice_part, approval_part, approved_receipt, entry_part, reason, again_part, paid_again_by, counted_part}
 use Rattle.zvt_report.specs.declared.cases.Case.{Case}
 use Rattle.zvt_report.specs.declared.cases.Case.TheVariants.{ApprovedNotCompleted, OtherAmount, PaymentUnclear, ReversalUnclear, TakenBackBefore, ReversalRefused, CloseUnclear, CloseRefused}
 use Rattle.zvt_report.specs.declared.currencies.Decimals.{Decimals}
@@ -22,7 +23,7 @@ abbrev pub title : Decimals → Option Entry → OrderRow → (again : Option Or
 title decimals entry row again ApprovedNotCompleted =
     amount_or_dash decimals (amount_of entry row.order) ++ codes " may have been charged" ++ twice_part again
 title decimals entry row again OtherAmount =
-    amount_or_dash decimals (amount_of entry row.order) ++ codes " asked for, " ++ amount_or_dash decimals (approved_amount row.approval) ++ codes " approved"
+    amount_or_dash decimals (amount_of entry row.order) ++ codes " asked for, " ++ amount_or_dash decimals (approved_of row) ++ codes " approved"
 title decimals entry row again PaymentUnclear = codes "Payment of " ++ amount_or_dash decimals (amount_of entry row.order) ++ codes " unclear"
 title decimals entry row again ReversalUnclear = codes "Reversal of " ++ amount_or_dash decimals (amount_of entry row.order) ++ codes " unclear"
 title decimals entry row again TakenBackBefore = amount_or_dash decimals (amount_of entry row.order) ++ codes " already taken back"
@@ -39,7 +40,7 @@ approved_account decimals asked row again =
 
 abbrev pub other_amount_account : Decimals → (asked : Option ℕ) → OrderRow → (again : Option OrderRow) → List ℕ
 other_amount_account decimals asked row again =
-    codes "The till asked for " ++ amount_or_dash decimals asked ++ codes ", but the terminal approved " ++ amount_or_dash decimals (approved_amount row.approval)
+    codes "The till asked for " ++ amount_or_dash decimals asked ++ codes ", but the terminal approved " ++ amount_or_dash decimals (approved_of row)
     ++ approval_part row.approval ++ codes ", perhaps with a tip. The payment is unclear: " ++ reason row.outcome ++ codes "." ++ again_part decimals asked again
 
 abbrev pub unclear_account : Decimals → (asked : Option ℕ) → OrderRow → (again : Option OrderRow) → List ℕ
@@ -89,10 +90,10 @@ unclear_advice decimals amount None =
 unclear_advice decimals amount (Some again) =
     codes "Look in the terminal's journal for two payments of " ++ amount_or_dash decimals amount ++ codes ". The customer may have paid twice."
 
-abbrev pub other_amount_advice : Decimals → Option Approval → List ℕ
-other_amount_advice decimals approval =
-    codes "The customer has probably been charged " ++ amount_or_dash decimals (approved_amount approval) ++ codes ". If the terminal's journal has "
-    ++ approved_receipt approval ++ codes ", add that amount to the day by hand, or take it back and charge again."
+abbrev pub other_amount_advice : Decimals → OrderRow → List ℕ
+other_amount_advice decimals row =
+    codes "The customer has probably been charged " ++ amount_or_dash decimals (approved_of row) ++ codes ". If the terminal's journal has "
+    ++ approved_receipt row.approval ++ codes ", add that amount to the day by hand, or take it back and charge again."
 
 -- what depends on nothing else
 abbrev pub fixed_advice : Case → List ℕ
@@ -109,7 +110,7 @@ fixed_advice CloseRefused = codes "Start the end of day again."
 -- what to do about an order in this case
 abbrev pub advice : Decimals → Option Entry → OrderRow → (again : Option OrderRow) → Case → List ℕ
 advice decimals entry row again ApprovedNotCompleted = approved_advice row.approval again
-advice decimals entry row again OtherAmount = other_amount_advice decimals row.approval
+advice decimals entry row again OtherAmount = other_amount_advice decimals row
 advice decimals entry row again PaymentUnclear = unclear_advice decimals (amount_of entry row.order) again
 advice decimals entry row again ReversalUnclear = fixed_advice ReversalUnclear
 advice decimals entry row again TakenBackBefore = fixed_advice TakenBackBefore

@@ -10,7 +10,7 @@ use std::alloc::AllocError;
 use zvt_text::Text;
 
 /// Writes a character that many times.
-fn repeat(text: &mut Text, character: u8, count: usize) -> Result<(), AllocError>
+pub(crate) fn repeat(text: &mut Text, character: u8, count: usize) -> Result<(), AllocError>
     ensures { OnOk result (text.new ≡ text.old ++ replicate count character) }
 {
     for _ in 0..count {

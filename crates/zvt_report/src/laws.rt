@@ -65,10 +65,14 @@ pub fn each_order_has_a_message()
 /// So the law on doubts holds of every report.
 pub fn each_reversal_names_an_entry()
     ensures { EachReversalNamesAnEntry }
+{}
+
 /// If the numbers of an object of a report fit into 64 bits, the reader of the crate `serde_json` gives the object back
 /// from its text: its members are in the order of their names, and each is there once.
 pub fn objects_read_back()
     ensures { ObjectsReadBack }
+{}
+
 /// The payments that a day booked have the entries of its book, each one once, in the same order.
 pub fn places_name_entries()
     ensures { PlacesNameEntries }

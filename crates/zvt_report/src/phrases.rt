@@ -1,7 +1,7 @@
 //! Writes the parts of sentences about an order.
 ghost use Rattle.std.specs.Prelude.{◌≡◌, ◌++◌, OnOk, option_map};
 ghost use Rattle.zvt_till.specs.declared.entries.Entry.{Entry};
-ghost use Rattle.zvt_report.specs.Phrases.{again_part, amount_of, amount_or_dash, approval_part, approved_amount};
+ghost use Rattle.zvt_report.specs.Phrases.{again_part, amount_of, amount_or_dash, approval_part};
 ghost use Rattle.zvt_report.specs.Phrases.{approved_receipt, counted_part, entry_part, numbers_part, paid_again_by};
 ghost use Rattle.zvt_report.specs.Phrases.{paid_numbers};
 ghost use Rattle.zvt_report.specs.Phrases.{reason, receipt_name, receipt_part, total_part, trace_part, twice_part};
@@ -33,16 +33,6 @@ pub(crate) fn amount_of(entry: &Option<Entry>, order: &Sent) -> Option<Amount>
         Sent::Pay(amount) => Some(*amount),
         Sent::Reverse(_) => entry_amount(entry),
         _ => None,
-    }
-}
-
-/// Returns the amount that the terminal approved, if it approved one.
-pub(crate) fn approved_amount(approval: &Option<Approval>) -> Option<Amount>
-    ensures { result ≡ approved_amount approval.now }
-{
-    match approval {
-        Some(approval) => Some(approval.amount),
-        None => None,
     }
 }
 

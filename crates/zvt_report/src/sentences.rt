@@ -7,9 +7,10 @@ ghost use Rattle.zvt_report.specs.Sentences.{unclear_account, unclear_advice};
 
 use crate::cases::Case;
 use crate::currencies::Decimals;
+use crate::parts::approved_of;
 use crate::phrases::{
-    again_part, amount_of, amount_or_dash, approval_part, approved_amount, approved_receipt,
-    counted_part, entry_part, phrase, reason, twice_part,
+    again_part, amount_of, amount_or_dash, approval_part, approved_receipt, counted_part,
+    entry_part, phrase, reason, twice_part,
 };
 use crate::rows::{Approval, OrderRow};
 use std::alloc::AllocError;
@@ -36,7 +37,7 @@ pub(crate) fn title(
         }
         Case::OtherAmount => {
             phrase(text, decimals, b"", asked, b" asked for, ")?;
-            amount_or_dash(text, decimals, &approved_amount(&row.approval))?;
+            amount_or_dash(text, decimals, &approved_of(row))?;
             text.word(b" approved")
         }
         Case::PaymentUnclear => phrase(text, decimals, b"Payment of ", asked, b" unclear"),
@@ -83,7 +84,7 @@ fn other_amount_account(
         asked,
         b", but the terminal approved ",
     )?;
-    amount_or_dash(text, decimals, &approved_amount(&row.approval))?;
+    amount_or_dash(text, decimals, &approved_of(row))?;
     approval_part(text, &row.approval)?;
     text.word(b", perhaps with a tip. The payment is unclear: ")?;
     reason(text, &row.outcome)?;
@@ -229,14 +230,14 @@ fn approved_advice(
 fn other_amount_advice(
     text: &mut Text,
     decimals: Decimals,
-    approval: &Option<Approval>,
+    row: &OrderRow,
 ) -> Result<(), AllocError>
-    ensures { OnOk result (text.new ≡ text.old ++ other_amount_advice decimals approval.now) }
+    ensures { OnOk result (text.new ≡ text.old ++ other_amount_advice decimals row.now) }
 {
     text.word(b"The customer has probably been charged ")?;
-    amount_or_dash(text, decimals, &approved_amount(approval))?;
+    amount_or_dash(text, decimals, &approved_of(row))?;
     text.word(b". If the terminal's journal has ")?;
-    approved_receipt(text, approval)?;
+    approved_receipt(text, &row.approval)?;
     text.word(b", add that amount to the day by hand, or take it back and charge again.")
 }
 
@@ -297,7 +298,7 @@ pub(crate) fn advice(
 {
     match case {
         Case::ApprovedNotCompleted => approved_advice(text, &row.approval, again),
-        Case::OtherAmount => other_amount_advice(text, decimals, &row.approval),
+        Case::OtherAmount => other_amount_advice(text, decimals, row),
         Case::PaymentUnclear => {
             unclear_advice(text, decimals, &amount_of(entry, &row.order), again)
         }

@@ -4,4 +4,4 @@ use Rattle.zvt_report.proofs.sentences.other_amount_account.Goals as goal
 
 pub returns : goal.returns
 returns c =
-    completes c.again_part.result c.push.new.self c.again_part.new.text _ _ (simp (c.in_ok-push.ensures, c.in_ok-reason.ensures, c.in_ok-word.ensures, c.in_ok-approval_part.ensures, c.in_ok-amount_or_dash.ensures, c.approved_amount.ensures, c.in_ok-phrase.ensures, append_assoc)) c.again_part.ensures
+    completes c.again_part.result c.push.new.self c.again_part.new.text _ _ (simp (c.in_ok-push.ensures, c.in_ok-reason.ensures, c.in_ok-word.ensures, c.in_ok-approval_part.ensures, c.in_ok-amount_or_dash.ensures, c.approved_of.ensures, c.in_ok-phrase.ensures, append_assoc)) c.again_part.ensures

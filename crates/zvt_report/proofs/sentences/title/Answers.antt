@@ -4,7 +4,7 @@ use Rattle.zvt_report.proofs.sentences.title.Goals as goal
 
 pub returns-in_ok-amount_or_dash-in-OtherAmount : goal.returns-in_ok-amount_or_dash-in-OtherAmount
 returns-in_ok-amount_or_dash-in-OtherAmount c =
-    adds_completely c.word.result c.amount_or_dash.new.text c.word.new.self _ _ (simp (c.in_ok-amount_or_dash-in-OtherAmount.ensures, c.approved_amount.ensures, c.in_ok-phrase-in-OtherAmount.ensures, c.in-OtherAmount.is, c.amount_of.ensures, append_assoc)) c.word.ensures
+    adds_completely c.word.result c.amount_or_dash.new.text c.word.new.self _ _ (simp (c.in_ok-amount_or_dash-in-OtherAmount.ensures, c.approved_of.ensures, c.in_ok-phrase-in-OtherAmount.ensures, c.in-OtherAmount.is, c.amount_of.ensures, append_assoc)) c.word.ensures
 
 pub returns-in-ReversalUnclear : goal.returns-in-ReversalUnclear
 returns-in-ReversalUnclear c =

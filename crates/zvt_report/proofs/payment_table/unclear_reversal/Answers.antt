@@ -1,0 +1,8 @@
+use Rattle.std.proofs.Common.{append_assoc}
+use Rattle.zvt_report.proofs.TextLemmas.{adds_completely}
+use Rattle.zvt_report.proofs.payment_table.unclear_reversal.Goals as goal
+
+pub returns : goal.returns
+returns c =
+    adds_completely c.word-2.result c.word.new.self c.word-2.new.self _ _
+    (simp (c.as_bytes.ensures.value, c.name.ensures, c.in_ok-word.ensures, append_assoc)) c.word-2.ensures

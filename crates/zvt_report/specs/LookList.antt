@@ -1,0 +1,119 @@
+-- The orders that a person should look at, as text.
+use Rattle.std.specs.Prelude.{◌≡◌, ℕ, ◌+◌, Bool, true, false, not, cond, List, [], ◌∷◌, ◌++◌, codes, count_by, Option, Some, None, slice_get, refl}
+use Rattle.std.specs.Fmt.{decimal, digits}
+use Rattle.std.specs.Option.{option_and_then}
+use Rattle.hex.specs.Hex.{encode_with}
+use Rattle.zvt_till.specs.declared.entries.Entry.{Entry}
+use Rattle.zvt_till.specs.declared.happenings.Sent.{Sent}
+use Rattle.zvt_till.specs.declared.happenings.Sent.TheVariants.{Pay, Reverse, CloseDay}
+use Rattle.zvt_till.specs.declared.outcomes.Cause.TheVariants.{Line}
+use Rattle.zvt_till.specs.declared.outcomes.Outcome.TheVariants.{Unclear}
+use Rattle.zvt_report.specs.Amounts.{amount_text}
+use Rattle.zvt_report.specs.Columns.{right_aligned}
+use Rattle.zvt_report.specs.Looks.{weight_of}
+use Rattle.zvt_report.specs.Phrases.{again_part, amount_or_dash, approval_part, approved_receipt, reason, twice_part}
+use Rattle.zvt_report.specs.Sentences.{account, advice, title, unclear_advice}
+use Rattle.zvt_report.specs.Wrapping.{wrapped}
+use Rattle.zvt_report.specs.declared.cases.Case.{Case}
+use Rattle.zvt_report.specs.declared.cases.Case.TheVariants.{ApprovedNotCompleted, PaymentUnclear, CloseUnclear}
+use Rattle.zvt_report.specs.declared.cases.Look.{Look}
+use Rattle.zvt_report.specs.declared.cases.Weight.{Weight}
+use Rattle.zvt_report.specs.declared.cases.Weight.TheVariants.{Act, Check}
+use Rattle.zvt_report.specs.declared.currencies.Decimals.{Decimals}
+use Rattle.zvt_report.specs.declared.currencies.Decimals.TheVariants.{Two}
+use Rattle.zvt_report.specs.declared.rows.OrderRow.{OrderRow}
+
+-- ---- one order
+
+-- the payment that a reversal takes back
+abbrev pub entry_of : List Entry → Sent → Option Entry
+entry_of book (Reverse e) = slice_get book e
+entry_of book _ = None
+
+-- the order that paid the same amount again
+abbrev pub row_at : List OrderRow → (place : Option ℕ) → Option OrderRow
+row_at rows place = option_and_then (λ (p : ℕ). slice_get rows p) place
+
+unfoldable pub weight_text : Weight → List ℕ
+weight_text Act = codes "ACT    "
+weight_text Check = codes "CHECK  "
+
+unfoldable pub lines_part : (first last : ℕ) → List ℕ
+lines_part first last = codes " (lines " ++ decimal first ++ 45 ∷ decimal last ++ codes ")\n"
+
+-- an empty line, and the line with the title
+unfoldable pub look_head : Decimals → (number : ℕ) → Option Entry → OrderRow → (again : Option OrderRow) → Case → List ℕ
+look_head decimals number entry row again case =
+    10 ∷ right_aligned 2 (decimal number) ++ codes ". " ++ weight_text (weight_of case) ++ title decimals entry row again case ++ lines_part row.first row.last
+
+unfoldable pub account_lines : List ℕ → List ℕ
+account_lines sentence = codes "    " ++ wrapped 4 sentence ++ 10 ∷ []
+
+unfoldable pub advice_lines : List ℕ → List ℕ
+advice_lines sentence = codes "    -> " ++ wrapped 7 sentence ++ 10 ∷ []
+
+unfoldable pub look_text : Decimals → (number : ℕ) → Option Entry → OrderRow → (again : Option OrderRow) → Case → List ℕ
+look_text decimals number entry row again case =
+    look_head decimals number entry row again case ++ account_lines (account decimals entry row again case) ++ advice_lines (advice decimals entry row again case)
+
+unfoldable pub look_of : Decimals → List Entry → List OrderRow → (number : ℕ) → Look → List ℕ
+look_of decimals book rows number look =
+    elim (slice_get rows look.order) [ None ↦ [] | Some row ↦ look_text decimals number (entry_of book row.order) row (row_at rows look.again) look.case ]
+
+-- ---- all of them
+
+abbrev pub is_urgent : Case → Bool
+is_urgent case = elim (weight_of case) [ Act ↦ true | Check ↦ false ]
+
+-- in this round the urgent ones are listed, or the others
+abbrev pub is_listed : (urgent : Bool) → Case → Bool
+is_listed urgent case = cond urgent (is_urgent case) (not (is_urgent case))
+
+abbrev pub step_text : Decimals → List Entry → List OrderRow → (urgent : Bool) → (listed : ℕ) → Look → List ℕ
+step_text decimals book rows urgent listed look = cond (is_listed urgent look.case) (look_of decimals book rows (listed + 1) look) []
+
+abbrev pub listed_after : (urgent : Bool) → (listed : ℕ) → Look → ℕ
+listed_after urgent listed look = cond (is_listed urgent look.case) (listed + 1) listed
+
+-- after so many that are listed already
+abbrev pub looks_from : Decimals → List Entry → List OrderRow → (urgent : Bool) → (listed : ℕ) → List Look → List ℕ
+looks_from decimals book rows urgent listed [] = []
+looks_from decimals book rows urgent listed (look ∷ looks) =
+    step_text decimals book rows urgent listed look ++ looks_from decimals book rows urgent (listed_after urgent listed look) looks
+
+abbrev pub urgent_count : List Look → ℕ
+urgent_count looks = count_by (λ (look : Look). is_urgent look.case) looks
+
+-- the urgent ones first, with numbers from 1
+unfoldable pub listed_looks : Decimals → List Entry → List OrderRow → List Look → List ℕ
+listed_looks decimals book rows looks =
+    codes "Look at these\n" ++ looks_from decimals book rows true 0 looks ++ looks_from decimals book rows false (urgent_count looks) looks
+
+abbrev pub looks_text : Decimals → List Entry → List OrderRow → List Look → List ℕ
+looks_text decimals book rows [] = codes "Look at these: nothing\n"
+looks_text decimals book rows (look ∷ looks) = listed_looks decimals book rows (look ∷ looks)
+
+-- ---- rows worked by hand
+
+abbrev a_payment : (amount first : ℕ) → OrderRow
+a_payment amount first =
+    record { order = Pay amount; first = first; last = first + 8; outcome = Unclear Line; approval = Some (record { line = first + 6; amount = amount; trace = Some 20; receipt = Some (0 ∷ 8 ∷ []) }) }
+
+abbrev an_end : OrderRow
+an_end = record { order = CloseDay; first = 10; last = 16; outcome = Unclear Line; approval = None }
+
+-- the end of day is the first order, and not urgent
+urgent_first :
+    looks_text Two [] (an_end ∷ a_payment 3499 128 ∷ []) (record { case = CloseUnclear; order = 0; again = None } ∷ record { case = ApprovedNotCompleted; order = 1; again = None } ∷ [])
+    ≡ codes "Look at these\n\n"
+    ++ codes " 1. ACT    34.99 may have been charged (lines 128-136)\n"
+    ++ codes "    The terminal approved 34.99 (line 134, trace 000020, receipt 0008), but\n"
+    ++ codes "    the payment is unclear: the connection was lost.\n"
+    ++ codes "    -> The customer has probably been charged. Look for receipt 0008 in the\n"
+    ++ codes "       terminal's journal before you charge again.\n\n"
+    ++ codes " 2. CHECK  End of day unclear (lines 10-16)\n"
+    ++ codes "    The end of day is unclear: the connection was lost.\n"
+    ++ codes "    -> If the terminal printed no end-of-day receipt, start the end of day\n"
+    ++ codes "       again.\n"
+unfolding account_lines advice_lines again_part amount_or_dash amount_text approval_part approved_receipt digits encode_with lines_part listed_looks look_head look_of look_text reason twice_part weight_text wrapped
+urgent_first = refl

@@ -1,0 +1,249 @@
+//! Writes the orders that a person should look at.
+ghost use Rattle.std.specs.Prelude.{◌≡◌, ◌++◌, ◌≤◌, ◌^◌, IfOk, OnOk, slice_get};
+ghost use Rattle.zvt_report.specs.LookList.{account_lines, advice_lines, entry_of, is_listed, is_urgent, lines_part};
+ghost use Rattle.zvt_report.specs.LookList.{listed_after, listed_looks, look_head, look_of, look_text, looks_from, looks_text, row_at};
+ghost use Rattle.zvt_report.specs.LookList.{step_text, urgent_count, weight_text};
+
+use crate::cases::{Case, Look, Weight};
+use crate::columns::right;
+use crate::currencies::Decimals;
+use crate::rows::OrderRow;
+use crate::sentences::{account, advice, title};
+use crate::wrapping::wrapped;
+use std::alloc::AllocError;
+use zvt_text::Text;
+use zvt_till::{Entry, Sent};
+
+/// Returns the payment that a reversal takes back.
+fn entry_of(book: &[Entry], order: &Sent) -> Option<Entry>
+    ensures { result ≡ entry_of book.now order.now }
+{
+    match order {
+        Sent::Reverse(place) => book.get(*place).copied(),
+        _ => None,
+    }
+}
+
+/// Returns the order at this place.
+fn row_at(rows: &[OrderRow], place: Option<usize>) -> Option<OrderRow>
+    ensures { result ≡ row_at rows.now place }
+{
+    rows.get(place?).copied()
+}
+
+/// Writes how urgent a case is.
+#[tactic(auto, unfolding(crate::specs::LookList::weight_text))]
+fn weight(text: &mut Text, weight: Weight) -> Result<(), AllocError>
+    ensures { OnOk result (text.new ≡ text.old ++ weight_text weight) }
+{
+    match weight {
+        Weight::Act => text.word(b"ACT    "),
+        Weight::Check => text.word(b"CHECK  "),
+    }
+}
+
+/// Writes the lines of an order, and the end of the line.
+#[tactic(auto, unfolding(crate::specs::LookList::lines_part))]
+fn lines_part(text: &mut Text, first: u64, last: u64) -> Result<(), AllocError>
+    ensures { OnOk result (text.new ≡ text.old ++ lines_part first last) }
+{
+    text.word(b" (lines ")?;
+    text.number(first)?;
+    text.push(b'-')?;
+    text.number(last)?;
+    text.word(b")\n")
+}
+
+/// Writes an empty line and the line with the title.
+#[tactic(auto, unfolding(crate::specs::LookList::look_head))]
+fn look_head(
+    text: &mut Text,
+    decimals: Decimals,
+    number: u128,
+    entry: &Option<Entry>,
+    row: &OrderRow,
+    again: &Option<OrderRow>,
+    case: Case,
+) -> Result<(), AllocError>
+    ensures { OnOk result (text.new ≡ text.old ++ look_head decimals number entry.now row.now again.now case) }
+{
+    text.push(b'\n')?;
+    right(text, 2, b"", number)?;
+    text.word(b". ")?;
+    weight(text, case.weight())?;
+    title(text, decimals, entry, row, again, case)?;
+    lines_part(text, row.first, row.last)
+}
+
+/// Writes what happened to an order.
+#[tactic(auto, unfolding(crate::specs::LookList::account_lines))]
+fn account_lines(text: &mut Text, sentence: &[u8]) -> Result<(), AllocError>
+    ensures { OnOk result (text.new ≡ text.old ++ account_lines sentence.now) }
+{
+    text.word(b"    ")?;
+    wrapped(text, 4, sentence)?;
+    text.push(b'\n')
+}
+
+/// Writes what to do about an order.
+#[tactic(auto, unfolding(crate::specs::LookList::advice_lines))]
+fn advice_lines(text: &mut Text, sentence: &[u8]) -> Result<(), AllocError>
+    ensures { OnOk result (text.new ≡ text.old ++ advice_lines sentence.now) }
+{
+    text.word(b"    -> ")?;
+    wrapped(text, 7, sentence)?;
+    text.push(b'\n')
+}
+
+/// Writes an order in this case. The sentences are put together in `note`, whose own text is lost.
+#[tactic(auto, unfolding(crate::specs::LookList::look_text))]
+fn look_text(
+    text: &mut Text,
+    note: &mut Text,
+    decimals: Decimals,
+    number: u128,
+    entry: &Option<Entry>,
+    row: &OrderRow,
+    again: &Option<OrderRow>,
+    case: Case,
+) -> Result<(), AllocError>
+    ensures { OnOk result (text.new ≡ text.old ++ look_text decimals number entry.now row.now again.now case) }
+{
+    look_head(text, decimals, number, entry, row, again, case)?;
+    note.clear();
+    account(note, decimals, entry, row, again, case)?;
+    account_lines(text, note.bytes())?;
+    note.clear();
+    advice(note, decimals, entry, row, again, case)?;
+    advice_lines(text, note.bytes())
+}
+
+/// Writes a look under this number.
+#[tactic(auto, unfolding(crate::specs::LookList::look_of))]
+fn look_of(
+    text: &mut Text,
+    note: &mut Text,
+    decimals: Decimals,
+    book: &[Entry],
+    rows: &[OrderRow],
+    number: u128,
+    look: &Look,
+) -> Result<(), AllocError>
+    ensures { OnOk result (text.new ≡ text.old ++ look_of decimals book.now rows.now number look.now) }
+{
+    let Some(row) = rows.get(look.order) else {
+        return Ok(());
+    };
+    let entry = entry_of(book, &row.order);
+    let again = row_at(rows, look.again);
+    look_text(text, note, decimals, number, &entry, row, &again, look.case)
+}
+
+/// Whether the case is urgent.
+fn is_urgent(case: Case) -> bool
+    ensures { result ≡ is_urgent case }
+{
+    match case.weight() {
+        Weight::Act => true,
+        Weight::Check => false,
+    }
+}
+
+/// Whether a case is listed in the round of the urgent ones, or in the other one.
+fn is_listed(urgent: bool, case: Case) -> bool
+    ensures { result ≡ is_listed urgent case }
+{
+    if urgent {
+        is_urgent(case)
+    } else {
+        !is_urgent(case)
+    }
+}
+
+/// Writes a look if it is listed in this round, and returns how many are listed then.
+fn step(
+    text: &mut Text,
+    note: &mut Text,
+    decimals: Decimals,
+    book: &[Entry],
+    rows: &[OrderRow],
+    urgent: bool,
+    listed: u128,
+    look: &Look,
+) -> Result<u128, AllocError>
+    requires { listed ≤ 2 ^ 100 }
+    ensures { IfOk result (λ after. (after ≡ listed_after urgent listed look.now)
+        × (text.new ≡ text.old ++ step_text decimals book.now rows.now urgent listed look.now)) }
+{
+    if !is_listed(urgent, look.case) {
+        return Ok(listed);
+    }
+    look_of(text, note, decimals, book, rows, listed + 1, look)?;
+    Ok(listed + 1)
+}
+
+/// Writes the looks of one round, after so many that are listed already.
+fn looks_from(
+    text: &mut Text,
+    note: &mut Text,
+    decimals: Decimals,
+    book: &[Entry],
+    rows: &[OrderRow],
+    urgent: bool,
+    before: u128,
+    looks: &[Look],
+) -> Result<(), AllocError>
+    requires { before ≤ 2 ^ 64 }
+    ensures { OnOk result (text.new ≡ text.old
+        ++ looks_from decimals book.now rows.now urgent before looks.now) }
+{
+    let mut listed = before;
+    let mut rest = looks;
+    'looks: while let [look, later @ ..] = rest {
+        listed = step(text, note, decimals, book, rows, urgent, listed, look)?;
+        rest = later;
+    }
+    Ok(())
+}
+
+/// Returns the number of urgent looks.
+fn urgent_count(looks: &[Look]) -> usize
+    ensures { result ≡ urgent_count looks.now }
+{
+    looks.iter().filter(|look| is_urgent(look.case)).count()
+}
+
+/// Writes the looks under their heading, the urgent ones first.
+fn listed_looks(
+    text: &mut Text,
+    note: &mut Text,
+    decimals: Decimals,
+    book: &[Entry],
+    rows: &[OrderRow],
+    looks: &[Look],
+) -> Result<(), AllocError>
+    ensures { OnOk result (text.new ≡ text.old ++ listed_looks decimals book.now rows.now looks.now) }
+{
+    let urgent = urgent_count(looks) as u128;
+    text.word(b"Look at these\n")?;
+    looks_from(text, note, decimals, book, rows, true, 0, looks)?;
+    looks_from(text, note, decimals, book, rows, false, urgent, looks)
+}
+
+/// Writes the looks, the urgent ones first. The sentences are put together in `note`, whose own text is lost.
+pub(crate) fn looks_text(
+    text: &mut Text,
+    note: &mut Text,
+    decimals: Decimals,
+    book: &[Entry],
+    rows: &[OrderRow],
+    looks: &[Look],
+) -> Result<(), AllocError>
+    ensures { OnOk result (text.new ≡ text.old ++ looks_text decimals book.now rows.now looks.now) }
+{
+    if looks.is_empty() {
+        text.word(b"Look at these: nothing\n")
+    } else {
+        listed_looks(text, note, decimals, book, rows, looks)
+    }
+}
