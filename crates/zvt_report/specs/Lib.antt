@@ -19,3 +19,4 @@ pub mod Summary
 pub mod Wrapping
 pub mod LookList
 pub mod PaymentTable
+pub mod OtherTable

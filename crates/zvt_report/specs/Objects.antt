@@ -35,7 +35,6 @@ use Rattle.zvt_report.specs.declared.members.Name.TheVariants as name
 use Rattle.zvt_report.specs.declared.members.Object.TheVariants as object_of
 use Rattle.zvt_report.specs.declared.members.Value.{Value}
 use Rattle.zvt_report.specs.declared.members.Value.TheVariants as value
-use Rattle.zvt_report.specs.declared.members.Word.{Word}
 use Rattle.zvt_report.specs.declared.members.Word.TheVariants as word
 use Rattle.zvt_report.specs.declared.places.Counts.{Counts}
 use Rattle.zvt_report.specs.declared.places.Place.{Place}

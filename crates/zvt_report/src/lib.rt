@@ -15,6 +15,7 @@ mod members;
 mod naming;
 pub mod objects;
 mod order_objects;
+mod other_table;
 mod parts;
 mod payment_table;
 mod phrases;
