@@ -20,3 +20,4 @@ pub mod Wrapping
 pub mod LookList
 pub mod PaymentTable
 pub mod OtherTable
+pub mod TextReport

@@ -24,6 +24,7 @@ mod rows;
 mod sentences;
 mod summary;
 mod sums;
+pub mod text;
 mod wrapping;
 
 pub use books::DayBooks;
