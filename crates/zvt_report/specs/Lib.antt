@@ -23,3 +23,5 @@ pub mod Reading
 pub mod Wrapping
 pub mod LookList
 pub mod PaymentTable
+pub mod OtherTable
+pub mod TextReport

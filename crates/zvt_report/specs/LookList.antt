@@ -12,10 +12,10 @@ use Rattle.zvt_report.specs.Amounts.{amount_text}
 use Rattle.zvt_report.specs.Columns.{right_aligned}
 use Rattle.zvt_report.specs.Looks.{weight_of}
 use Rattle.zvt_report.specs.Phrases.{again_part, amount_or_dash, approval_part, approved_receipt, reason, twice_part}
-use Rattle.zvt_report.specs.Sentences.{account, advice, title, unclear_advice}
+use Rattle.zvt_report.specs.Sentences.{account, advice, title}
 use Rattle.zvt_report.specs.Wrapping.{wrapped}
 use Rattle.zvt_report.specs.declared.cases.Case.{Case}
-use Rattle.zvt_report.specs.declared.cases.Case.TheVariants.{ApprovedNotCompleted, PaymentUnclear, CloseUnclear}
+use Rattle.zvt_report.specs.declared.cases.Case.TheVariants.{ApprovedNotCompleted, CloseUnclear}
 use Rattle.zvt_report.specs.declared.cases.Look.{Look}
 use Rattle.zvt_report.specs.declared.cases.Weight.{Weight}
 use Rattle.zvt_report.specs.declared.cases.Weight.TheVariants.{Act, Check}

@@ -1,5 +1,5 @@
 -- The table of the payments.
-use Rattle.std.specs.Prelude.{◌≡◌, ℕ, ◌+◌, Bool, true, false, cond, List, [], ◌∷◌, ◌++◌, codes, Option, Some, None, unwrap_or, ◌==◌, refl}
+use Rattle.std.specs.Prelude.{◌≡◌, ℕ, Bool, true, false, cond, List, [], ◌∷◌, ◌++◌, codes, Option, Some, None, unwrap_or, ◌==◌, refl}
 use Rattle.std.specs.Fmt.{decimal, digits}
 use Rattle.hex.specs.Hex.{encode_upper, encode_with}
 use Rattle.zvt_text.specs.Numbers.{zero_padded}

@@ -1,5 +1,5 @@
 -- The summary of a day: what stands, what was taken back, and what is unclear.
-use Rattle.std.specs.Prelude.{◌≡◌, ℕ, Bool, true, false, List, [], ◌∷◌, ◌++◌, codes, length, Option, Some, None, refl}
+use Rattle.std.specs.Prelude.{◌≡◌, ℕ, ◌==◌, cond, Bool, true, false, List, [], ◌∷◌, ◌++◌, codes, length, Option, Some, None, refl}
 use Rattle.std.specs.Fmt.{digits}
 use Rattle.zvt_till.specs.Marks.{total}
 use Rattle.zvt_till.specs.declared.entries.Doubt.{Doubt}
@@ -25,9 +25,13 @@ net_line money book = codes "Net total   " ++ amount_column (decimals_of money) 
 unfoldable pub booked_line : Option Money → List Entry → List ℕ
 booked_line money book = codes "  booked    " ++ amount_column (decimals_of money) [] (booked_total book) ++ codes "  " ++ count_text (length book) (codes "payment") ++ 10 ∷ []
 
+-- the sign of a sum that was taken back
+unfoldable pub minus : ℕ → List ℕ
+minus units = cond (units == 0) [] (codes "-")
+
 unfoldable pub taken_back_line : Option Money → List Entry → List ℕ
 taken_back_line money book =
-    codes "  taken back" ++ amount_column (decimals_of money) (codes "-") (taken_back book) ++ codes "  " ++ count_text (reversed_count book) (codes "reversal") ++ 10 ∷ []
+    codes "  taken back" ++ amount_column (decimals_of money) (minus (taken_back book)) (taken_back book) ++ codes "  " ++ count_text (reversed_count book) (codes "reversal") ++ 10 ∷ []
 
 unfoldable pub unclear_line : Option Money → List Entry → List (ℕ × Cause) → List ℕ
 unclear_line money book unclear =
@@ -55,7 +59,7 @@ a_day =
 in_euros : summary_text (money_of (Some 978)) a_day
     ≡ codes "Net total             35.34 EUR\n" ++ codes "  booked              50.34  3 payments\n" ++ codes "  taken back         -15.00  1 reversal\n"
     ++ codes "Unclear               34.99  1 payment, 1 reversal\n"
-unfolding amount_column booked_line count_text decimals_of digits net_line taken_back_line unclear_line unit_text
+unfolding amount_column booked_line count_text decimals_of digits minus net_line taken_back_line unclear_line unit_text
 in_euros = refl
 
 in_units : net_line (money_of None) a_day.book ≡ codes "Net total           3534 in the smallest unit of the currency\n"

@@ -16,6 +16,7 @@ mod naming;
 pub mod objects;
 mod order_objects;
 mod ordering;
+mod other_table;
 mod parts;
 mod payment_table;
 mod phrases;
@@ -27,6 +28,7 @@ mod said;
 mod sentences;
 mod summary;
 mod sums;
+pub mod text;
 mod wrapping;
 
 pub use books::DayBooks;

@@ -1,8 +1,8 @@
 //! Writes the orders that a person should look at.
-ghost use Rattle.std.specs.Prelude.{◌≡◌, ◌++◌, ◌≤◌, ◌^◌, IfOk, OnOk, slice_get};
+ghost use Rattle.std.specs.Prelude.{◌≡◌, ◌++◌, ◌≤◌, ◌^◌, IfOk, OnOk};
 ghost use Rattle.zvt_report.specs.LookList.{account_lines, advice_lines, entry_of, is_listed, is_urgent, lines_part};
-ghost use Rattle.zvt_report.specs.LookList.{listed_after, listed_looks, look_head, look_of, look_text, looks_from, looks_text, row_at};
-ghost use Rattle.zvt_report.specs.LookList.{step_text, urgent_count, weight_text};
+ghost use Rattle.zvt_report.specs.LookList.{listed_after, listed_looks, look_head, look_of, look_text, looks_from};
+ghost use Rattle.zvt_report.specs.LookList.{looks_text, row_at, step_text, urgent_count, weight_text};
 
 use crate::cases::{Case, Look, Weight};
 use crate::columns::right;

@@ -73,7 +73,7 @@ fn summary(
 }
 
 /// Returns the message of the order at this place, or an empty one if there is none.
-fn message_at(messages: &[OrderMessage], place: usize) -> OrderMessage
+pub(crate) fn message_at(messages: &[OrderMessage], place: usize) -> OrderMessage
     ensures { result ≡ message_at messages.now place }
 {
     match messages.get(place) {

@@ -2,9 +2,9 @@
 ghost use Rattle.std.specs.Prelude.{◌≡◌, ◌++◌, OnOk};
 ghost use Rattle.zvt_report.specs.Objects.{entry_at};
 ghost use Rattle.zvt_report.specs.PaymentTable.{doubt_text, entry_text, explained, fraction_blanks, lines_column};
-ghost use Rattle.zvt_report.specs.PaymentTable.{outcome_text, payment_columns, payment_heading, payment_line, payment_row};
-ghost use Rattle.zvt_report.specs.PaymentTable.{payment_text, payments_from, payments_text, receipt_column};
-ghost use Rattle.zvt_report.specs.PaymentTable.{trace_column, unclear_reversal};
+ghost use Rattle.zvt_report.specs.PaymentTable.{outcome_text, payment_columns, payment_heading, payment_line};
+ghost use Rattle.zvt_report.specs.PaymentTable.{payment_row, payment_text, payments_from, payments_text};
+ghost use Rattle.zvt_report.specs.PaymentTable.{receipt_column, trace_column, unclear_reversal};
 ghost use Rattle.zvt_report.specs.Places.{no_counts};
 
 use crate::amounts::amount_column;

@@ -1,7 +1,7 @@
 //! Writes the summary of a day.
 ghost use Rattle.std.specs.Prelude.{◌≡◌, ◌++◌, OnOk};
 ghost use Rattle.zvt_report.specs.Summary.{booked_line, net_line, summary_text, taken_back_line, unclear_line};
-ghost use Rattle.zvt_report.specs.Summary.{unit_text};
+ghost use Rattle.zvt_report.specs.Summary.{minus, unit_text};
 
 use crate::amounts::{amount_column, count};
 use crate::books::DayBooks;
@@ -50,12 +50,21 @@ fn booked_line(text: &mut Text, money: &Option<Money>, book: &[Entry]) -> Result
     text.push(b'\n')
 }
 
+/// Returns the sign of a sum that was taken back.
+#[tactic(auto, unfolding(crate::specs::Summary::minus))]
+fn minus(units: u128) -> &'static [u8]
+    ensures { result.now ≡ minus units }
+{
+    if units == 0 { b"" } else { b"-" }
+}
+
 /// Writes the line of the payments that were taken back.
 fn taken_back_line(text: &mut Text, money: &Option<Money>, book: &[Entry]) -> Result<(), AllocError>
     ensures { OnOk result (text.new ≡ text.old ++ taken_back_line money.now book.now) }
 {
     text.word(b"  taken back")?;
-    amount_column(text, decimals_of(money), b"-", taken_back(book))?;
+    let taken = taken_back(book);
+    amount_column(text, decimals_of(money), minus(taken), taken)?;
     text.word(b"  ")?;
     count(text, reversed_count(book), b"reversal")?;
     text.push(b'\n')

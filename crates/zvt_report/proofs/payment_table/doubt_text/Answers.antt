@@ -1,4 +1,3 @@
-use Rattle.std.proofs.Common.{sym}
 use Rattle.zvt_report.specs.PaymentTable.{doubt_text}
 use Rattle.zvt_report.proofs.TextLemmas.{adds_completely}
 use Rattle.zvt_report.proofs.payment_table.doubt_text.Goals as goal

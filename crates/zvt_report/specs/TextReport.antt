@@ -1,0 +1,48 @@
+-- The report of a trace as text.
+use Rattle.std.specs.Prelude.{◌≡◌, ℕ, ◌==◌, cond, List, [], ◌∷◌, ◌++◌, codes, Option, Some, refl}
+use Rattle.std.specs.Fmt.{digits}
+use Rattle.zvt_trace.specs.declared.fault.Tally.{Tally}
+use Rattle.zvt_report.specs.Amounts.{amount_column, count_text}
+use Rattle.zvt_report.specs.Currencies.{decimals_of, money_of}
+use Rattle.zvt_report.specs.Day.{DayValue, no_orders}
+use Rattle.zvt_report.specs.LookList.{looks_text}
+use Rattle.zvt_report.specs.OtherTable.{others_text}
+use Rattle.zvt_report.specs.PaymentTable.{payments_text}
+use Rattle.zvt_report.specs.Summary.{booked_line, minus, net_line, summary_text, taken_back_line, unclear_line, unit_text}
+use Rattle.zvt_report.specs.declared.cases.Look.{Look}
+use Rattle.zvt_report.specs.declared.currencies.Decimals.{Decimals}
+use Rattle.zvt_report.specs.declared.currencies.Money.{Money}
+use Rattle.zvt_report.specs.declared.rows.OrderMessage.{OrderMessage}
+
+-- how many streams were refused or cut off
+unfoldable pub bad_text : ℕ → List ℕ
+bad_text bad = cond (bad == 0) (codes "nothing refused or cut off.\n") (count_text bad (codes "stream") ++ codes " refused or cut off.\n")
+
+unfoldable pub footer : Tally → List ℕ
+footer tally = count_text tally.messages (codes "message") ++ codes ", " ++ bad_text tally.bad
+
+unfoldable pub summary_part : Option Money → DayValue → List ℕ
+summary_part money books = summary_text money books ++ 10 ∷ []
+
+unfoldable pub looks_part : Decimals → DayValue → List Look → List ℕ
+looks_part decimals books looks = looks_text decimals books.book books.orders looks ++ 10 ∷ []
+
+unfoldable pub tables_part : Decimals → DayValue → List OrderMessage → List ℕ
+tables_part decimals books messages = payments_text decimals books.book books.orders ++ others_text decimals books.book messages books.orders ++ 10 ∷ []
+
+-- the sections, an empty line between them
+abbrev pub report_in : Option Money → Tally → DayValue → List OrderMessage → List Look → List ℕ
+report_in money tally books messages looks =
+    summary_part money books ++ looks_part (decimals_of money) books looks ++ tables_part (decimals_of money) books messages ++ footer tally
+
+abbrev pub report_text : Tally → (currency : Option ℕ) → DayValue → List OrderMessage → List Look → List ℕ
+report_text tally currency books messages looks = report_in (money_of currency) tally books messages looks
+
+-- ---- rows worked by hand
+
+an_empty_day : report_text (record { messages = 1; bad = 2 }) (Some 756) no_orders [] []
+    ≡ codes "Net total              0.00 CHF\n" ++ codes "  booked               0.00  0 payments\n" ++ codes "  taken back           0.00  0 reversals\n"
+    ++ codes "Unclear                0.00  0 payments, 0 reversals\n\n"
+    ++ codes "Look at these: nothing\n\n" ++ codes "Payments: none\n\n" ++ codes "1 message, 2 streams refused or cut off.\n"
+unfolding amount_column bad_text booked_line count_text decimals_of digits footer looks_part minus net_line payments_text summary_part tables_part taken_back_line unclear_line unit_text
+an_empty_day = refl

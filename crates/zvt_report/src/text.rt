@@ -1,0 +1,121 @@
+//! Writes the report of a trace as text.
+ghost use Rattle.std.specs.Prelude.{◌≡◌, ◌++◌, OnOk};
+ghost use Rattle.zvt_report.specs.TextReport.{bad_text, footer, looks_part, report_in, report_text, summary_part};
+ghost use Rattle.zvt_report.specs.TextReport.{tables_part};
+
+use crate::amounts::count;
+use crate::books::DayBooks;
+use crate::cases::Look;
+use crate::currencies::{Decimals, Money, decimals_of, money_of};
+use crate::look_list::looks_text;
+use crate::other_table::others_text;
+use crate::payment_table::payments_text;
+use crate::rows::OrderMessage;
+use crate::summary;
+use std::alloc::{AllocError, Global};
+use zvt_bcd::Currency;
+use zvt_text::Text;
+use zvt_trace::Tally;
+
+/// Writes how many streams were refused or cut off.
+#[tactic(auto, unfolding(crate::specs::TextReport::bad_text))]
+fn bad_text(text: &mut Text, bad: u64) -> Result<(), AllocError>
+    ensures { OnOk result (text.new ≡ text.old ++ bad_text bad) }
+{
+    if bad == 0 {
+        return text.word(b"nothing refused or cut off.\n");
+    }
+    count(text, bad as usize, b"stream")?;
+    text.word(b" refused or cut off.\n")
+}
+
+/// Writes how many messages the trace has.
+#[tactic(auto, unfolding(crate::specs::TextReport::footer))]
+fn footer(text: &mut Text, tally: Tally) -> Result<(), AllocError>
+    ensures { OnOk result (text.new ≡ text.old ++ footer tally) }
+{
+    count(text, tally.messages as usize, b"message")?;
+    text.word(b", ")?;
+    bad_text(text, tally.bad)
+}
+
+/// Writes the summary, and an empty line.
+#[tactic(auto, unfolding(crate::specs::TextReport::summary_part))]
+fn summary_part(text: &mut Text, money: &Option<Money>, books: &DayBooks) -> Result<(), AllocError>
+    ensures { OnOk result (text.new ≡ text.old ++ summary_part money.now books.now) }
+{
+    summary::write(text, money, books)?;
+    text.push(b'\n')
+}
+
+/// Writes the orders that a person should look at, and an empty line.
+#[tactic(auto, unfolding(crate::specs::TextReport::looks_part))]
+fn looks_part(
+    text: &mut Text,
+    note: &mut Text,
+    decimals: Decimals,
+    books: &DayBooks,
+    looks: &[Look],
+) -> Result<(), AllocError>
+    ensures { OnOk result (text.new ≡ text.old ++ looks_part decimals books.now looks.now) }
+{
+    let book = books.book.as_slice();
+    looks_text(text, note, decimals, book, books.orders.as_slice(), looks)?;
+    text.push(b'\n')
+}
+
+/// Writes the tables, and an empty line.
+#[tactic(auto, unfolding(crate::specs::TextReport::tables_part))]
+fn tables_part(
+    text: &mut Text,
+    note: &mut Text,
+    decimals: Decimals,
+    books: &DayBooks,
+    messages: &[OrderMessage],
+) -> Result<(), AllocError>
+    ensures { OnOk result (text.new ≡ text.old ++ tables_part decimals books.now messages.now) }
+{
+    let book = books.book.as_slice();
+    let rows = books.orders.as_slice();
+    payments_text(text, decimals, book, rows)?;
+    others_text(text, note, decimals, book, messages, rows)?;
+    text.push(b'\n')
+}
+
+/// Writes the sections in this currency. The sentences are put together in `note`, whose own text is lost.
+fn report_in(
+    text: &mut Text,
+    note: &mut Text,
+    money: &Option<Money>,
+    tally: Tally,
+    books: &DayBooks,
+    messages: &[OrderMessage],
+    looks: &[Look],
+) -> Result<(), AllocError>
+    ensures { OnOk result (text.new ≡ text.old
+        ++ report_in money.now tally books.now messages.now looks.now) }
+{
+    let decimals = decimals_of(money);
+    summary_part(text, money, books)?;
+    looks_part(text, note, decimals, books, looks)?;
+    tables_part(text, note, decimals, books, messages)?;
+    footer(text, tally)
+}
+
+/// Writes the report of a trace: what the day comes to, the orders that a person should look at, the payments, the
+/// reversals and other orders that move money, and how much of the trace was read. Fails only if memory runs out.
+pub fn write(
+    alloc: Global,
+    text: &mut Text,
+    tally: Tally,
+    currency: Option<Currency>,
+    books: &DayBooks,
+    messages: &[OrderMessage],
+    looks: &[Look],
+) -> Result<(), AllocError>
+    ensures { OnOk result (text.new ≡ text.old ++ report_text tally currency books.now messages.now looks.now) }
+{
+    let mut note = Text::new(alloc);
+    let money = money_of(currency);
+    report_in(text, &mut note, &money, tally, books, messages, looks)
+}
