@@ -7,3 +7,7 @@ pub mod Naming
 pub mod Reported
 pub mod Reports
 pub mod Said
+pub mod Places
+pub mod Words
+pub mod Kinds
+pub mod Sums

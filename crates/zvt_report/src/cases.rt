@@ -22,6 +22,21 @@ pub enum Weight {
     Check,
 }
 
+impl Weight {
+    ghost use Rattle.std.specs.Prelude.{◌≡◌};
+    ghost use Rattle.zvt_report.specs.Words.{weight_name};
+
+    /// Returns the word as every output writes it.
+    pub fn name(self) -> &'static str
+        ensures { result.now ≡ weight_name self }
+    {
+        match self {
+            Weight::Act => "act",
+            Weight::Check => "check",
+        }
+    }
+}
+
 /// Why a person should look at an order.
 #[derive(Clone, Copy, Debug, PartialEq, Eq)]
 pub enum Case {
@@ -46,6 +61,23 @@ pub enum Case {
 impl Case {
     ghost use Rattle.std.specs.Prelude.{◌≡◌};
     ghost use Rattle.zvt_report.specs.Looks.{weight_of};
+    ghost use Rattle.zvt_report.specs.Words.{case_name};
+
+    /// Returns the name of the case as every output writes it.
+    pub fn name(self) -> &'static str
+        ensures { result.now ≡ case_name self }
+    {
+        match self {
+            Case::ApprovedNotCompleted => "ApprovedNotCompleted",
+            Case::OtherAmount => "OtherAmount",
+            Case::PaymentUnclear => "PaymentUnclear",
+            Case::ReversalUnclear => "ReversalUnclear",
+            Case::TakenBackBefore => "TakenBackBefore",
+            Case::ReversalRefused => "ReversalRefused",
+            Case::CloseUnclear => "CloseUnclear",
+            Case::CloseRefused => "CloseRefused",
+        }
+    }
 
     /// How urgent the case is.
     pub fn weight(self) -> Weight

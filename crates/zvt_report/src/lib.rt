@@ -4,13 +4,17 @@
 mod books;
 mod cases;
 mod day;
+mod endings;
+mod kinds;
 pub mod laws;
 mod naming;
 mod ordering;
+mod places;
 mod report;
 mod reporter;
 mod rows;
 mod said;
+mod sums;
 
 pub use books::DayBooks;
 pub use cases::{Case, Look, Weight, looks};
