@@ -8,3 +8,4 @@ pub mod OpenLemmas
 pub mod NamingLemmas
 pub mod MemberLemmas
 pub mod TextLemmas
+pub mod WrappingLemmas

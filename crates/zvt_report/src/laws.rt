@@ -2,6 +2,7 @@
 ghost use Rattle.zvt_report.specs.Laws.{DoubtsAreLeftOpen, EachOrderHasARow, SameBooks, SameMarks, SumsMakeBooked};
 ghost use Rattle.zvt_report.specs.Looks.{EachPaymentIsLookedAt, EachReversalIsLookedAt};
 ghost use Rattle.zvt_report.specs.Naming.{ReversalsNameEntries};
+ghost use Rattle.zvt_report.specs.Wrapping.{BreaksOnlyAtBlanks, LinesFit};
 
 /// A day has the same payments, booked and unclear, as the books of its log.
 pub fn same_books()
@@ -45,4 +46,14 @@ pub fn doubts_are_left_open()
 /// know.
 pub fn reversals_name_entries()
     ensures { ReversalsNameEntries }
+{}
+
+/// The lines of a sentence in the text of a report, with a blank between them, are the sentence.
+pub fn breaks_only_at_blanks()
+    ensures { BreaksOnlyAtBlanks }
+{}
+
+/// No line of a sentence in the text of a report has more than 76 columns, unless it is one word.
+pub fn lines_fit()
+    ensures { LinesFit }
 {}
