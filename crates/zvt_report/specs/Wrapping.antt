@@ -26,7 +26,7 @@ wrapped_from indent width free (letter ∷ later) = letter_text indent free lett
 unfoldable pub wrapped : (indent : ℕ) → List ℕ → List ℕ
 wrapped indent sentence = wrapped_from indent (76 - indent) (76 - indent) sentence
 
--- ---- a law
+-- ---- laws
 
 abbrev pub is_no_end : ℕ → Bool
 is_no_end letter = not (letter == 10)
