@@ -14,3 +14,5 @@ pub mod TextLemmas
 pub mod EntryLemmas
 pub mod ReadLemmas
 pub mod PlaceLemmas
+pub mod WrittenLemmas
+pub mod WrappingLemmas

@@ -14,7 +14,7 @@ use Rattle.zvt_trace.specs.declared.fault.TraceFault.{TraceFault}
 use Rattle.zvt_trace.specs.declared.fault.TraceFault.TheVariants.{Memory, Read, TooLong, Trace, Write}
 use Rattle.zvt_trace.specs.declared.listener.ListenerError.TheVariants as failure
 use Rattle.zvt_trace.specs.declared.listener.Scope.{Scope}
-use Rattle.zvt_audit.specs.ByControl.{seen}
+use Rattle.zvt_audit.specs.ByControl.{passed_after, seen}
 use Rattle.zvt_audit.specs.Currencies.{agreed, currencies_of, named_after, named_by, one_currency}
 use Rattle.zvt_audit.specs.declared.by_control.ByControl.{ByControl}
 use Rattle.zvt_audit.specs.declared.currencies.NamedCurrency.{NamedCurrency}
@@ -97,10 +97,11 @@ said_more (first ∷ messages) m (other ∷ old) said before is = (before.0, sai
 -- ---- the answer
 
 pub reported_all : (r : Reading) (scope : Scope) (trace : List ℕ) (tally : Tally) (report : Report) (old new : ByControl Reporter)
-    → StartsIn scope old → AnswersWalk r hears_by wants_memory_by scope (lines trace) old new (Ok tally) → Finds new.listener tally report → AnswersReport r scope trace (Ok report)
+    → StartsIn scope old → AnswersWalk r hears_by wants_memory_by scope (lines trace) old new (Ok tally) → Finds new.listener tally new.passed report → AnswersReport r scope trace (Ok report)
 reported_all r scope trace tally report old new starts walked finds =
     let events = seen scope walked.0 in
-    let heard = (all_seen hears scope walked.0 old new starts.1 walked.2).0 in
+    let all = all_seen hears scope walked.0 old new starts.1 walked.2 in
+    let heard = all.0 in
     let none : AreSaidBy [] old.listener.messages.items = subst (λ (l : List OrderMessage). AreSaidBy [] l) (sym starts.0.2) tt in (
       walked.0,
       walked.1,
@@ -110,6 +111,7 @@ reported_all r scope trace tally report old new starts walked finds =
         books = finds.books (reported events) (all_judged events old.listener new.listener (noted 0 Connected ∷ []) starts.0.0 heard);
         messages = subst (λ (l : List OrderMessage). AreSaidBy (beginnings events) l) (sym finds.messages) (all_said events old.listener new.listener [] none heard);
       },
+      finds.passed ∙ all.1 ∙ ap (λ (n : ℕ). passed_after scope n walked.0) starts.2,
     )
 
 -- a reporter writes nothing, so no write fails

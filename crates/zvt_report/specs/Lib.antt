@@ -11,6 +11,7 @@ pub mod Places
 pub mod Words
 pub mod Kinds
 pub mod Sums
+pub mod Written
 pub mod Members
 pub mod Objects
 pub mod Amounts

@@ -1,6 +1,7 @@
 -- The table of the reversals and the other orders that move money.
 use Rattle.std.specs.Prelude.{◌≡◌, ℕ, true, List, [], ◌∷◌, ◌++◌, codes, Option, Some, None, refl}
 use Rattle.std.specs.Fmt.{digits}
+use Rattle.std.specs.Option.{option_or}
 use Rattle.hex.specs.Hex.{encode_with}
 use Rattle.zvt_text.specs.Meanings.{command_name}
 use Rattle.zvt_till.specs.declared.entries.Doubt.TheVariants.{No}
@@ -10,7 +11,7 @@ use Rattle.zvt_till.specs.declared.happenings.Sent.TheVariants.{Register, Revers
 use Rattle.zvt_till.specs.declared.outcomes.Outcome.TheVariants.{Registered, Reversed, DayClosed}
 use Rattle.zvt_report.specs.Amounts.{amount_column}
 use Rattle.zvt_report.specs.Kinds.{kind_of}
-use Rattle.zvt_report.specs.Objects.{amount_at, amount_or, approved_of, message_at}
+use Rattle.zvt_report.specs.Objects.{amount_at, approved_of, message_at}
 use Rattle.zvt_report.specs.PaymentTable.{explained, fraction_blanks, lines_column, outcome_text, receipt_column}
 use Rattle.zvt_report.specs.Places.{counted, no_counts, place_after}
 use Rattle.zvt_report.specs.declared.currencies.Decimals.{Decimals}
@@ -50,11 +51,11 @@ order_end row = codes ", " ++ outcome_text row.order row.outcome ++ 10 ∷ []
 
 abbrev pub reversal_row : Decimals → List Entry → Place → OrderRow → OrderMessage → List ℕ
 reversal_row decimals book place row message =
-    order_columns decimals (amount_or (amount_at book place.entry) message.amount) message.receipt row ++ reversal_name row.order ++ order_end row
+    order_columns decimals (option_or (amount_at book place.entry) message.amount) message.receipt row ++ reversal_name row.order ++ order_end row
 
 abbrev pub money_row : Decimals → OrderRow → OrderMessage → List ℕ
 money_row decimals row message =
-    order_columns decimals (amount_or message.amount (approved_of row)) message.receipt row ++ money_name message.high message.low ++ order_end row
+    order_columns decimals (option_or message.amount (approved_of row)) message.receipt row ++ money_name message.high message.low ++ order_end row
 
 -- the row of an order, if it moves money and is no payment
 unfoldable pub order_row : OrderKind → Decimals → List Entry → Place → OrderRow → OrderMessage → List ℕ

@@ -53,9 +53,13 @@ unfoldable pub approved_receipt : Option Approval → List ℕ
 approved_receipt None = codes "this payment"
 approved_receipt (Some a) = receipt_name a.receipt
 
+abbrev pub own_receipt : Option (List ℕ) → List ℕ
+own_receipt None = []
+own_receipt (Some receipt) = codes " (receipt " ++ encode_upper receipt ++ codes ")"
+
 unfoldable pub entry_part : Option Entry → List ℕ
 entry_part None = []
-entry_part (Some entry) = codes " (" ++ receipt_name entry.receipt ++ codes ")"
+entry_part (Some entry) = own_receipt entry.receipt
 
 -- why an order is unclear, or with which result it was not done
 unfoldable pub reason : Outcome → List ℕ

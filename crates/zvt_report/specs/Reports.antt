@@ -13,7 +13,7 @@ use Rattle.zvt_trace.specs.declared.fault.TraceFault.{TraceFault}
 use Rattle.zvt_trace.specs.declared.fault.TraceFault.TheVariants.{Memory, Read, TooLong, Trace, Write}
 use Rattle.zvt_trace.specs.declared.listener.ListenerError.TheVariants as failure
 use Rattle.zvt_trace.specs.declared.listener.Scope.{Scope}
-use Rattle.zvt_audit.specs.ByControl.{FailsBy, HearsBy, seen}
+use Rattle.zvt_audit.specs.ByControl.{FailsBy, HearsBy, passed_after, seen}
 use Rattle.zvt_audit.specs.Currencies.{agreed, currencies_of, named_after, named_by, one_currency}
 use Rattle.zvt_audit.specs.declared.by_control.ByControl.{ByControl}
 use Rattle.zvt_audit.specs.declared.currencies.NamedCurrency.TheVariants.{Absent}
@@ -74,8 +74,9 @@ abbrev pub StartsIn : Scope → ByControl Reporter → Type 0
 StartsIn scope by = IsConnected by.listener × (by.scope ≡ scope) × (by.passed ≡ 0)
 
 -- what a reporter finds at the end of its trace
-pub record Finds (reporter : Reporter) (counted : Tally) (report : Report) : Type 0 where
+pub record Finds (reporter : Reporter) (counted : Tally) (skipped : ℕ) (report : Report) : Type 0 where
   pub tally : report.tally ≡ counted
+  pub passed : report.passed ≡ skipped
   pub currency : report.currency ≡ agreed reporter.named
   pub books : (notes : List Noted) → HasJudged notes reporter.day → report.books ≡ day_of notes
   pub messages : report.messages.items ≡ reporter.messages.items
@@ -92,6 +93,7 @@ pub record IsReportOf (events : List At) (report : Report) : Type 0 where
 abbrev pub AnswersReport : Reading → Scope → (trace : List ℕ) → Result Report TraceFault → Type 0
 AnswersReport r scope trace (Ok report) =
     (events : List At) × WholeTrace r scope (lines trace) events × Tallies report.tally events × IsReportOf (seen scope events) report
+    × (report.passed ≡ passed_after scope 0 events)
 AnswersReport r scope trace (Err (Trace number what)) = (events : List At) × BrokenTrace r scope (lines trace) number what events
 AnswersReport r scope trace (Err Memory) = Unit {0}
 AnswersReport r scope trace (Err Write) = ⊥

@@ -1,18 +1,28 @@
 -- What the message of an order says beside the order itself.
-use Rattle.std.specs.Prelude.{◌≡◌, ℕ, ◌==◌, Bool, true, false, cond, ◌&&◌, ◌||◌, nat_lt, List, [], ◌∷◌, Option, Some, None, drop, slice_index, refl}
+use Rattle.std.specs.Prelude.{◌≡◌, ℕ, ◌==◌, Bool, true, false, cond, ◌||◌, List, [], ◌∷◌, Option, Some, None, drop, slice_index, refl}
 use Rattle.std.specs.Option.{option_and_then}
 use Rattle.zvt_grammar.specs.Reading.{padded}
 use Rattle.zvt_field.specs.Grammar.{Field, FieldList, plain}
 use Rattle.zvt_field.specs.Named.{amount_of, receipt_of}
 use Rattle.zvt_apdu.specs.Message.{Message, other}
 use Rattle.zvt_apdu.specs.Views.{control_of, fields_in}
+use Rattle.zvt_report.specs.Kinds.{foreign_kind}
+use Rattle.zvt_report.specs.declared.kinds.OrderKind.{OrderKind}
+use Rattle.zvt_report.specs.declared.kinds.OrderKind.TheVariants.{Payment, Reversal, OtherMoney, Close, Plain}
 use Rattle.zvt_report.specs.declared.rows.OrderMessage.{OrderMessage}
 
 -- ---- messages that this library does not name, and that move money
 
--- 06 04, 06 09, 06 0A, 06 21 to 06 25 and 06 31: the data of these messages is fields, after a password in some
+abbrev pub is_other_money : OrderKind → Bool
+is_other_money Payment = false
+is_other_money Reversal = false
+is_other_money OtherMoney = true
+is_other_money Close = false
+is_other_money Plain = false
+
+-- an order that moves money and that the book does not follow: its data is fields, after a password in some
 abbrev pub moves_money : (high low : ℕ) → Bool
-moves_money high low = (high == 0x06) && ((low == 0x04) || (low == 0x09) || (low == 0x0A) || (low == 0x31) || (nat_lt 0x20 low && nat_lt low 0x26))
+moves_money high low = is_other_money (foreign_kind high low)
 
 -- the reversal of a pre-authorisation, and a refund
 abbrev pub has_password : (low : ℕ) → Bool

@@ -1,5 +1,6 @@
 -- Sentences that are broken into lines.
-use Rattle.std.specs.Prelude.{◌≡◌, ℕ, ◌-◌, ◌==◌, ◌++◌, Bool, not, cond, nat_lt, List, [], ◌∷◌, codes, length, replicate, take_while, refl}
+use Rattle.std.specs.Prelude.{◌≡◌, ℕ, zero, suc, true, false, ◌+◌, ◌&&◌, ◌||◌, nat_le, ◌-◌, ◌==◌, ◌++◌, Bool, not, cond, nat_lt, List, [], ◌∷◌, codes, length, replicate, take_while, refl}
+use Rattle.std.specs.List.{list_all}
 
 abbrev pub is_no_blank : ℕ → Bool
 is_no_blank letter = not (letter == 32)
@@ -24,6 +25,38 @@ wrapped_from indent width free (letter ∷ later) = letter_text indent free lett
 -- a sentence that begins after its indentation, in lines of at most 76 columns
 unfoldable pub wrapped : (indent : ℕ) → List ℕ → List ℕ
 wrapped indent sentence = wrapped_from indent (76 - indent) (76 - indent) sentence
+
+-- ---- laws
+
+abbrev pub is_no_end : ℕ → Bool
+is_no_end letter = not (letter == 10)
+
+-- The lines with a blank between them: each end of a line and the indentation after it are read as a blank. Of an indentation,
+-- so many blanks are left to be read.
+abbrev pub unwrapped : (indent left : ℕ) → List ℕ → List ℕ
+unwrapped indent left [] = []
+unwrapped indent zero (letter ∷ text) = cond (letter == 10) (32 ∷ unwrapped indent indent text) (letter ∷ unwrapped indent 0 text)
+unwrapped indent (suc left) (letter ∷ text) = unwrapped indent left text
+
+-- the lines of a sentence with a blank between them are the sentence
+abbrev pub BreaksOnlyAtBlanks : Type 0
+BreaksOnlyAtBlanks = (indent : ℕ) (sentence : List ℕ) → list_all is_no_end sentence ≡ true → unwrapped indent 0 (wrapped indent sentence) ≡ sentence
+
+-- a line that has used so many columns is no wider, unless it has no blank
+abbrev pub line_fits : (width used : ℕ) → (spaced : Bool) → Bool
+line_fits width used spaced = not spaced || nat_le used width
+
+-- Each line fits. The line that is read has used so many columns after its indentation, of which so many blanks are left to be read.
+abbrev pub lines_fit : (indent width left used : ℕ) → (spaced : Bool) → List ℕ → Bool
+lines_fit indent width left used spaced [] = line_fits width used spaced
+lines_fit indent width zero used spaced (letter ∷ text) =
+    cond (letter == 10) (line_fits width used spaced && lines_fit indent width indent 0 false text)
+    (cond (letter == 32) (lines_fit indent width 0 (used + 1) true text) (lines_fit indent width 0 (used + 1) spaced text))
+lines_fit indent width (suc left) used spaced (letter ∷ text) = lines_fit indent width left used spaced text
+
+-- no line of a sentence has more than 76 columns, unless it is one word
+abbrev pub LinesFit : Type 0
+LinesFit = (indent : ℕ) (sentence : List ℕ) → list_all is_no_end sentence ≡ true → lines_fit indent (76 - indent) 0 0 false (wrapped indent sentence) ≡ true
 
 -- ---- rows worked by hand
 

@@ -19,7 +19,7 @@ pub(crate) enum OrderKind {
 }
 
 /// Returns the kind of an order that the book does not know, by its control bytes.
-fn foreign_kind(high: u8, low: u8) -> OrderKind
+pub(crate) fn foreign_kind(high: u8, low: u8) -> OrderKind
     ensures { result ≡ foreign_kind high low }
 {
     if high != 0x06 {

@@ -5,6 +5,7 @@ ghost use Rattle.zvt_report.specs.Naming.{ReversalsNameEntries};
 ghost use Rattle.zvt_report.specs.Reported.{EachOrderHasAMessage, EachReversalNamesAnEntry, SameBooksAsAudit};
 ghost use Rattle.zvt_report.specs.Places.{PlacesNameEntries};
 ghost use Rattle.zvt_report.specs.Reading.{ObjectsReadBack};
+ghost use Rattle.zvt_report.specs.Wrapping.{BreaksOnlyAtBlanks, LinesFit};
 
 /// A day has the same payments, booked and unclear, as the books of its log.
 pub fn same_books()
@@ -76,4 +77,14 @@ pub fn objects_read_back()
 /// The payments that a day booked have the entries of its book, each one once, in the same order.
 pub fn places_name_entries()
     ensures { PlacesNameEntries }
+{}
+
+/// The lines of a sentence in the text of a report, with a blank between them, are the sentence.
+pub fn breaks_only_at_blanks()
+    ensures { BreaksOnlyAtBlanks }
+{}
+
+/// No line of a sentence in the text of a report has more than 76 columns, unless it is one word.
+pub fn lines_fit()
+    ensures { LinesFit }
 {}

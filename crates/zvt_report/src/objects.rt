@@ -24,7 +24,7 @@ use zvt_trace::Tally;
 
 /// Writes an object for the whole trace, then one per order that a person should look at, and then one per order.
 /// `messages` has the message of each order.
-pub fn write(
+pub(crate) fn write(
     text: &mut Text,
     tally: Tally,
     currency: Option<Currency>,

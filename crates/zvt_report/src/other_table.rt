@@ -10,7 +10,7 @@ use crate::amounts::amount_column;
 use crate::currencies::Decimals;
 use crate::kinds::{OrderKind, kind_of};
 use crate::objects::message_at;
-use crate::parts::{amount_at, amount_or, approved_of};
+use crate::parts::{amount_at, approved_of};
 use crate::payment_table::{fraction_blanks, lines_column, outcome_text, receipt_column};
 use crate::places::{Counts, Place};
 use crate::rows::{OrderMessage, OrderRow};
@@ -104,7 +104,7 @@ fn reversal_row(
 ) -> Result<(), AllocError>
     ensures { OnOk result (text.new ≡ text.old ++ reversal_row decimals book.now place.now row.now message.now) }
 {
-    let amount = &amount_or(amount_at(book, place.entry), message.amount);
+    let amount = &amount_at(book, place.entry).or(message.amount);
     order_columns(text, decimals, amount, &message.receipt, row)?;
     reversal_name(text, &row.order)?;
     order_end(text, row)
@@ -120,7 +120,7 @@ fn money_row(
 ) -> Result<(), AllocError>
     ensures { OnOk result (text.new ≡ text.old ++ money_row decimals row.now message.now) }
 {
-    let amount = &amount_or(message.amount, approved_of(row));
+    let amount = &message.amount.or(approved_of(row));
     order_columns(text, decimals, amount, &message.receipt, row)?;
     money_name(text, message.high, message.low)?;
     order_end(text, row)

@@ -3,7 +3,7 @@ ghost use Rattle.std.specs.Prelude.{◌≡◌, ◌++◌, OnOk, option_map};
 ghost use Rattle.zvt_till.specs.declared.entries.Entry.{Entry};
 ghost use Rattle.zvt_report.specs.Phrases.{again_part, amount_of, amount_or_dash, approval_part};
 ghost use Rattle.zvt_report.specs.Phrases.{approved_receipt, counted_part, entry_part, numbers_part, paid_again_by};
-ghost use Rattle.zvt_report.specs.Phrases.{paid_numbers};
+ghost use Rattle.zvt_report.specs.Phrases.{own_receipt, paid_numbers};
 ghost use Rattle.zvt_report.specs.Phrases.{reason, receipt_name, receipt_part, total_part, trace_part, twice_part};
 
 use crate::amounts::amount;
@@ -147,17 +147,27 @@ pub(crate) fn approved_receipt(
     }
 }
 
-/// Writes in parentheses the receipt number of an entry.
+/// Writes a receipt number in parentheses, if there is one.
+fn own_receipt(text: &mut Text, receipt: &Option<[u8; 2]>) -> Result<(), AllocError>
+    ensures { OnOk result (text.new ≡ text.old ++ own_receipt receipt.now) }
+{
+    match receipt {
+        Some(receipt) => {
+            text.word(b" (receipt ")?;
+            hexadecimal(text, receipt)?;
+            text.push(b')')
+        }
+        None => Ok(()),
+    }
+}
+
+/// Writes in parentheses the receipt number of an entry, if it has one.
 #[tactic(auto, unfolding(crate::specs::Phrases::entry_part))]
 pub(crate) fn entry_part(text: &mut Text, entry: &Option<Entry>) -> Result<(), AllocError>
     ensures { OnOk result (text.new ≡ text.old ++ entry_part entry.now) }
 {
     match entry {
-        Some(entry) => {
-            text.word(b" (")?;
-            receipt_name(text, &entry.receipt)?;
-            text.push(b')')
-        }
+        Some(entry) => own_receipt(text, &entry.receipt),
         None => Ok(()),
     }
 }

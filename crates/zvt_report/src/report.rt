@@ -24,6 +24,8 @@ pub struct Report {
     pub books: DayBooks,
     /// What the message of each order says: one for each row of `books.orders`.
     pub messages: Vec<OrderMessage>,
+    /// The number of refused messages that were passed over and known by their control bytes alone. It saturates.
+    pub passed: u64,
 }
 
 /// Reports what became of each order in the trace of a till that starts connected. A reversal takes back the last
@@ -43,7 +45,7 @@ pub fn report_trace(
 {
     let mut reporter = connected(alloc, scope)?;
     let tally = walk(&mut reporter, alloc, scope, lengths, trace)?;
-    let report = reporter.listener.finish(tally)?;
+    let report = reporter.listener.finish(tally, reporter.passed)?;
     Ok(report)
 }
 
@@ -69,9 +71,9 @@ impl Reporter {
     ghost use Rattle.std.specs.Prelude.{IfOk};
     ghost use Rattle.zvt_report.specs.Reports.{Finds};
 
-    /// Ends the day, and returns the report with this tally.
-    fn finish(self, tally: Tally) -> Result<Report, AllocError>
-        ensures { IfOk result (Finds self tally) }
+    /// Ends the day, and returns the report with this tally and this number of messages that were passed over.
+    fn finish(self, tally: Tally, passed: u64) -> Result<Report, AllocError>
+        ensures { IfOk result (Finds self tally passed) }
     {
         let currency = self.named.agreed();
         let books = self.day.finish()?;
@@ -80,6 +82,7 @@ impl Reporter {
             currency,
             books,
             messages: self.messages,
+            passed,
         })
     }
 }

@@ -6,6 +6,7 @@ ghost use Rattle.zvt_apdu.specs.declared.kinds.Kind.TheVariants.{Other};
 ghost use Rattle.zvt_field.specs.Grammar.{Field};
 ghost use Rattle.zvt_report.specs.Said.{AreSpelledBy, IsSaidBy, has_password, listed_in, moves_money, said_with};
 
+use crate::kinds::{OrderKind, foreign_kind};
 use crate::rows::OrderMessage;
 use std::alloc::{AllocError, Global};
 use zvt_apdu::{ApduView, Kind};
@@ -70,13 +71,11 @@ fn other_message(alloc: Global, apdu: &ApduView<'_>) -> Result<OrderMessage, All
     }
 }
 
-/// Whether a message with these control bytes moves money: a refund (06 31), an order of a pre-authorisation (06 22 to
-/// 06 25), or 06 04, 06 09, 06 0A or 06 21.
+/// Whether a message with these control bytes is an order that moves money and that the book does not follow.
 fn moves_money(high: u8, low: u8) -> bool
     ensures { result ≡ moves_money high low }
 {
-    high == 0x06
-        && (low == 0x04 || low == 0x09 || low == 0x0A || low == 0x31 || (low > 0x20 && low < 0x26))
+    matches!(foreign_kind(high, low), OrderKind::OtherMoney)
 }
 
 /// Whether the data of such a message begins with a password.

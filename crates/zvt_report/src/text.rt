@@ -104,7 +104,7 @@ fn report_in(
 
 /// Writes the report of a trace: what the day comes to, the orders that a person should look at, the payments, the
 /// reversals and other orders that move money, and how much of the trace was read. Fails only if memory runs out.
-pub fn write(
+pub(crate) fn write(
     alloc: Global,
     text: &mut Text,
     tally: Tally,

@@ -1,0 +1,131 @@
+//! Writes the report of a trace.
+ghost use Rattle.std.specs.Prelude.{◌≡◌, ◌+◌, ◌<◌, ◌≤◌, ℕ, Err, IfOk, IfSome, List, length};
+ghost use Rattle.std.specs.Io.KnownBytes.{Consumes};
+ghost use Rattle.zvt_grammar.specs.Lengths.{reading_of};
+ghost use Rattle.zvt_trace.specs.Written.{limit};
+ghost use Rattle.zvt_report.specs.Written.{AnswersFound, AnswersReadWritten, AnswersWritten};
+ghost use Rattle.zvt_report.specs.Written.{acts_in, is_act, report_in};
+
+use crate::cases::{Look, Weight, looks};
+use crate::report::{Report, report_trace};
+use crate::{objects, text};
+use std::alloc::{AllocError, Global};
+use zvt_grammar::Lengths;
+use zvt_io::{Sink, Source};
+use zvt_text::{Form, Text};
+use zvt_trace::{Scope, Tally, TraceFault, read_trace};
+
+/// Findings of a report that was written.
+#[derive(Clone, Copy, Debug, PartialEq, Eq)]
+pub struct ReportSummary {
+    pub tally: Tally,
+    /// The number of cases that someone must act on.
+    pub acts: u64,
+    /// The number of refused messages that were passed over and known by their control bytes alone. It saturates.
+    pub passed: u64,
+}
+
+/// Writes the report of the trace, as text or as JSON. `lengths` selects the accepted forms of length, and `scope` says
+/// how much is not read after a refused message, as for [`report_trace`].
+///
+/// Writes the text once, at the end. Writes nothing if a line can't be read or an allocation fails.
+pub fn write_report<W: Sink>(
+    alloc: Global,
+    form: Form,
+    scope: Scope,
+    lengths: Lengths,
+    trace: &[u8],
+    writer: &mut W,
+) -> Result<ReportSummary, TraceFault>
+    requires { length trace.now ≤ limit }
+    ensures writes { AnswersWritten (reading_of lengths) scope form trace.now (W.written writer.old)
+        (W.written writer.new) result }
+    ensures write { result ≡ Err TraceFault.Write → W.failures writer.old < W.failures writer.new }
+{
+    let report = report_trace(alloc, scope, lengths, trace)?;
+    write_found(alloc, form, &report, writer)
+}
+
+/// Reads a trace to its end, and writes its report like [`write_report`].
+pub fn read_report<R: Source, W: Sink>(
+    alloc: Global,
+    form: Form,
+    scope: Scope,
+    lengths: Lengths,
+    reader: &mut R,
+    writer: &mut W,
+) -> Result<ReportSummary, TraceFault>
+    ensures taken { (taken : List ℕ) × (length taken ≤ limit + 1) × Consumes (R.remaining reader.old)
+        (R.remaining reader.new) taken }
+    ensures writes { IfSome (R.remaining reader.old) (λ trace. AnswersReadWritten (reading_of lengths) scope form trace
+        (W.written writer.old) (W.written writer.new) result) }
+    ensures read { result ≡ Err TraceFault.Read → R.failures reader.old < R.failures reader.new }
+    ensures write { result ≡ Err TraceFault.Write → W.failures writer.old < W.failures writer.new }
+{
+    let trace = read_trace(alloc, reader)?;
+    write_report(alloc, form, scope, lengths, trace.as_slice(), writer)
+}
+
+/// Writes a report in this form, and returns its findings.
+fn write_found<W: Sink>(
+    alloc: Global,
+    form: Form,
+    report: &Report,
+    writer: &mut W,
+) -> Result<ReportSummary, TraceFault>
+    ensures writes { AnswersFound form report.now (W.written writer.old) (W.written writer.new) result }
+    ensures write { result ≡ Err TraceFault.Write → W.failures writer.old < W.failures writer.new }
+{
+    let books = &report.books;
+    let looks = looks(alloc, books.book.as_slice(), books.orders.as_slice())?;
+    let text = text_of(alloc, form, report, looks.as_slice())?;
+    writer.write_all(text.bytes())?;
+    Ok(ReportSummary {
+        tally: report.tally,
+        acts: acts_in(looks.as_slice()),
+        passed: report.passed,
+    })
+}
+
+/// Returns the text or the objects of a report with these looks.
+fn text_of(alloc: Global, form: Form, report: &Report, looks: &[Look]) -> Result<Text, AllocError>
+    ensures { IfOk result (λ text. text ≡ report_in form report.now looks.now) }
+{
+    let books = &report.books;
+    let messages = report.messages.as_slice();
+    let mut text = Text::new(alloc);
+    match form {
+        Form::Text => text::write(
+            alloc,
+            &mut text,
+            report.tally,
+            report.currency,
+            books,
+            messages,
+            looks,
+        )?,
+        Form::Json => objects::write(
+            &mut text,
+            report.tally,
+            report.currency,
+            books,
+            messages,
+            looks,
+        )?,
+    }
+    Ok(text)
+}
+
+/// Whether someone must act on this case.
+fn is_act(look: &Look) -> bool
+    ensures { result ≡ is_act look.now }
+{
+    matches!(look.case.weight(), Weight::Act)
+}
+
+/// Returns the number of cases that someone must act on.
+fn acts_in(looks: &[Look]) -> u64
+    ensures { result ≡ acts_in looks.now }
+{
+    looks.iter().filter(|look| is_act(look)).count() as u64
+}
