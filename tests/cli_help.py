@@ -13,7 +13,7 @@ import sys
 from common import Checks, TOP, program
 
 PROGRAM = program(sys.argv[1:])
-COMMANDS = ["show", "join", "normalise", "audit", "receipts", "vectors", "book", "loop", "till", "terminal", "tap", "play", "check-till", "check-terminal"]
+COMMANDS = ["show", "join", "normalise", "audit", "report", "receipts", "vectors", "book", "loop", "till", "terminal", "tap", "play", "check-till", "check-terminal"]
 USAGE = f"Usage: zvt [{'|'.join(COMMANDS)}]"
 TILL, TERMINAL = ["till", "--port", "1"], ["terminal", "--port", "1"]
 # Words that make no command, and what is said of them.
@@ -35,6 +35,8 @@ REFUSED = [
     ("terminal --port=1 --connections=65536", "error: invalid value '65536' for '--connections <N>': 65536 is not in 0..=65535\n"),
     ("terminal --port=1 register", "error: unexpected argument 'register' found\n\nUsage: zvt terminal [OPTIONS] --port <PORT>\n"),
     ("till --port=1 --timeout=65536", "error: invalid value '65536' for '--timeout <SECONDS>': 65536 is not in 0..=65535\n"),
+    ("report --open", "error: unexpected argument '--open' found\n"),
+    ("report --follow x", "error: unexpected argument '--follow' found\n"),
     ("loop --open", "error: unexpected argument '--open' found\n"),
     ("loop --timeout 1", "error: unexpected argument '--timeout' found\n"),
     ("loop --close-by-completion", "error: unexpected argument '--close-by-completion' found\n"),

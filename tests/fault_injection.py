@@ -129,7 +129,7 @@ class Trial(Checks):
         vectors = b"".join((EXAMPLES / "vectors.txt").read_bytes().splitlines(True)[:100])
         listed["vectors"] = (["vectors"], vectors + b"80 00 00 = more\n")
         listed["show of a file"] = (["show", str(self.work / "small.trace")], b"")
-        for words in ("show --json", "show --follow", "join --follow", "receipts --json --loose", "audit --json --check", "audit --follow"):
+        for words in ("show --json", "show --follow", "join --follow", "receipts --json --loose", "audit --json --check", "audit --follow", "report", "report --json --check"):
             listed[words] = (words.split(), self.traces["small"])
         blocks = (TOP / "tests/data/real/girocard.trace").read_bytes()
         for words in ("receipts", "receipts --text-blocks --codepage 437", "receipts --text-blocks --json"):

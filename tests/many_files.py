@@ -1,5 +1,5 @@
 #!/usr/bin/env python3
-"""Gives `show`, `join`, `audit`, `receipts`, `vectors` and `book` several files, and compares with what they write of each by itself.
+"""Gives `show`, `join`, `audit`, `report`, `receipts`, `vectors` and `book` several files, and compares with what they write of each by itself.
 
     tests/many_files.py [PROGRAM]
 
@@ -28,7 +28,8 @@ ODD_NAME = 'a "till" \\ \u00e4 \U0001F600.trace'
 INPUT = (EXAMPLES / "messages/terminal.trace").read_bytes()
 COMMANDS = [
     ["show"], ["show", "--loose"], ["show", "--json"], ["show", "--json", "--loose"], ["join"], ["audit"], ["audit", "--loose"], ["audit", "--json"],
-    ["audit", "--check"], ["audit", "--check", "--json"], ["receipts"], ["receipts", "--loose"], ["receipts", "--json"], ["vectors"],
+    ["audit", "--check"], ["audit", "--check", "--json"], ["report"], ["report", "--json"], ["report", "--check", "--loose"],
+    ["receipts"], ["receipts", "--loose"], ["receipts", "--json"], ["vectors"],
     ["book"], ["book", "--json"],
 ]
 RANDOM_LISTS = 6

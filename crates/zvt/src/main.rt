@@ -106,6 +106,7 @@ fn execute(rt: &HostRuntime, chosen: &Choice<'_>) -> Result<u8, Exit>
         | Choice::Join(command)
         | Choice::Normalise(command)
         | Choice::Audit(command)
+        | Choice::Report(command)
         | Choice::Receipts(command)
         | Choice::Vectors(command) => Ok(inputs::work_on(rt, command)?),
         Choice::Book {

@@ -16,7 +16,7 @@ use zvt_tool::trace_command::{TraceCommand, TraceWork};
 use zvt_trace::{ListenerError, Scope, Tally, TraceFault};
 
 /// Reports bad streams, a trace without messages, directions that may be swapped, and orders that the audit does not
-/// follow. Returns whether memory sufficed.
+/// follow. A report says all this itself. Returns whether memory sufficed.
 pub fn report_notes(
     rt: &HostRuntime,
     command: &TraceCommand<'_>,
@@ -29,6 +29,9 @@ pub fn report_notes(
     let Some(scope) = scope_of(command) else {
         return Ok(true);
     };
+    if matches!(command.work, TraceWork::Report { .. }) {
+        return Ok(true);
+    }
     let mut errors = input.errors(rt.alloc(), rt.stderr())?;
     let is_bad = match answer {
         Ok(found) => found.tally.bad > 0,
@@ -155,7 +158,9 @@ fn scope_of(command: &TraceCommand<'_>) -> Option<Scope>
     ensures { result ≡ scope_of command.now }
 {
     match command.work {
-        TraceWork::Render(_) | TraceWork::Audit(_) => Some(command.scope()),
+        TraceWork::Render(_) | TraceWork::Audit(_) | TraceWork::Report { .. } => {
+            Some(command.scope())
+        }
         TraceWork::Vectors(_) => None,
     }
 }

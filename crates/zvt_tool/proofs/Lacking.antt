@@ -5,7 +5,7 @@ use Rattle.clap.specs.Walk.{Row, Text, first_of}
 use Rattle.zvt_tool.specs.Chosen.{HasNoChoice, IsCommandOf}
 use Rattle.zvt_tool.specs.Given.{GivesNumber, IsNumberOf}
 use Rattle.zvt_tool.specs.declared.choices.Choice.{Choice}
-use Rattle.zvt_tool.specs.declared.choices.Choice.TheVariants.{Audit, Book, CheckTerminal, CheckTill, Join, Loop, Normalise, Play, Receipts, Show, Tap, Terminal, Till, Vectors}
+use Rattle.zvt_tool.specs.declared.choices.Choice.TheVariants.{Audit, Book, CheckTerminal, CheckTill, Join, Loop, Normalise, Play, Receipts, Report, Show, Tap, Terminal, Till, Vectors}
 
 -- texts that differ in a letter
 other_first : (name text : Text) → (slice_index name 0 ≢ slice_index text 0) → (name ≢ text)
@@ -23,6 +23,7 @@ till_has rows (Show options) said lacks = other_first (codes "till") (codes "sho
 till_has rows (Join options) said lacks = other_first (codes "till") (codes "join") (λ e. omega (arith, e)) said.0
 till_has rows (Normalise options) said lacks = other_first (codes "till") (codes "normalise") (λ e. omega (arith, e)) said.0
 till_has rows (Audit options) said lacks = other_first (codes "till") (codes "audit") (λ e. omega (arith, e)) said.0
+till_has rows (Report options) said lacks = other_first (codes "till") (codes "report") (λ e. omega (arith, e)) said.0
 till_has rows (Receipts options) said lacks = other_first (codes "till") (codes "receipts") (λ e. omega (arith, e)) said.0
 till_has rows (Tap options) said lacks = other_second (codes "till") (codes "tap") (λ e. omega (arith, e)) said.0
 till_has rows (Play options) said lacks = other_first (codes "till") (codes "play") (λ e. omega (arith, e)) said.0
@@ -39,6 +40,7 @@ till_has_host rows (Show options) said lacks = other_first (codes "till") (codes
 till_has_host rows (Join options) said lacks = other_first (codes "till") (codes "join") (λ e. omega (arith, e)) said.0
 till_has_host rows (Normalise options) said lacks = other_first (codes "till") (codes "normalise") (λ e. omega (arith, e)) said.0
 till_has_host rows (Audit options) said lacks = other_first (codes "till") (codes "audit") (λ e. omega (arith, e)) said.0
+till_has_host rows (Report options) said lacks = other_first (codes "till") (codes "report") (λ e. omega (arith, e)) said.0
 till_has_host rows (Receipts options) said lacks = other_first (codes "till") (codes "receipts") (λ e. omega (arith, e)) said.0
 till_has_host rows (Tap options) said lacks = other_second (codes "till") (codes "tap") (λ e. omega (arith, e)) said.0
 till_has_host rows (Play options) said lacks = other_first (codes "till") (codes "play") (λ e. omega (arith, e)) said.0
@@ -55,6 +57,7 @@ terminal_has_host rows (Show options) said lacks = other_first (codes "terminal"
 terminal_has_host rows (Join options) said lacks = other_first (codes "terminal") (codes "join") (λ e. omega (arith, e)) said.0
 terminal_has_host rows (Normalise options) said lacks = other_first (codes "terminal") (codes "normalise") (λ e. omega (arith, e)) said.0
 terminal_has_host rows (Audit options) said lacks = other_first (codes "terminal") (codes "audit") (λ e. omega (arith, e)) said.0
+terminal_has_host rows (Report options) said lacks = other_first (codes "terminal") (codes "report") (λ e. omega (arith, e)) said.0
 terminal_has_host rows (Receipts options) said lacks = other_first (codes "terminal") (codes "receipts") (λ e. omega (arith, e)) said.0
 terminal_has_host rows (Tap options) said lacks = other_second (codes "terminal") (codes "tap") (λ e. omega (arith, e)) said.0
 terminal_has_host rows (Play options) said lacks = other_first (codes "terminal") (codes "play") (λ e. omega (arith, e)) said.0
@@ -73,6 +76,7 @@ terminal_has rows (Show options) said lacks = other_first (codes "terminal") (co
 terminal_has rows (Join options) said lacks = other_first (codes "terminal") (codes "join") (λ e. omega (arith, e)) said.0
 terminal_has rows (Normalise options) said lacks = other_first (codes "terminal") (codes "normalise") (λ e. omega (arith, e)) said.0
 terminal_has rows (Audit options) said lacks = other_first (codes "terminal") (codes "audit") (λ e. omega (arith, e)) said.0
+terminal_has rows (Report options) said lacks = other_first (codes "terminal") (codes "report") (λ e. omega (arith, e)) said.0
 terminal_has rows (Receipts options) said lacks = other_first (codes "terminal") (codes "receipts") (λ e. omega (arith, e)) said.0
 terminal_has rows (Tap options) said lacks = other_second (codes "terminal") (codes "tap") (λ e. omega (arith, e)) said.0
 terminal_has rows (Play options) said lacks = other_first (codes "terminal") (codes "play") (λ e. omega (arith, e)) said.0
@@ -90,6 +94,7 @@ tap_has rows (Show options) said lacks = other_first (codes "tap") (codes "show"
 tap_has rows (Join options) said lacks = other_first (codes "tap") (codes "join") (λ e. omega (arith, e)) said.0
 tap_has rows (Normalise options) said lacks = other_first (codes "tap") (codes "normalise") (λ e. omega (arith, e)) said.0
 tap_has rows (Audit options) said lacks = other_first (codes "tap") (codes "audit") (λ e. omega (arith, e)) said.0
+tap_has rows (Report options) said lacks = other_first (codes "tap") (codes "report") (λ e. omega (arith, e)) said.0
 tap_has rows (Receipts options) said lacks = other_first (codes "tap") (codes "receipts") (λ e. omega (arith, e)) said.0
 tap_has rows (Play options) said lacks = other_first (codes "tap") (codes "play") (λ e. omega (arith, e)) said.0
 tap_has rows (CheckTill options) said lacks = other_first (codes "tap") (codes "check-till") (λ e. omega (arith, e)) said.0
@@ -106,6 +111,7 @@ play_has_host rows (Show options) said lacks = other_first (codes "play") (codes
 play_has_host rows (Join options) said lacks = other_first (codes "play") (codes "join") (λ e. omega (arith, e)) said.0
 play_has_host rows (Normalise options) said lacks = other_first (codes "play") (codes "normalise") (λ e. omega (arith, e)) said.0
 play_has_host rows (Audit options) said lacks = other_first (codes "play") (codes "audit") (λ e. omega (arith, e)) said.0
+play_has_host rows (Report options) said lacks = other_first (codes "play") (codes "report") (λ e. omega (arith, e)) said.0
 play_has_host rows (Receipts options) said lacks = other_first (codes "play") (codes "receipts") (λ e. omega (arith, e)) said.0
 play_has_host rows (CheckTill options) said lacks = other_first (codes "play") (codes "check-till") (λ e. omega (arith, e)) said.0
 play_has_host rows (CheckTerminal options) said lacks = other_first (codes "play") (codes "check-terminal") (λ e. omega (arith, e)) said.0
@@ -123,6 +129,7 @@ check_till_has rows (Show options) said lacks = other_first (codes "check-till")
 check_till_has rows (Join options) said lacks = other_first (codes "check-till") (codes "join") (λ e. omega (arith, e)) said.0
 check_till_has rows (Normalise options) said lacks = other_first (codes "check-till") (codes "normalise") (λ e. omega (arith, e)) said.0
 check_till_has rows (Audit options) said lacks = other_first (codes "check-till") (codes "audit") (λ e. omega (arith, e)) said.0
+check_till_has rows (Report options) said lacks = other_first (codes "check-till") (codes "report") (λ e. omega (arith, e)) said.0
 check_till_has rows (Receipts options) said lacks = other_first (codes "check-till") (codes "receipts") (λ e. omega (arith, e)) said.0
 check_till_has rows (Vectors options) said lacks = other_first (codes "check-till") (codes "vectors") (λ e. omega (arith, e)) said.0
 check_till_has rows (Book files json records) said lacks = other_first (codes "check-till") (codes "book") (λ e. omega (arith, e)) said.0
@@ -140,6 +147,7 @@ check_terminal_has rows (Show options) said lacks = other_first (codes "check-te
 check_terminal_has rows (Join options) said lacks = other_first (codes "check-terminal") (codes "join") (λ e. omega (arith, e)) said.0
 check_terminal_has rows (Normalise options) said lacks = other_first (codes "check-terminal") (codes "normalise") (λ e. omega (arith, e)) said.0
 check_terminal_has rows (Audit options) said lacks = other_first (codes "check-terminal") (codes "audit") (λ e. omega (arith, e)) said.0
+check_terminal_has rows (Report options) said lacks = other_first (codes "check-terminal") (codes "report") (λ e. omega (arith, e)) said.0
 check_terminal_has rows (Receipts options) said lacks = other_first (codes "check-terminal") (codes "receipts") (λ e. omega (arith, e)) said.0
 check_terminal_has rows (Vectors options) said lacks = other_first (codes "check-terminal") (codes "vectors") (λ e. omega (arith, e)) said.0
 check_terminal_has rows (Book files json records) said lacks = other_first (codes "check-terminal") (codes "book") (λ e. omega (arith, e)) said.0
@@ -201,16 +209,17 @@ check_terminal_without_host rows lacks = λ choice said. check_terminal_has rows
 
 -- the name is none of a command
 pub no_command : (name : Text) (rows : List Row) → (name ≢ codes "show") → (name ≢ codes "join") → (name ≢ codes "normalise") → (name ≢ codes "audit")
-    → (name ≢ codes "receipts") → (name ≢ codes "vectors") → (name ≢ codes "book") → (name ≢ codes "loop") → (name ≢ codes "till") → (name ≢ codes "terminal")
+    → (name ≢ codes "report") → (name ≢ codes "receipts") → (name ≢ codes "vectors") → (name ≢ codes "book") → (name ≢ codes "loop") → (name ≢ codes "till") → (name ≢ codes "terminal")
     → (name ≢ codes "tap") → (name ≢ codes "play")
     → (name ≢ codes "check-till") → (name ≢ codes "check-terminal") → HasNoChoice (Some (name, rows))
-no_command name rows show join normalise audit receipts vectors book loop till terminal tap play check_till check_terminal = no
+no_command name rows show join normalise audit report receipts vectors book loop till terminal tap play check_till check_terminal = no
   where
     no : HasNoChoice (Some (name, rows))
     no (Show options) said = show said.0
     no (Join options) said = join said.0
     no (Normalise options) said = normalise said.0
     no (Audit options) said = audit said.0
+    no (Report options) said = report said.0
     no (Receipts options) said = receipts said.0
     no (Vectors options) said = vectors said.0
     no (Book files json records) said = book said.0

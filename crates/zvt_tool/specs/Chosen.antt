@@ -11,9 +11,9 @@ use Rattle.zvt_tool.specs.PlayOptions.{AreCheckOptionsOf, ArePlayOptionsOf}
 use Rattle.zvt_tool.specs.TapOptions.{AreTapOptionsOf}
 use Rattle.zvt_tool.specs.TerminalOptions.{AreTerminalOptionsOf}
 use Rattle.zvt_tool.specs.TillOptions.{AreTillOptionsOf}
-use Rattle.zvt_tool.specs.TraceCommands.{IsAudit, IsReceipts, IsShow, IsTraceCommandOf, IsVectors}
+use Rattle.zvt_tool.specs.TraceCommands.{IsAudit, IsReceipts, IsReport, IsShow, IsTraceCommandOf, IsVectors}
 use Rattle.zvt_tool.specs.declared.choices.Choice.{Choice}
-use Rattle.zvt_tool.specs.declared.choices.Choice.TheVariants.{Audit, Book, CheckTerminal, CheckTill, Join, Loop, Normalise, Play, Receipts, Show, Tap, Terminal, Till, Vectors}
+use Rattle.zvt_tool.specs.declared.choices.Choice.TheVariants.{Audit, Book, CheckTerminal, CheckTill, Join, Loop, Normalise, Play, Receipts, Report, Show, Tap, Terminal, Till, Vectors}
 use Rattle.zvt_tool.specs.declared.choices.ChoiceFault.{ChoiceFault}
 use Rattle.zvt_tool.specs.declared.choices.ChoiceFault.TheVariants.{Memory, Words}
 use Rattle.zvt_tool.specs.declared.trace_command.TraceWork.TheVariants.{Render}
@@ -32,6 +32,7 @@ IsCommandOf name rows (Show command) = (name ≡ codes "show") × IsShow rows co
 IsCommandOf name rows (Join command) = (name ≡ codes "join") × IsTraceCommandOf rows (Render style.Join) Shortest command
 IsCommandOf name rows (Normalise command) = (name ≡ codes "normalise") × IsTraceCommandOf rows (Render style.Join) Padded command
 IsCommandOf name rows (Audit command) = (name ≡ codes "audit") × IsAudit rows command
+IsCommandOf name rows (Report command) = (name ≡ codes "report") × IsReport rows command
 IsCommandOf name rows (Receipts command) = (name ≡ codes "receipts") × IsReceipts rows command
 IsCommandOf name rows (Vectors command) = (name ≡ codes "vectors") × IsVectors rows command
 IsCommandOf name rows (Book files json records) =
@@ -55,7 +56,7 @@ IsCommandOf name rows (CheckTerminal options) = (name ≡ codes "check-terminal"
 abbrev pub PlaysAtMost : Text → Type 0
 PlaysAtMost name =
     (name ≢ codes "show") × (name ≢ codes "join") × (name ≢ codes "normalise") × (name ≢ codes "audit")
-    × (name ≢ codes "receipts") × (name ≢ codes "vectors") × (name ≢ codes "book") × (name ≢ codes "loop")
+    × (name ≢ codes "report") × (name ≢ codes "receipts") × (name ≢ codes "vectors") × (name ≢ codes "book") × (name ≢ codes "loop")
     × (name ≢ codes "till") × (name ≢ codes "terminal") × (name ≢ codes "tap") × (name ≢ codes "play")
 
 -- without a command, the choice is `show`

@@ -7,7 +7,7 @@ use Rattle.zvt_tool.specs.PlayOptions.{check_app, play_app}
 use Rattle.zvt_tool.specs.TapOptions.{tap_app}
 use Rattle.zvt_tool.specs.TerminalOptions.{terminal_app}
 use Rattle.zvt_tool.specs.TillOptions.{till_app}
-use Rattle.zvt_tool.specs.TraceCommands.{audit_app, join_app, normalise_app, receipts_app, show_app, vectors_app}
+use Rattle.zvt_tool.specs.TraceCommands.{audit_app, join_app, normalise_app, receipts_app, report_app, show_app, vectors_app}
 
 -- the program, which has a version, without its commands
 abbrev pub program_app : App
@@ -29,6 +29,7 @@ all_commands =
     join_app ∷
     normalise_app ∷
     audit_app ∷
+    report_app ∷
     receipts_app ∷
     vectors_app ∷
     book_app ∷

@@ -1,5 +1,5 @@
 -- The commands on traces.
-use Rattle.std.specs.Prelude.{◌≡◌, ◌∷◌, [], ◌||◌, Bool, cond, true, false, List, Option, Some, None, codes, map}
+use Rattle.std.specs.Prelude.{◌≡◌, ◌∷◌, [], ◌||◌, Bool, cond, not, true, false, List, Option, Some, None, codes, map}
 use Rattle.std.specs.Option.{option_and_then}
 use Rattle.std.specs.Str.{bytes_eq}
 use Rattle.clap.specs.Words.{App, Row, Rule, Text, first_of}
@@ -18,7 +18,7 @@ use Rattle.zvt_tool.specs.Given.{IsByFlag, IsFlagOf, IsTextOf, words_of}
 use Rattle.zvt_tool.specs.Options.{command_app, flag_rule, form_by, lengths_by, option_rule, several_rule}
 use Rattle.zvt_tool.specs.declared.trace_command.TraceCommand.{TraceCommand}
 use Rattle.zvt_tool.specs.declared.trace_command.TraceWork.{TraceWork}
-use Rattle.zvt_tool.specs.declared.trace_command.TraceWork.TheVariants.{Render, Audit, Vectors}
+use Rattle.zvt_tool.specs.declared.trace_command.TraceWork.TheVariants.{Render, Audit, Report, Vectors}
 
 abbrev pub style_by : (plain objects : Style) → (is_json : Bool) → Style
 style_by plain objects false = plain
@@ -33,13 +33,16 @@ is_json (Render Json) = true
 is_json (Render (JsonReceipts text_blocks)) = true
 is_json (Audit form.Text) = false
 is_json (Audit form.Json) = true
+is_json (Report form.Text strict) = false
+is_json (Report form.Json strict) = true
 is_json (Vectors form.Text) = false
 is_json (Vectors form.Json) = true
 
--- what is skipped after a refusal: the side, for an audit the whole line, and only the refused message if the line is read on
+-- what is skipped after a refusal: the side, for an audit or a strict report the whole line, and only the refused message if the line is read on
 abbrev pub work_scope : TraceWork → (reads_on : Bool) → Scope
 work_scope (Render style) reads_on = side_scope reads_on
 work_scope (Audit written) reads_on = books_scope reads_on
+work_scope (Report written strict) reads_on = books_scope (reads_on || not strict)
 work_scope (Vectors written) reads_on = side_scope reads_on
 
 -- ---- the options
@@ -74,6 +77,15 @@ audit_app = command_app (codes "audit") (
     flag_rule (codes "json") ∷
     flag_rule (codes "follow") ∷
     flag_rule (codes "open") ∷
+    [])
+
+abbrev pub report_app : App
+report_app = command_app (codes "report") (
+    files_rule ∷
+    flag_rule (codes "loose") ∷
+    flag_rule (codes "check") ∷
+    flag_rule (codes "json") ∷
+    flag_rule (codes "strict") ∷
     [])
 
 abbrev pub receipts_app : App
@@ -134,6 +146,9 @@ IsReceipts rows command =
 
 abbrev pub IsAudit : List Row → TraceCommand → Type 0
 IsAudit rows = IsByForm rows (λ json. Audit (form_by json))
+
+abbrev pub IsReport : List Row → TraceCommand → Type 0
+IsReport rows command = IsByFlag (codes "strict") rows (λ strict. IsByForm rows (λ json. Report (form_by json) strict) command)
 
 abbrev pub IsVectors : List Row → TraceCommand → Type 0
 IsVectors rows command = IsByFlag (codes "json") rows (λ json. IsTraceCommandOf rows (Vectors (form_by json)) Shortest command)

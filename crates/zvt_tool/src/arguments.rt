@@ -12,7 +12,8 @@ use crate::tap_options::read_tap;
 use crate::terminal_options::read_terminal;
 use crate::till_options::read_till;
 use crate::trace_command::{
-    TraceCommand, read_audit, read_join, read_normalise, read_receipts, read_show, read_vectors,
+    TraceCommand, read_audit, read_join, read_normalise, read_receipts, read_report, read_show,
+    read_vectors,
 };
 use clap::error::ErrorKind;
 use clap::{ArgMatches, Error};
@@ -98,6 +99,7 @@ fn chosen<'a>(
         "join" => Some(Choice::Join(read_join(alloc, inner)?)),
         "normalise" => Some(Choice::Normalise(read_normalise(alloc, inner)?)),
         "audit" => Some(Choice::Audit(read_audit(alloc, inner)?)),
+        "report" => Some(Choice::Report(read_report(alloc, inner)?)),
         "receipts" => Some(Choice::Receipts(read_receipts(alloc, inner)?)),
         "vectors" => Some(Choice::Vectors(read_vectors(alloc, inner)?)),
         "book" => Some(read_book(alloc, inner)?),

@@ -21,6 +21,7 @@ pub enum Choice<'a> {
     /// Accepts lengths in any form.
     Normalise(TraceCommand<'a>),
     Audit(TraceCommand<'a>),
+    Report(TraceCommand<'a>),
     Receipts(TraceCommand<'a>),
     /// Reads vectors instead of traces from its files.
     Vectors(TraceCommand<'a>),

@@ -13,7 +13,7 @@ use crate::tap_options::tap_row;
 use crate::terminal_options::terminal_row;
 use crate::till_options::till_row;
 use crate::trace_command::{
-    audit_row, join_row, normalise_row, receipts_row, show_row, vectors_row,
+    audit_row, join_row, normalise_row, receipts_row, report_row, show_row, vectors_row,
 };
 use clap::Command;
 use std::alloc::{AllocError, Global};
@@ -29,6 +29,7 @@ pub fn zvt<'a>(alloc: Global) -> Result<Command<'a>, AllocError>
         join_row(),
         normalise_row(),
         audit_row(),
+        report_row(),
         receipts_row(),
         vectors_row(),
         book_row(),

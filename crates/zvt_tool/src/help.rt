@@ -9,13 +9,13 @@ pub const FILES: &str = "The files to read, in order; standard input if there is
 
 /// The names of the commands, as the usage line lists them.
 pub const NAMES: &str =
-    "show|join|normalise|audit|receipts|vectors|book|loop|till|terminal|tap|play|check-till|check-terminal";
+    "show|join|normalise|audit|report|receipts|vectors|book|loop|till|terminal|tap|play|check-till|check-terminal";
 
 /// The text after the list of commands.
 pub const MORE: &str = "\
-show, join, normalise, audit and receipts read traces from the given FILEs, or from standard input if there is none or
-for '-'. With several files, every output line starts with the name of its file. 'zvt FILE' is short for 'zvt show FILE'
-if FILE contains a dot or a slash.
+show, join, normalise, audit, report and receipts read traces from the given FILEs, or from standard input if there is
+none or for '-'. With several files, every output line starts with the name of its file. 'zvt FILE' is short for
+'zvt show FILE' if FILE contains a dot or a slash.
 
 Steps, run in the given order:
   register      Log the till on to the terminal; required before any other step
@@ -35,8 +35,8 @@ Lines of a trace:
 
 Exit status:
   0  The command ran to its end. Whether money moved is in the result lines; --check checks it
-  1  A trace or a tapped connection has invalid or incomplete messages, --check found an unclear payment or a step that
-     did not succeed, 'play' met a difference, or a situation or a vector failed
+  1  A trace or a tapped connection has invalid or incomplete messages, --check found an unclear payment, a case to act
+     on or a step that did not succeed, 'play' met a difference, or a situation or a vector failed
   2  Invalid command line or step
   3  A file is not a valid trace or book, or is too long
   4  A file, a device or the connection failed

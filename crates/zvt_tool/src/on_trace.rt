@@ -1,19 +1,21 @@
 //! The commands on a trace.
 ghost use Rattle.std.specs.Prelude.{◌≡◌, ◌<◌, ◌≤◌, false, length, [], Err, IfOk};
 ghost use Rattle.zvt_trace.specs.Written.{limit};
-ghost use Rattle.zvt_tool.specs.OnTrace.{AnswersOnTrace, FollowsTrace, tally_of};
+ghost use Rattle.zvt_tool.specs.OnTrace.{AnswersOnTrace, FollowsTrace, report_of, tally_of};
 
 use crate::trace_command::{TraceCommand, TraceWork};
 use crate::vector_check::vectors;
 use std::alloc::Global;
 use zvt_audit::{AuditSummary, audit_trace, follow_audit};
 use zvt_io::{Over, Sink, Source};
+use zvt_report::{ReportSummary, read_report, write_report};
 use zvt_show::{follow_trace, render_trace};
 use zvt_trace::{Tally, TraceFault};
 
 /// Executes the command on the trace and writes its output.
 ///
-/// Returns the counts of messages and bad streams and, for an audit, of unclear payments.
+/// Returns the counts of messages and bad streams and, for an audit, of unclear payments. For a report, the cases that
+/// someone must act on are counted in their place.
 pub fn work_on_trace<W: Sink>(
     alloc: Global,
     command: &TraceCommand<'_>,
@@ -34,13 +36,20 @@ pub fn work_on_trace<W: Sink>(
             )
         }
         TraceWork::Audit(form) => audit_trace(alloc, form, scope, lengths, trace, writer),
+        TraceWork::Report { form, .. } => {
+            reported(
+                alloc,
+                write_report(alloc, form, scope, lengths, trace, writer),
+            )
+        }
         TraceWork::Vectors(form) => {
             found(alloc, vectors(alloc, form, &mut Over::new(trace), writer))
         }
     }
 }
 
-/// Executes the command on the reader's trace while it arrives. Vectors are read completely first.
+/// Executes the command on the reader's trace while it arrives. Vectors and the trace of a report are read completely
+/// first.
 pub fn follow_work<R: Source, W: Sink>(
     alloc: Global,
     command: &TraceCommand<'_>,
@@ -62,7 +71,36 @@ pub fn follow_work<R: Source, W: Sink>(
             )
         }
         TraceWork::Audit(form) => follow_audit(alloc, form, scope, lengths, reader, writer),
+        TraceWork::Report { form, .. } => {
+            reported(
+                alloc,
+                read_report(alloc, form, scope, lengths, reader, writer),
+            )
+        }
         TraceWork::Vectors(form) => found(alloc, vectors(alloc, form, reader, writer)),
+    }
+}
+
+/// Returns the result of a report, with the cases to act on in the place of unclear payments.
+fn reported(
+    alloc: Global,
+    answer: Result<ReportSummary, TraceFault>,
+) -> Result<AuditSummary, TraceFault>
+    ensures report { report_of result ≡ answer }
+    ensures swapped { IfOk result (λ found. found.swapped ≡ false) }
+    ensures unfollowed { IfOk result (λ found. found.unfollowed.items ≡ []) }
+    ensures none { IfOk result (λ found. found.total ≡ 0) }
+{
+    match answer {
+        Ok(report) => Ok(AuditSummary {
+            tally: report.tally,
+            total: 0,
+            unclear: report.acts,
+            swapped: false,
+            unfollowed: Vec::new(alloc),
+            passed: report.passed,
+        }),
+        Err(fault) => Err(fault),
     }
 }
 

@@ -2,10 +2,10 @@
 ghost use Rattle.std.specs.Prelude.{◌≡◌, IfOk, [], option_map};
 ghost use Rattle.clap.specs.Words.{found_of, rows_of};
 ghost use Rattle.zvt_tool.specs.Options.{app_for, form_by, lengths_by};
-ghost use Rattle.zvt_tool.specs.TraceCommands.{IsAudit, IsReceipts, IsRendering, IsShow, IsTraceCommandOf, IsVectors};
+ghost use Rattle.zvt_tool.specs.TraceCommands.{IsAudit, IsReceipts, IsRendering, IsReport, IsShow, IsTraceCommandOf};
 ghost use Rattle.zvt_tool.specs.TraceCommands.{audit_app, codepage_by, codepage_named};
-ghost use Rattle.zvt_tool.specs.TraceCommands.{is_json, join_app, normalise_app, receipts_app, show_app, style_by};
-ghost use Rattle.zvt_tool.specs.TraceCommands.{vectors_app, work_scope};
+ghost use Rattle.zvt_tool.specs.TraceCommands.{is_json, join_app, normalise_app, receipts_app, report_app, show_app};
+ghost use Rattle.zvt_tool.specs.TraceCommands.{IsVectors, style_by, vectors_app, work_scope};
 ghost use Rattle.zvt_tool.specs.declared.trace_command.TraceWork.TheVariants.{Render};
 ghost use Rattle.zvt_show.specs.declared.render.Style.TheVariants.{Show};
 ghost use Rattle.zvt_text.specs.TextOptions.{plain_text};
@@ -28,6 +28,12 @@ pub enum TraceWork {
     Render(Style),
     /// The books of its payments, in this form.
     Audit(Form),
+    /// The report on its orders and payments.
+    Report {
+        form: Form,
+        /// Whether the line counts as malformed after a refused message, as it does for a till.
+        strict: bool,
+    },
     /// The vectors that differ from the result of the message reader, in this form.
     Vectors(Form),
 }
@@ -40,7 +46,8 @@ pub struct TraceCommand<'a> {
     pub files: Vec<&'a str>,
     pub work: TraceWork,
     pub lengths: Lengths,
-    /// Whether an unclear payment counts as bad, and so does money that moved and that the audit does not follow.
+    /// Whether an unclear payment counts as bad, and so does money that moved and that the audit does not follow. For a
+    /// report, whether a case that someone must act on counts as bad.
     pub check: bool,
     /// Whether each line is written as soon as it is read.
     pub follow: bool,
@@ -67,13 +74,14 @@ impl<'a> TraceCommand<'a> {
     }
 
     /// Returns how much input to skip after a refused message: with `--open` the message, else its side, or for an
-    /// audit the whole line.
+    /// audit the whole line. A report skips the message, unless it is strict.
     pub fn scope(&self) -> Scope
         ensures { result ≡ work_scope self.now.work self.now.reads_on }
     {
         match self.work {
             _ if self.reads_on => Scope::OneMessage,
-            TraceWork::Audit(_) => Scope::WholeLine,
+            TraceWork::Report { strict: false, .. } => Scope::OneMessage,
+            TraceWork::Audit(_) | TraceWork::Report { .. } => Scope::WholeLine,
             TraceWork::Render(_) | TraceWork::Vectors(_) => Scope::OneSide,
         }
     }
@@ -86,6 +94,10 @@ impl<'a> TraceCommand<'a> {
             self.work,
             TraceWork::Render(Style::Json | Style::JsonReceipts { .. })
                 | TraceWork::Audit(Form::Json)
+                | TraceWork::Report {
+                    form: Form::Json,
+                    ..
+                }
                 | TraceWork::Vectors(Form::Json)
         )
     }
@@ -175,6 +187,34 @@ Example:
     }
 }
 
+/// Returns the row of `report`: its options and help.
+pub fn report_row() -> CommandRow<'static>
+    ensures { app_for result ≡ report_app }
+{
+    CommandRow {
+        name: "report",
+        about: "Explain what became of each payment and reversal of a trace, and what to look at",
+        more: "Unlike an audit, a report subtracts what was taken back. It reads on after a refused message, at the
+end that its length announces, and counts it by its control bytes.
+
+Example:
+  zvt report --check till1.trace",
+        options: &[
+            CommandOption::Several("file", "FILE", help::FILES),
+            CommandOption::Flag("loose", help::LOOSE),
+            CommandOption::Flag(
+                "check",
+                "Exit with 1 if there is a case that someone must act on",
+            ),
+            CommandOption::Flag("json", help::JSON),
+            CommandOption::Flag(
+                "strict",
+                "After a refused message, read nothing until the connection is lost, as a till would",
+            ),
+        ],
+    }
+}
+
 /// Returns the row of `receipts`: its options and help.
 pub fn receipts_row() -> CommandRow<'static>
     ensures { app_for result ≡ receipts_app }
@@ -259,6 +299,20 @@ pub fn read_audit<'a>(alloc: Global, inner: &ArgMatches<'a>) -> Result<TraceComm
     ensures { IfOk result (IsAudit (rows_of (found_of inner.now))) }
 {
     let work = TraceWork::Audit(form_by(flag(inner, "json")));
+    on_traces(alloc, inner, work, lengths_by(flag(inner, "loose")))
+}
+
+/// Returns the choice from the arguments of `report`.
+pub fn read_report<'a>(
+    alloc: Global,
+    inner: &ArgMatches<'a>,
+) -> Result<TraceCommand<'a>, AllocError>
+    ensures { IfOk result (IsReport (rows_of (found_of inner.now))) }
+{
+    let work = TraceWork::Report {
+        form: form_by(flag(inner, "json")),
+        strict: flag(inner, "strict"),
+    };
     on_traces(alloc, inner, work, lengths_by(flag(inner, "loose")))
 }
 
