@@ -1,0 +1,287 @@
+#!/usr/bin/env python3
+"""A model of `report --json`, written from docs/FORMAT.md, with its tables of the till's machine, and docs/JSON.md alone, without a
+look at the program's code.
+
+`Report` goes over the bytes of a trace with the reader of `json_model.py` and judges each order of the till. With files as
+arguments it writes the JSON of each.
+"""
+import sys
+
+import json_model
+from audit_model import AMOUNT, CURRENCY, ORDERS, ORIGINAL, RECEIPT, RESULT, TRACE, Audit, all_of, amount_of, only
+
+# Commands outside the profile that move money. Those with a password have it before their fields.
+MOVES_MONEY = {"0604", "0609", "060A", "0621", "0622", "0623", "0624", "0625", "0631"}
+WITH_PASSWORD = {"0625", "0631"}
+CONTROLS = {"Registration": "0600", "Authorisation": "0601", "Reversal": "0630", "EndOfDay": "0650"}
+ALREADY_REVERSED = "B4"
+DECLINES, GOOD = "declines", "good"
+WEIGHTS = {"PaymentUnclear": "check", "ReversalRefused": "check", "CloseUnclear": "check", "CloseRefused": "check"}
+
+
+def fields_of(payload):
+    """A message with the fields that these bytes spell, if they spell fields."""
+    reader, at = json_model.fields(json_model.Content(len(payload)), True), 0
+    try:
+        wanted = next(reader)
+        while at + wanted <= len(payload):
+            at += wanted
+            wanted = reader.send(payload[at - wanted:at])
+    except StopIteration as ended:
+        return {"fields": ended.value[0]}
+    except json_model.Refused:
+        pass
+    return {}
+
+
+def with_fields(message):
+    """The message, with fields also if it is an order of money outside the profile."""
+    control = message.get("control")
+    if message["kind"] != "Other" or control not in MOVES_MONEY or "data" not in message:
+        return message
+    return {**message, **fields_of(bytes.fromhex(message["data"])[3 if control in WITH_PASSWORD else 0:])}
+
+
+class Order:
+    """An order of the till, with what was heard of it."""
+
+    def __init__(self, kind, message, control, currency, **said):
+        self.kind, self.control, self.currency, self.entry = kind, control, currency, said.get("entry")
+        self.first = self.last = message["line"]
+        self.amount = amount_of(message)
+        self.receipt = only(message, RECEIPT)
+        self.accepted, self.statuses, self.approval, self.outcome = False, [], None, None
+
+    @property
+    def is_of_money(self):
+        """Whether it is a payment, or a reversal of an entry of the book."""
+        return self.kind == "payment" or self.kind == "reversal" and self.entry is not None
+
+    def class_of(self, status, book):
+        """What a status says of the order: that it declines it, with the code; a cause of doubt; or that it is good."""
+        result, named = only(status, RESULT), all_of(status, CURRENCY)
+        if result not in (None, "00"):
+            return DECLINES, result
+        if result is None or self.kind == "payment" and all_of(status, ORIGINAL):
+            return "Conflict", None
+        if not self.is_of_money:
+            return GOOD, None
+        if len(named) > 1 or self.currency and named and named[0] != self.currency:
+            return "WrongCurrency", None
+        entry = book[self.entry] if self.kind == "reversal" else None
+        if only(status, AMOUNT) != (entry["amount"] if entry else self.amount):
+            return "AmountDiffers", None
+        if entry:
+            return (GOOD, None) if only(status, ORIGINAL) == f"{entry['trace']:06}" else ("NoTrace", None)
+        trace = only(status, TRACE)
+        return ("NoTrace", None) if trace is None else (GOOD, int(trace))
+
+    def noted(self, status, book):
+        self.statuses.append((*self.class_of(status, book), only(status, RECEIPT)))
+        if self.approval is None and only(status, RESULT) == "00" and amount_of(status):
+            self.approval = {"amount": amount_of(status), "line": status["line"], "receipt": only(status, RECEIPT),
+                             "trace": int(only(status, TRACE)) if only(status, TRACE) else None}
+
+    def fault(self):
+        """What is wrong with the statuses: they agree if all decline, or all are good under one number."""
+        first = self.statuses[0]
+        for one in self.statuses:
+            if one[0] not in (DECLINES, GOOD):
+                return one[0]
+            if one[0] != first[0] or one[0] == GOOD and one[1] != first[1]:
+                return "Conflict"
+        return None
+
+    def completed(self, book):
+        """The outcome of a completion."""
+        if self.control == CONTROLS["Registration"]:
+            return "completed", None
+        done = {"close": "closed"}.get(self.kind, "completed")
+        if not self.statuses:
+            return ("unclear", "NoStatus") if self.is_of_money else (done, None)
+        fault = self.fault()
+        if fault:
+            return "unclear", fault
+        if self.statuses[0][0] == DECLINES:
+            return "declined", self.statuses[0][1]
+        if self.kind == "payment":
+            return ("unclear", "TraceUsed") if self.statuses[0][1] in [entry["trace"] for entry in book] else ("paid", None)
+        return "reversed" if self.is_of_money else done, None
+
+    def stopped(self, word, code):
+        """The outcome of an abort or a refusal with this code."""
+        if self.control == CONTROLS["Registration"] or all(one[0] == DECLINES for one in self.statuses):
+            return word, code
+        return "unclear", "AbortAfterApproval"
+
+
+class Report(Audit):
+    def __init__(self, trace, loose=False, strict=False):
+        self.orders, self.running, self.book, self.in_force = [], None, [], None
+        super().__init__(trace, loose, not strict)
+
+    def sent(self, message):
+        super().sent(message)
+        if message["kind"] == "AbortOrder" and self.running:
+            self.running.last = message["line"]
+        if message["kind"] not in ORDERS:
+            return
+        message = with_fields(message)
+        control = CONTROLS.get(message["kind"]) or message["control"]
+        kind, said = "order", {}
+        if control in MOVES_MONEY or message["kind"] == "Authorisation":
+            kind = "other"
+        if message["kind"] == "EndOfDay":
+            kind = "close"
+        elif message["kind"] == "Authorisation" and amount_of(message):
+            kind = "payment"
+        elif message["kind"] == "Reversal":
+            kind = "reversal"
+            places = [at for at, entry in enumerate(self.book) if entry["receipt"] and entry["receipt"] == only(message, RECEIPT)]
+            said = {"entry": places[-1]} if places else {}
+        self.running = Order(kind, message, control, self.in_force, **said)
+        self.orders.append(self.running)
+        if message["kind"] == "Registration":
+            self.in_force = message.get("currency")
+
+    def heard(self, message):
+        super().heard(message)
+        order = self.running
+        if order is None:
+            return
+        order.last = message["line"]
+        kind = "Ack" if message["kind"] == "Nack" and message["code"] == "00" else message["kind"]
+        if kind == "Status":
+            order.noted(message, self.book)
+        elif kind == "Ack":
+            order.accepted = True
+        elif kind == "Completion":
+            self.over(order.completed(self.book))
+        elif kind == "Abort":
+            self.over(order.stopped("aborted", message.get("code", "FF")))
+        elif kind == "Nack" and not order.accepted:
+            self.over(order.stopped("refused", message["code"]))
+
+    def ends(self, cause, line):
+        super().ends(cause, line)
+        if self.running and cause in ("Line", "Malformed", "Unfinished"):
+            if cause != "Unfinished":
+                self.running.last = line
+            self.over(("unclear", cause))
+
+    def over(self, outcome):
+        """The running order has this outcome."""
+        order, self.running = self.running, None
+        order.outcome = outcome
+        word, why = outcome
+        if word == "paid":
+            order.entry = len(self.book)
+            self.book.append({"amount": order.amount, "trace": order.statuses[0][1], "receipt": order.statuses[0][2], "reversed": False, "doubt": None})
+        if order.kind != "reversal" or not order.is_of_money:
+            return
+        entry = self.book[order.entry]
+        if word == "reversed":
+            entry.update({"reversed": True, "doubt": None})
+        elif word == "unclear":
+            entry["doubt"] = why
+        elif word in ("refused", "aborted") and why == ALREADY_REVERSED:
+            entry["doubt"] = ALREADY_REVERSED
+
+    # ---- what to look at
+
+    def looks(self):
+        for at, order in enumerate(self.orders):
+            case = self.case_of(order, self.orders[at + 1:])
+            if case:
+                again = [later for later, one in enumerate(self.orders) if later > at and order.kind == one.kind == "payment"
+                         and one.amount == order.amount and one.outcome[0] in ("paid", "unclear")]
+                yield case, at, again[0] if again else None
+
+    def case_of(self, order, later):
+        word, why = order.outcome
+        if order.kind == "payment" and word == "unclear":
+            if order.approval is None:
+                return "PaymentUnclear"
+            return "ApprovedNotCompleted" if order.approval["amount"] == order.amount else "OtherAmount"
+        if order.kind == "close":
+            return "CloseUnclear" if word == "unclear" else "CloseRefused" if word in ("declined", "refused", "aborted") else None
+        if order.kind != "reversal" or not order.is_of_money:
+            return None
+        decided = any(one.kind == "reversal" and one.entry == order.entry and (
+            one.outcome[0] in ("reversed", "unclear") or one.outcome[0] in ("refused", "aborted") and one.outcome[1] == ALREADY_REVERSED)
+            for one in later)
+        if word == "unclear":
+            return None if decided else "ReversalUnclear"
+        if word in ("refused", "aborted") and why == ALREADY_REVERSED:
+            return None if decided or self.book[order.entry]["reversed"] else "TakenBackBefore"
+        return "ReversalRefused" if word in ("declined", "refused", "aborted") else None
+
+    # ---- what is written
+
+    def objects(self):
+        yield {"summary": self.summary()}
+        for case, at, again in self.looks():
+            order = self.orders[at]
+            yield {"look": said(again=None if again is None else again + 1, case=case, cause=self.ending(order).get("cause"),
+                                lines=[order.first, order.last], order=at + 1, payment=self.number_of(order), weight=WEIGHTS.get(case, "act"))}
+        for number, order in enumerate(self.orders, 1):
+            yield {order.kind: said(**getattr(self, f"{order.kind}_members")(order), **self.ending(order), lines=[order.first, order.last], order=number)}
+
+    def summary(self):
+        open_amounts = [order.amount for order in self.orders if order.kind == "payment" and order.outcome[0] == "unclear"]
+        return said(bad=self.bad, booked=len(self.book), currency=min(self.named) if len(self.named) == 1 else None, looks=len(list(self.looks())),
+                    messages=self.messages, net=sum(entry["amount"] for entry in self.book if not entry["reversed"]),
+                    others=sum(order.kind == "other" for order in self.orders), unclear=len(open_amounts), unclear_amount=sum(open_amounts),
+                    reversals_unclear=sum(entry["doubt"] not in (None, ALREADY_REVERSED) for entry in self.book),
+                    reversed=sum(entry["reversed"] for entry in self.book), total=sum(entry["amount"] for entry in self.book))
+
+    def number_of(self, order):
+        payments = [one for one in self.orders if one.kind == "payment"]
+        return payments.index(order) + 1 if order.kind == "payment" else None
+
+    def ending(self, order):
+        word, why = order.outcome
+        if word == "unclear":
+            return {"outcome": word, "cause": why}
+        return {"outcome": word, "code": why, "words": json_model.MEANINGS.get(why)} if why else {"outcome": word}
+
+    def payment_members(self, order):
+        entry = self.book[order.entry] if order.entry is not None else None
+        numbers, taking = entry or order.approval or {}, [
+            at for at, one in enumerate(self.orders, 1) if entry and one.kind == "reversal" and one.entry == order.entry and one.outcome[0] == "reversed"]
+        doubt = entry and entry["doubt"]
+        return {"amount": order.amount, "approved": order.approval and order.approval["amount"], "payment": self.number_of(order),
+                "receipt": numbers.get("receipt"), "trace": numbers.get("trace"), "reversed_by": taking[0] if taking else None,
+                "reversal_unclear": doubt if doubt != ALREADY_REVERSED else None, "taken_back": doubt == ALREADY_REVERSED or None}
+
+    def reversal_members(self, order):
+        if not order.is_of_money:
+            return {"amount": order.amount, "receipt": order.receipt}
+        payment = next(one for one in self.orders if one.kind == "payment" and one.entry == order.entry)
+        return {"amount": payment.amount, "payment": self.number_of(payment), "receipt": order.receipt}
+
+    def other_members(self, order):
+        return {"amount": order.amount or order.approval and order.approval["amount"], **self.order_members(order)}
+
+    def close_members(self, order):
+        return {}
+
+    def order_members(self, order):
+        return {"control": order.control, "name": json_model.COMMANDS.get(order.control)}
+
+
+def said(**members):
+    """The members that have a value, in the order of their names."""
+    return {name: members[name] for name in sorted(members) if members[name] is not None}
+
+
+def main():
+    for path in sys.argv[1:]:
+        with open(path, "rb") as file:
+            for one in Report(file.read()).objects():
+                print(json_model.json_of(one))
+    return 0
+
+
+if __name__ == "__main__":
+    sys.exit(main())

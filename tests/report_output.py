@@ -1,0 +1,158 @@
+#!/usr/bin/env python3
+"""Compares `report --json` with the model of `report_model.py`, byte for byte, and `report` with stored texts.
+
+    tests/report_output.py [PROGRAM]
+
+PROGRAM is the one that `rt ci` built, unless another is named. The traces are those of examples/ and tests/data/real, random
+dialogues of payments, reversals and ends of day whose messages are left out, doubled, changed, cut and refused, and the hostile
+traces of `random_traces.py`, each read openly, with `--strict` and with `--loose`. The totals are those of `audit`. Each case has a trace
+that brings it, and one that just misses it. The texts of the traces in examples/report are those beside them. The status is 1 if
+anything differs.
+"""
+import concurrent.futures
+import json
+import random
+import subprocess
+import sys
+
+import json_model
+import random_traces
+import report_model
+from audit_output import Dialogue
+from common import EXAMPLES, TOP, Checks, program
+from journal_model import ABORT, ACK, AUTHORISATION, COMPLETION, END_OF_DAY, REGISTRATION, REVERSAL, STATUS, digits, message
+
+PROGRAM = program(sys.argv[1:])
+SEED, DIALOGUES, HOSTILE = 20261130, 800, 200
+FORMS = ([], ["--strict"], ["--loose"])
+check = Checks()
+
+
+def run(words, trace):
+    done = subprocess.run([PROGRAM, *words], input=trace, capture_output=True, timeout=60)
+    return done.returncode, done.stdout.decode(), done.stderr.decode()
+
+
+class Day(Dialogue):
+    """A dialogue with reversals and ends of day that the terminal answers."""
+
+    def __init__(self, chance):
+        self.receipts = []
+        super().__init__(chance)
+
+    def odd(self, chance_of_it=0.1):
+        return super().odd(chance_of_it / 4)
+
+    def step(self):
+        self.chance.choice((self.pay, self.pay, self.pay, self.reverse, self.reverse, self.close, self.other, self.lose))()
+
+    def pay(self):
+        super().pay()
+        self.receipts.append(self.number)
+
+    def answer(self, fields):
+        heard = [ACK, *([message(STATUS, fields)] if not self.odd(0.2) else []), self.chance.choice((message(COMPLETION),) * 4 + (message(ABORT, b"\x6C"), message(ABORT, b"\xB4")))]
+        if self.odd(0.15):
+            heard = [bytes([0x84, self.chance.choice((0x83, 0xB4)), 0])]
+        for one in heard[:self.chance.randint(1, len(heard)) if self.odd(0.2) else None]:
+            self.say("<", one)
+            self.say(">", ACK)
+
+    def reverse(self):
+        number = self.chance.choice(self.receipts or [1])
+        self.say(">", message(REVERSAL, bytes(3) + b"\x87" + digits(number, 2)))
+        self.number += 1
+        status = b"\x27" + self.chance.choice((b"\0",) * 6 + (b"\x6C",)) + b"\x04" + digits(self.chance.choice((1, 100, 100)), 6)
+        self.answer(status + b"\x0B" + digits(self.number, 3) + (b"\x37" + digits(number, 3) if not self.odd() else b"") + b"\x87" + digits(self.number, 2))
+
+    def close(self):
+        self.say(">", message(END_OF_DAY, bytes(3)))
+        self.answer(self.chance.choice((b"\x27\0", b"\x27\x6C", b"\x04" + digits(100, 6))))
+
+
+def compared(name, trace):
+    """The JSON of a trace is the model's, and its totals are those of an audit."""
+    for words in FORMS:
+        try:
+            model = report_model.Report(trace, "--loose" in words, "--strict" in words)
+        except json_model.Fault:
+            check(f"{name} {words}", run(["report", "--json", *words], trace)[:2], (3, ""))
+            continue
+        said = list(model.objects())
+        wanted = "".join(json_model.json_of(one) + "\n" for one in said)
+        acts = sum(one["look"]["weight"] == "act" for one in said if "look" in one)
+        status = 1 if model.bad > model.passed else 0
+        check(f"{name} {words}", run(["report", "--json", *words], trace), (status, wanted, ""))
+        check(f"{name} {words} --check", run(["report", "--check", *words], trace)[0], 1 if acts else status)
+        audited = json.loads(run(["audit", "--json", *(["--open"] if "--strict" not in words else []), *(word for word in words if word == "--loose")], trace)[1].splitlines()[-1])
+        check(f"the total of {name} {words}", said[0]["summary"]["total"], audited["total"])
+
+
+# ---- a trace for each case, and one that just misses it
+
+def approving(amount, number, original=None):
+    more = b"" if original is None else b"\x37" + digits(original, 3)
+    return message(STATUS, b"\x27\0\x04" + digits(amount, 6) + b"\x0B" + digits(number, 3) + more + b"\x87" + digits(number, 2))
+
+
+def dialogue(*said):
+    return "".join("!\n" if one is None else f"{sign} {one.hex()}\n" for sign, one in said).encode()
+
+
+def paid(amount, number, *answers):
+    return [(">", message(AUTHORISATION, b"\x04" + digits(amount, 6))), ("<", ACK), *(("<", one) for one in answers or (approving(amount, number), message(COMPLETION)))]
+
+
+def reversed_by(number, *answers):
+    return [(">", message(REVERSAL, bytes(3) + b"\x87" + digits(number, 2))), *(("<", one) for one in answers)]
+
+
+def closed(*answers):
+    return [(">", message(END_OF_DAY, bytes(3))), ("<", ACK), *(("<", one) for one in answers)]
+
+
+LOST, DONE, DECLINED = ("!", None), message(COMPLETION), message(STATUS, b"\x27\x6C")
+TAKEN_BACK = (ACK, approving(500, 2, 1), DONE)
+CASES = [
+    ("ApprovedNotCompleted", [*paid(500, 1, approving(500, 1)), LOST], [*paid(500, 1), LOST]),
+    ("OtherAmount", [*paid(500, 1, approving(550, 1), DONE)], [*paid(550, 1)]),
+    ("PaymentUnclear", [*paid(500, 1, DONE)], [*paid(500, 1, DECLINED, DONE)]),
+    ("ReversalUnclear", [*paid(500, 1), *reversed_by(1, ACK), LOST], [*paid(500, 1), *reversed_by(1, ACK), LOST, *reversed_by(1, *TAKEN_BACK)]),
+    ("ReversalUnclear", [*paid(500, 1), *reversed_by(1, ACK)], [*paid(500, 1), *reversed_by(7, ACK)]),
+    ("TakenBackBefore", [*paid(500, 1), *reversed_by(1, message(ABORT, b"\xB4"))], [*paid(500, 1), *reversed_by(1, *TAKEN_BACK), *reversed_by(1, message(ABORT, b"\xB4"))]),
+    ("ReversalRefused", [*paid(500, 1), *reversed_by(1, ACK, DECLINED, DONE)], [*paid(500, 1), *reversed_by(1, *TAKEN_BACK)]),
+    ("CloseUnclear", [*closed(message(STATUS, b"\x04" + digits(500, 6)), DONE)], [*closed(DONE)]),
+    ("CloseRefused", [*closed(message(ABORT, b"\x6C"))], [*closed(message(STATUS, b"\x27\0"), DONE)]),
+]
+
+
+def cases():
+    for name, bringing, missing in CASES:
+        for trace, wanted in ((dialogue(*bringing), True), (dialogue(*missing), False)):
+            found = [json.loads(line)["look"]["case"] for line in run(["report", "--json"], trace)[1].splitlines() if line.startswith('{"look"')]
+            check(f"{name} of {trace}", name in found, wanted)
+            compared(f"the case {name}", trace)
+
+
+def stored():
+    """The texts of the examples, as they are stored beside them."""
+    for trace in sorted((EXAMPLES / "report").glob("*.trace")):
+        found = run(["report"], trace.read_bytes())
+        check(f"the text of {trace.name}", found, (found[0], trace.with_suffix(".txt").read_text(), ""))
+
+
+def main():
+    traces = {path.name: path.read_bytes() for folder in (EXAMPLES, EXAMPLES / "messages", EXAMPLES / "report", TOP / "tests/data/real") for path in sorted(folder.glob("*.trace"))}
+    chance = random.Random(SEED)
+    traces.update({f"dialogue {at}": Day(random.Random(chance.random())).text() for at in range(DIALOGUES)})
+    traces.update({f"hostile trace {at}": random_traces.trace(random.Random(chance.random()), padded=at % 2, hostile=True) for at in range(HOSTILE)})
+    with concurrent.futures.ThreadPoolExecutor(4) as pool:
+        list(pool.map(lambda one: compared(*one), traces.items()))
+    cases()
+    stored()
+    print(f"{check.verdict}: {len(traces)} traces, {len(CASES)} cases, {check.count} comparisons")
+    return check.status
+
+
+if __name__ == "__main__":
+    sys.exit(main())
