@@ -6,7 +6,7 @@
 PROGRAM is the one that `rt ci` built, unless another is named. The traces are those of examples/ and tests/data/real, random
 dialogues of payments, reversals and ends of day whose messages are left out, doubled, changed, cut and refused, and the hostile
 traces of `random_traces.py`, each read openly, with `--strict` and with `--loose`. The totals are those of `audit`. Each case has a trace
-that brings it, and one that just misses it. The texts of the traces in examples/report are those beside them. The status is 1 if
+that brings it, and one that just misses it. The texts of the traces in tests/data/report are those beside them. The status is 1 if
 anything differs.
 """
 import concurrent.futures
@@ -135,14 +135,14 @@ def cases():
 
 
 def stored():
-    """The texts of the examples, as they are stored beside them."""
-    for trace in sorted((EXAMPLES / "report").glob("*.trace")):
+    """The texts of two days, as they are stored beside the traces."""
+    for trace in sorted((TOP / "tests/data/report").glob("*.trace")):
         found = run(["report"], trace.read_bytes())
         check(f"the text of {trace.name}", found, (found[0], trace.with_suffix(".txt").read_text(), ""))
 
 
 def main():
-    traces = {path.name: path.read_bytes() for folder in (EXAMPLES, EXAMPLES / "messages", EXAMPLES / "report", TOP / "tests/data/real") for path in sorted(folder.glob("*.trace"))}
+    traces = {path.name: path.read_bytes() for folder in (EXAMPLES, EXAMPLES / "messages", TOP / "tests/data/report", TOP / "tests/data/real") for path in sorted(folder.glob("*.trace"))}
     chance = random.Random(SEED)
     traces.update({f"dialogue {at}": Day(random.Random(chance.random())).text() for at in range(DIALOGUES)})
     traces.update({f"hostile trace {at}": random_traces.trace(random.Random(chance.random()), padded=at % 2, hostile=True) for at in range(HOSTILE)})
