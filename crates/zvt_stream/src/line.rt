@@ -12,8 +12,8 @@ use thiserror::Error;
 use zvt_apdu::ApduView;
 use zvt_grammar::Why;
 
-/// The replies to one message: at most two messages, 260 bytes in all. That is room for an acknowledgement and any message
-/// whose length is one byte.
+/// The replies to one message: at most two messages, 260 bytes in all. That is room for an acknowledgement and any
+/// message whose length is one byte.
 #[derive(Drop)]
 pub struct Answers {
     written: ArrayVec<u8, 260>,

@@ -2,7 +2,7 @@
 ghost use Rattle.std.specs.Prelude.{◌≡◌};
 ghost use Rattle.zvt_text.specs.TextOptions.{plain_text, safe_text};
 
-/// How much of a message a text shows. No text has passwords or the contents of the fields that the table of BMPs hides.
+/// How much of a message a text shows. No text shows a password, or the content of a field that the BMP table hides.
 #[derive(Clone, Copy, Debug, PartialEq, Eq)]
 pub struct TextOptions {
     /// Whether the contents of objects with card data, and the data of messages outside the payment profile, are hidden
