@@ -1,14 +1,14 @@
 #!/usr/bin/python3
-"""Audits the traces of many tills on many machines, and sums up by shop.
+"""Reports the traces of many tills on many machines, and sums up by shop.
 
     examples/fleet.py [--scheduler ADDRESS] [--zvt PROGRAM] [--batch N] FOLDER
 
 FOLDER has a trace of each till, FILE.trace, anywhere below it; the folder that a trace is in names its shop. Each worker must
 see FOLDER and PROGRAM (`zvt` in its PATH without it) under the same names. ADDRESS is that of a Dask scheduler, as
-tcp://head:8786; without it the workers are processes of this machine. Each task runs `zvt audit --json` over N traces, 100
+tcp://head:8786; without it the workers are processes of this machine. Each task runs `zvt report --json` over N traces, 100
 without it. Where a worker is lost, its tasks run again elsewhere. A task's result is taken once, so nothing counts twice.
 
-Standard output has a line of each shop, and one of all. A trace that can't be audited is named on standard error and is in
+Standard output has a line of each shop, and one of all. A trace that can't be read is named on standard error and is in
 no sum; then the status is 1. It is 4 where there are no traces, or no scheduler. It needs python3-distributed.
 """
 import argparse
@@ -17,30 +17,23 @@ import os
 import subprocess
 import sys
 
-COLUMNS = ("traces", "booked", "total", "unclear", "amount", "bad", "unfollowed")
+COLUMNS = ("traces", "booked", "net", "unclear", "amount", "others", "acts", "bad")
 CONNECT = 10  # seconds
 
 
-def audit(program, files):
-    """The sums of each of these traces that could be audited, and what was said on standard error."""
+def report(program, files):
+    """The sums of each of these traces that could be read, and what was said on standard error."""
     # The empty file makes two at least, so each line names its file.
-    done = subprocess.run([program, "audit", "--json", os.devnull, *files], capture_output=True, text=True)
-    sums, whole = {file: dict.fromkeys(COLUMNS, 0) for file in files}, set()
+    done = subprocess.run([program, "report", "--json", os.devnull, *files], capture_output=True, text=True)
+    sums = {}
     for row in map(json.loads, done.stdout.splitlines()):
-        if row.get("file") not in sums:
-            continue  # a file that is none of these, or the sum of all
-        of = sums[row["file"]]
-        if "booked" in row:
-            of["booked"] += 1
-        elif "unclear" in row:
-            of["unclear"] += 1
-            of["amount"] += row["unclear"]["amount"]
-        elif "unfollowed" in row:
-            of["unfollowed"] += 1
-        else:
-            of["traces"], of["total"], of["bad"] = 1, row["total"], row["bad"]
-            whole.add(row["file"])
-    return {file: of for file, of in sums.items() if file in whole}, done.stderr
+        file = row["file"]
+        if "summary" in row and file in files:
+            of = row["summary"]
+            sums[file] = {"traces": 1, "amount": of["unclear_amount"], "acts": 0, **{name: of[name] for name in ("booked", "net", "unclear", "others", "bad")}}
+        elif "look" in row:
+            sums[file]["acts"] += row["look"]["weight"] == "act"
+    return sums, done.stderr
 
 
 def traces_in(folder):
@@ -48,10 +41,10 @@ def traces_in(folder):
     return sorted(found)
 
 
-def audited(client, program, batches):
+def reported(client, program, batches):
     """The sums of each trace, of all batches."""
     from distributed import as_completed
-    futures = {client.submit(audit, program, batch, retries=2, key=f"audit-{number}", pure=True): batch for number, batch in enumerate(batches)}
+    futures = {client.submit(report, program, batch, retries=2, key=f"report-{number}", pure=True): batch for number, batch in enumerate(batches)}
     sums, failed = {}, {}
     for future in as_completed(futures):
         batch = futures[future]
@@ -78,7 +71,7 @@ def line(name, of):
 
 
 def main():
-    words = argparse.ArgumentParser(description="Audit the traces of many tills on many machines, and sum up by shop.")
+    words = argparse.ArgumentParser(description="Report the traces of many tills on many machines, and sum up by shop.")
     words.add_argument("--scheduler", metavar="ADDRESS")
     words.add_argument("--zvt", metavar="PROGRAM", default="zvt")
     words.add_argument("--batch", metavar="N", type=int, default=100)
@@ -100,7 +93,7 @@ def main():
         print(f"fleet: '{given.scheduler}': no scheduler answers there: {error}", file=sys.stderr)
         return 4
     with client:
-        sums, failed = audited(client, given.zvt, batches)
+        sums, failed = reported(client, given.zvt, batches)
     shops = by_shop(sums)
     print("\t".join(["shop", *COLUMNS]))
     for shop, of in sorted(shops.items()):
@@ -108,7 +101,7 @@ def main():
     print(line("all", {column: sum(of[column] for of in shops.values()) for column in COLUMNS}))
     for file, said in sorted(failed.items()):
         about = [row for row in said.splitlines() if f"'{file}'" in row]
-        print(f"fleet: '{file}' is not audited: {(about or said.splitlines() or ['nothing was said'])[0]}", file=sys.stderr)
+        print(f"fleet: '{file}' is not reported: {(about or said.splitlines() or ['nothing was said'])[0]}", file=sys.stderr)
     return 1 if failed else 0
 
 

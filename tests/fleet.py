@@ -1,10 +1,10 @@
 #!/usr/bin/env python3
-"""Runs the recipes of docs/FLEETS.md on 200 traces, and compares with the model of `audit_model.py`.
+"""Runs the recipes of docs/FLEETS.md on 200 traces, and compares with the model of `report_model.py`.
 
     tests/fleet.py [PROGRAM]
 
 PROGRAM is the one that `rt ci` built, unless another is named. The commands are taken out of the document. Two days of ten
-shops with ten tills each are audited by `xargs`, by `parallel`, and by `examples/fleet.py` with two Dask workers, one of which
+shops with ten tills each are reported by `xargs`, by `parallel`, and by `examples/fleet.py` with two Dask workers, one of which
 is killed in the middle: nothing is missing, and nothing counts twice. `sqlite3` answers the document's queries. One trace
 can't be read, and some streams are bad. What is not installed is said and left out. The status is 1 where anything is not as
 expected. It takes some twenty seconds.
@@ -21,16 +21,17 @@ import sys
 import tempfile
 import time
 
-import audit_model
-import audit_output
 import journal_dialogues
 import journal_model
+import report_model
+import report_output
 from common import Checks, EXAMPLES, TOP, program
 
 PROGRAM = program(sys.argv[1:])
 DEBIAN_PYTHON = "/usr/bin/python3"
 DAYS, SHOPS, TILLS, BATCH = ("2026-11-24", "2026-11-25"), 10, 10, 5
 SECONDS = 120
+COLUMNS = ("traces", "booked", "net", "unclear", "amount", "others", "acts", "bad")
 BOOKS, DOUBTFUL_PAYMENTS, DOUBTFUL_REVERSALS, ROUND = 500, 10, 10, 5000
 UNREADABLE = "traces/2026-11-25/shop-03/till-07.trace"
 # The program, with a note of each run and a pause, so that a worker can be killed in the middle.
@@ -54,20 +55,20 @@ def command(*words):
 
 
 def make(folder):
-    """Traces of two days, and the audit of each that can be read. The second day has numbers of the first."""
-    chance, audits = random.Random(20261126), {}
+    """Traces of two days, and the report of each that can be read. The second day has numbers of the first."""
+    chance, reports = random.Random(20261126), {}
     for day, first in zip(DAYS, (0, 3)):
         for shop in range(SHOPS):
             for till in range(TILLS):
                 name = f"traces/{day}/shop-{shop:02}/till-{till:02}.trace"
-                text = audit_output.Dialogue(chance, first).text()
+                text = report_output.Day(chance, first).text()
                 if name == UNREADABLE:
                     text += b"this is none\n"
                 else:
-                    audits[name] = audit_model.Audit(text)
+                    reports[name] = report_model.Report(text)
                 (folder / name).parent.mkdir(parents=True, exist_ok=True)
                 (folder / name).write_bytes(text)
-    return audits
+    return reports
 
 
 def make_books(folder):
@@ -98,26 +99,24 @@ def make_books(folder):
 
 class Fleet:
     def __init__(self, folder):
-        self.folder, self.audits = folder, make(folder)
+        self.folder, self.reports = folder, make(folder)
         (folder / "bin").mkdir()
         (folder / "bin/zvt").symlink_to(PROGRAM)
         (folder / "examples").symlink_to(TOP / "examples")
-        self.environment = {**os.environ, "PATH": f"{folder}/bin:{os.environ['PATH']}"}
+        self.environment = {**os.environ, "LC_ALL": "C", "PATH": f"{folder}/bin:{os.environ['PATH']}"}
 
     def run(self, block):
         """What the commands write, whatever their status: a trace that is bad has one."""
         done = subprocess.run(["sh", "-c", block], cwd=self.folder, env=self.environment, capture_output=True, text=True, timeout=SECONDS)
         return done.stdout
 
-    def holds_books(self, name):
-        """books.json has each audit's objects, in their order."""
+    def holds_reports(self, name):
+        """reports.json has each report's objects, in their order."""
         found = collections.defaultdict(list)
-        for row in map(json.loads, (self.folder / "books.json").read_text().splitlines()):
-            found[row.pop("file", None)].append(row)
+        for row in map(json.loads, (self.folder / "reports.json").read_text().splitlines()):
+            found[row.pop("file")].append(row)
         found.pop("/dev/null", None)
-        sums = found.pop(None)
-        check(f"{name}: the sums", sum(row["total"] for row in sums), sum(audit.total() for audit in self.audits.values()))
-        check(name, dict(found), {file: list(audit.objects()) for file, audit in self.audits.items()})
+        check(name, dict(found), {file: list(report.objects()) for file, report in self.reports.items()})
         said.append(name)
 
     def books(self):
@@ -137,36 +136,51 @@ class Fleet:
         said.append("books")
 
     def one_machine(self):
-        self.run(command("xargs", "books/XXXXXXXX"))
-        self.holds_books("xargs")
-        wanted = {file for file, audit in self.audits.items() if audit.unclear or audit.bad or audit.unfollowed} | {UNREADABLE}
-        check("what a person has to look at", sorted(self.run(command("--check")).splitlines()), sorted(wanted))
+        self.run(command("xargs", "reports/XXXXXXXX"))
+        self.holds_reports("xargs")
+        acts = {file for file, report in self.reports.items() if summed(report)["acts"] or report.bad > report.passed} | {UNREADABLE}
+        check("where a person has to act", sorted(self.run(command("--check")).splitlines()), sorted(acts))
         if installed("parallel"):
-            (self.folder / "books.json").unlink()
+            (self.folder / "reports.json").unlink()
             self.run(command("parallel"))
-            self.holds_books("parallel")
+            self.holds_reports("parallel")
         if installed("jq"):
-            check("what is missing", self.run(command("comm -23")).split(), [UNREADABLE])
-            wanted = [f"{file}\t{amount}\t{cause}" for file, audit in self.audits.items() for amount, cause in audit.unclear]
-            check("what is unclear", sorted(self.run(command(".unclear.cause] | @tsv' books.json")).splitlines()), sorted(wanted))
-            wanted = [f"{file}\t{order['line']}\t{order.get('name', '')}" for file, audit in self.audits.items() for order in audit.unfollowed]
-            check("what is not followed", sorted(self.run(command(".unfollowed.name] | @tsv' books.json")).splitlines()), sorted(wanted))
-            check("some orders are not followed", bool(wanted), True)
-            said.append("jq")
+            self.asked()
+
+    def asked(self):
+        """jq finds the missing trace, the net totals, the cases and the orders in no total."""
+        check("what is missing", self.run(command("comm -23")).split(), [UNREADABLE])
+        wanted = collections.Counter()
+        for file, report in self.reports.items():
+            wanted[file.split("/")[2]] += report.summary()["net"]
+        check("net totals of traces", self.run(command("awk", ".summary.net")).splitlines(), [f"{shop}\t{net}" for shop, net in sorted(wanted.items())])
+        check("something was taken back", sum(wanted.values()) < sum(report.summary()["total"] for report in self.reports.values()), True)
+        rows = [f"{look['weight']}\t{file}\t{look['lines'][0]}\t{look['case']}" for file, look in self.members("look")]
+        check("what to look at", self.run(command(".look.case")).splitlines(), sorted(rows))
+        rows = [f"{file}\t{order['lines'][0]}\t{order.get('name', '')}\t{order['outcome']}" for file, order in self.members("other")]
+        check("orders in no total", sorted(self.run(command(".other.outcome")).splitlines()), sorted(rows))
+        check("there are such orders", bool(rows), True)
+        said.append("jq")
+
+    def members(self, kind):
+        """The objects of this kind in all reports, with their files."""
+        return [(file, one[kind]) for file, report in self.reports.items() for one in report.objects() if kind in one]
 
     def database(self):
         if not installed("sqlite3"):
             return
         self.run(command("fleet.sql"))
         unclear, days, numbers = collections.defaultdict(list), collections.Counter(), collections.Counter()
-        for file, audit in self.audits.items():
+        for file, report in self.reports.items():
             _, day, shop, till = file.removesuffix(".trace").split("/")
-            unclear[shop] += [amount for amount, _ in audit.unclear]
-            days[day] += audit.total()
-            numbers.update((shop, till, number) for _, number, _ in audit.booked)
+            days[day] += report.summary()["net"]
+            for order in report.orders:
+                if order.kind == "payment" and order.outcome[0] == "unclear":
+                    unclear[shop].append(order.amount)
+            numbers.update((shop, till, entry["trace"]) for entry in report.book)
         rows = [f"{shop}|{len(amounts)}|{sum(amounts)}" for shop, amounts in sorted(unclear.items()) if amounts]
         check("unclear by shop", self.run(command("FROM unclear")).splitlines(), rows)
-        check("totals by day", self.run(command("FROM audited")).splitlines(), [f"{day}|{total}" for day, total in sorted(days.items())])
+        check("totals by day", self.run(command("FROM reported")).splitlines(), [f"{day}|{total}" for day, total in sorted(days.items())])
         rows = [f"{shop}|{till}|{number}|{count}" for (shop, till, number), count in sorted(numbers.items()) if count > 1]
         check("numbers seen twice", self.run(command("FROM booked")).splitlines(), rows)
         check("there are such numbers", bool(rows), True)
@@ -174,13 +188,12 @@ class Fleet:
 
     def sums(self):
         """The lines that examples/fleet.py must write."""
-        shops = collections.defaultdict(lambda: [0] * 7)
-        for file, audit in self.audits.items():
-            row = (1, len(audit.booked), audit.total(), len(audit.unclear), sum(amount for amount, _ in audit.unclear), audit.bad, len(audit.unfollowed))
+        shops = collections.defaultdict(collections.Counter)
+        for file, report in self.reports.items():
             for shop in (file.split("/")[2], "~all"):
-                shops[shop] = [one + other for one, other in zip(shops[shop], row)]
-        return ["shop\ttraces\tbooked\ttotal\tunclear\tamount\tbad\tunfollowed",
-                *("\t".join([shop.strip("~"), *map(str, row)]) for shop, row in sorted(shops.items()))]
+                shops[shop].update(summed(report))
+        return ["\t".join(["shop", *COLUMNS]),
+                *("\t".join([shop.strip("~"), *(str(row[column]) for column in COLUMNS)]) for shop, row in sorted(shops.items()))]
 
     def many_machines(self):
         if not installed("dask-scheduler") or not installed("dask-worker"):
@@ -191,7 +204,7 @@ class Fleet:
         with Dask(self.folder) as dask:
             words = command("fleet.py --scheduler").replace("tcp://head:8786", f"{dask.address} --batch {BATCH} --zvt {slow}")
             run = subprocess.Popen(["sh", "-c", f"exec {words}"], cwd=self.folder, stdout=subprocess.PIPE, stderr=subprocess.PIPE, text=True)
-            batches = -(-(len(self.audits) + 1) // BATCH)
+            batches = -(-(len(self.reports) + 1) // BATCH)
             wait_for(lambda: runs_in(calls) >= batches // 3 or run.poll() is not None)
             before = runs_in(calls)
             dask.kill_worker()
@@ -199,7 +212,7 @@ class Fleet:
         check("the killed worker was in the middle", before < batches, True)
         check("a task ran again", runs_in(calls) > batches, True)
         check("the sums by shop", written.splitlines(), self.sums())
-        check("the status, and what is not audited", (run.returncode, re.findall(r"fleet: '([^']*)' is not audited", errors)), (1, [UNREADABLE]))
+        check("the status, and what is not reported", (run.returncode, re.findall(r"fleet: '([^']*)' is not reported", errors)), (1, [UNREADABLE]))
         done = subprocess.run([DEBIAN_PYTHON, EXAMPLES / "fleet.py", self.folder / "bin"], capture_output=True, text=True, timeout=SECONDS)
         check("a folder without traces", (done.returncode, done.stdout, "there is no FILE.trace" in done.stderr), (4, "", True))
         said.append(f"dask: a worker of two killed after {before} of {batches} tasks, {runs_in(calls)} runs in all")
@@ -234,6 +247,13 @@ class Dask:
             process.wait()
 
 
+def summed(report):
+    """The row of a trace."""
+    summary, looks = report.summary(), [one["look"] for one in report.objects() if "look" in one]
+    return {"traces": 1, "amount": summary["unclear_amount"], "acts": sum(look["weight"] == "act" for look in looks),
+            **{name: summary[name] for name in ("booked", "net", "unclear", "others", "bad")}}
+
+
 def runs_in(calls):
     return calls.read_text().count("\n") if calls.exists() else 0
 
@@ -263,7 +283,7 @@ def main():
         fleet.one_machine()
         fleet.database()
         fleet.many_machines()
-    print(f"{check.verdict}: {len(fleet.audits) + 1} traces by {', '.join(said)}: {check.wrong} wrong")
+    print(f"{check.verdict}: {len(fleet.reports) + 1} traces by {', '.join(said)}: {check.wrong} wrong")
     return check.status
 
 

@@ -36,9 +36,9 @@ def run(words, trace):
 class Day(Dialogue):
     """A dialogue with reversals and ends of day that the terminal answers."""
 
-    def __init__(self, chance):
+    def __init__(self, chance, number=0):
         self.receipts = []
-        super().__init__(chance)
+        super().__init__(chance, number)
 
     def odd(self, chance_of_it=0.1):
         return super().odd(chance_of_it / 4)
