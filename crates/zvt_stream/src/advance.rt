@@ -31,31 +31,19 @@ pub(crate) fn rare_step(
         → Advances (reading_of lengths) bytes byte result (state_of (reading_of lengths) goes.new levels.new) }
 {
     match goes.part {
-        Part::LowSize => {
-            let moved = judge_low_size(goes, levels, byte);
-            follow(goes, levels, moved)
-        }
-        Part::HighSize => {
-            let moved = judge_high_size(goes, levels, byte, lengths);
-            follow(goes, levels, moved)
-        }
-        Part::Head => {
-            let moved = judge_head(goes, levels, byte);
-            follow(goes, levels, moved)
-        }
-        Part::Container => {
-            let moved = judge_container(goes, levels, byte, lengths);
-            follow(goes, levels, moved)
-        }
+        Part::LowSize => follow(judge_low_size(goes, levels, byte), goes, levels),
+        Part::HighSize => follow(judge_high_size(goes, levels, byte, lengths), goes, levels),
+        Part::Head => follow(judge_head(goes, levels, byte), goes, levels),
+        Part::Container => follow(judge_container(goes, levels, byte, lengths), goes, levels),
         Part::Tag => {
             let depth = levels.outer.len().saturating_sub(1);
-            let moved = judge_object_tag(goes, levels, depth, byte, lengths);
-            follow(goes, levels, moved)
+            follow(
+                judge_object_tag(goes, levels, depth, byte, lengths),
+                goes,
+                levels,
+            )
         }
-        Part::Length => {
-            let moved = judge_object_length(goes, levels, byte, lengths);
-            follow(goes, levels, moved)
-        }
+        Part::Length => follow(judge_object_length(goes, levels, byte, lengths), goes, levels),
         _ => unreachable!(),
     }
 }
@@ -63,9 +51,9 @@ pub(crate) fn rare_step(
 /// Moves on after a byte that follows the control bytes.
 #[inline]
 pub(crate) fn follow(
+    moved: Result<Transition, Why>,
     goes: &mut Goes,
     levels: &mut Levels,
-    moved: Result<Transition, Why>,
 ) -> Result<Judged, Why>
     requires { (trailing : ℕ) → moved ≡ Ok (opens trailing) → length levels.old.outer.items < 7 }
     ensures { (r : Reading) (bytes : List ℕ) → Follows r moved goes.old levels.old result goes.new levels.new bytes }

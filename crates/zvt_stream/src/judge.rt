@@ -337,26 +337,11 @@ fn step(
 {
     steps.judged = steps.judged.next();
     match goes.part {
-        Part::Digits => {
-            let moved = judge_digits(goes, byte);
-            follow(goes, levels, moved)
-        }
-        Part::Content => {
-            let moved = judge_free(goes);
-            follow(goes, levels, moved)
-        }
-        Part::Object => {
-            let moved = judge_object_content(goes);
-            follow(goes, levels, moved)
-        }
-        Part::Payload => {
-            let moved = judge_payload(goes);
-            follow(goes, levels, moved)
-        }
-        Part::Name => {
-            let moved = judge_field(goes, levels, byte, lengths);
-            follow(goes, levels, moved)
-        }
+        Part::Digits => follow(judge_digits(goes, byte), goes, levels),
+        Part::Content => follow(judge_free(goes), goes, levels),
+        Part::Object => follow(judge_object_content(goes), goes, levels),
+        Part::Payload => follow(judge_payload(goes), goes, levels),
+        Part::Name => follow(judge_field(goes, levels, byte, lengths), goes, levels),
         Part::FirstControl => {
             levels.high = byte;
             goes.part = Part::SecondControl;
@@ -367,14 +352,8 @@ fn step(
             goes.part = Part::FirstSize;
             Ok(Judged::Open)
         }
-        Part::FirstSize => {
-            let moved = judge_first_size(goes, levels, byte);
-            follow(goes, levels, moved)
-        }
-        Part::Digit => {
-            let moved = judge_count(goes, levels, byte);
-            follow(goes, levels, moved)
-        }
+        Part::FirstSize => follow(judge_first_size(goes, levels, byte), goes, levels),
+        Part::Digit => follow(judge_count(goes, levels, byte), goes, levels),
         _ => {
             kept.part = goes.part;
             kept.more = goes.more;
