@@ -6,6 +6,7 @@
 The captures are written here, byte by byte: no network is listened to. One begins in the middle of an open line, so that
 its first packet is the terminal's. Where tshark is missing nothing is compared, and that is said.
 """
+import datetime
 import os
 import shutil
 import struct
@@ -24,6 +25,7 @@ PAYMENT = [
     ("<", "060f00"), (">", "800000"),
 ]
 SYN, PUSH, FIN = 0x02, 0x18, 0x11
+BEGIN = 1_700_000_000  # when each connection begins, in seconds since 1970
 
 
 class Connection:
@@ -64,7 +66,7 @@ def capture(path, connections):
         file.write(struct.pack("<IHHiIII", 0xA1B2C3D4, 2, 4, 0, 0, 65535, 1))
         for connection in connections:
             for at, packet in enumerate(connection.packets):
-                file.write(struct.pack("<IIII", 1_700_000_000 + at, 0, len(packet), len(packet)) + packet)
+                file.write(struct.pack("<IIII", BEGIN + at, 0, len(packet), len(packet)) + packet)
 
 
 def said(messages):
@@ -83,7 +85,12 @@ def runs_of(path):
         lines = file.read().splitlines()
     if not lines or lines.pop() != "!":
         sys.exit(f"captures: {path} does not end with '!'")
-    return said([line.split(" ") for line in lines])
+    marks, messages = lines[::2], lines[1::2]
+    # The packets of a connection come a second apart.
+    times = [datetime.datetime.fromisoformat(f"{word.removeprefix('#@ ').removesuffix('.000Z')}+00:00").timestamp() for word in marks]
+    if times != [times[0] + number for number in range(len(messages))] or not BEGIN <= times[0] < BEGIN + 10:
+        sys.exit(f"captures: the times of {path} are {marks}")
+    return said([line.split(" ") for line in messages])
 
 
 def convert(folder, connections, port=PORT):
@@ -118,6 +125,9 @@ def main():
         took = time.monotonic() - began
         if took > 5:
             sys.exit(f"captures: 200 connections took {took:.1f} s")
+        # A message of several segments, whose data tshark writes in several lines.
+        long = [(">", "06d1820100" + "00" * 256), (">", "07" * 700), ("<", "800000")]
+        compare(folder, [Connection(0).opens().pays(long)], [said(long)])
         done, _ = convert(folder, [Connection(0).opens().pays()], PORT + 1)
         if done.returncode != 1 or "no connection to port" not in done.stderr:
             sys.exit(f"captures: another port ended with {done.returncode}: {done.stderr}")

@@ -4,10 +4,14 @@ mod ChunkRows
 pub mod EventLemmas
 pub mod FeedLemmas
 pub mod InputLemmas
+pub mod CommentLemmas
 pub mod KeptLemmas
 pub mod LentLemmas
 pub mod LineLemmas
 pub mod PairLemmas
+pub mod MarkLemmas
+pub mod MomentLemmas
+pub mod MarkingLemmas
 pub mod OneScopeLemmas
 mod PartRows
 pub mod PassLemmas

@@ -1,10 +1,14 @@
 pub mod Apart
 pub mod ChunkLaw
 pub mod Chunks
+pub mod Comments
 pub mod Decoding
 pub mod Lines
 pub mod Listening
 pub mod Lending
+pub mod Marking
+pub mod Marks
+pub mod Moments
 pub mod Pairs
 pub mod Meanings
 pub mod Observing

@@ -1,5 +1,8 @@
 //! Laws of traces, each stated as the contract of an empty function.
 ghost use Rattle.zvt_trace.specs.ChunkLaw.{ChunksAreLines};
+ghost use Rattle.zvt_trace.specs.Comments.{CommentsMeanNothing};
+ghost use Rattle.zvt_trace.specs.Marks.{MarkRows, MarksReadBack};
+ghost use Rattle.zvt_trace.specs.Moments.{MomentRows};
 ghost use Rattle.zvt_trace.specs.OpenSides.{OpenSidesHearCuts};
 ghost use Rattle.zvt_trace.specs.Unrefused.{ScopesAgree};
 
@@ -18,4 +21,25 @@ pub fn scopes_agree()
 /// and never stops.
 pub fn open_sides_hear_cuts()
     ensures { OpenSidesHearCuts }
+{}
+
+/// A trace whose comments are emptied or replaced by other comments has the same events. So time marks, which are
+/// comments, change no event.
+pub fn comments_mean_nothing()
+    ensures { CommentsMeanNothing }
+{}
+
+/// A mark that is written is read as its moment.
+pub fn marks_read_back()
+    ensures { MarksReadBack }
+{}
+
+/// Lines that are marks and lines that are none, worked by hand.
+pub fn mark_rows()
+    ensures { MarkRows }
+{}
+
+/// The moments and the bad marks of some lines, worked by hand.
+pub fn moment_rows()
+    ensures { MomentRows }
 {}

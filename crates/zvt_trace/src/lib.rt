@@ -5,6 +5,8 @@
 //!
 //! An [`Observer`] sees the chunks of a line as they pass. An [`Observed`] device shows its bytes to an observer. A
 //! [`TraceWriter`] is an observer that writes a trace.
+//!
+//! A [`Moment`] is written and read as a time mark, a comment line. [`moments_of`] finds the moments of a trace's lines.
 #![tactic(auto)]
 
 mod alone;
@@ -16,11 +18,15 @@ mod emit;
 mod event;
 mod fault;
 mod feed;
+mod ghost_text;
 mod input;
 mod laws;
 mod line;
 mod lines;
 mod listener;
+mod marking;
+mod moment;
+mod moments;
 mod observed;
 mod observer;
 mod side;
@@ -38,9 +44,14 @@ pub use direction::Direction;
 pub use event::{Refusal, TraceEvent};
 pub use fault::{Tally, TraceFault, TraceLineError};
 pub use input::{read_chunk, read_trace};
-pub use laws::{chunks_are_lines, scopes_agree};
+pub use laws::{
+    chunks_are_lines, comments_mean_nothing, mark_rows, marks_read_back, moment_rows, scopes_agree,
+};
 pub use lines::next_line;
 pub use listener::{Listener, ListenerError, Scope};
+pub use marking::{Marking, MomentSource};
+pub use moment::Moment;
+pub use moments::{Moments, Timed, moments_of};
 pub use observed::Observed;
 pub use observer::Observer;
 pub use spelled::spelled_bytes;

@@ -1,0 +1,79 @@
+-- The moments of a trace's lines, and the time marks that cannot be read.
+use Rattle.std.specs.Prelude.{◌≡◌, ℕ, ◌+◌, ◌==◌, ◌&&◌, Bool, true, false, if◌then◌else◌, List, [], ◌∷◌, ◌++◌, codes, Option, None, Some, is_none}
+use Rattle.std.specs.Str.Lines.{lines}
+use Rattle.zvt_trace.specs.Marks.{mark_of, moment}
+use Rattle.zvt_trace.specs.declared.moment.Moment.{Moment}
+use Rattle.zvt_trace.specs.declared.moments.Timed.{Timed}
+
+-- an empty line or one with '#'
+abbrev pub is_comment : (line : List ℕ) → Bool
+is_comment [] = true
+is_comment (first ∷ rest) = first == 35
+
+abbrev pub begins_mark : (line : List ℕ) → Bool
+begins_mark [] = false
+begins_mark (first ∷ []) = false
+begins_mark (first ∷ second ∷ rest) = (first == 35) && (second == 64)
+
+-- it begins as a mark, and is none
+abbrev pub is_bad_mark : (line : List ℕ) → Bool
+is_bad_mark line = begins_mark line && is_none (mark_of line)
+
+-- ---- times
+
+abbrev pub timed : (line : ℕ) → Moment → Timed
+timed line moment = record { line = line; moment = moment }
+
+-- of two marks the later one counts
+abbrev pub latest : (mark next : Option Moment) → Option Moment
+latest mark None = mark
+latest mark (Some next) = Some next
+
+-- the mark for the next line, after a line
+abbrev pub mark_after : (mark : Option Moment) → (line : List ℕ) → Option Moment
+mark_after mark line = if is_comment line then latest mark (mark_of line) else None
+
+abbrev pub timed_by : (number : ℕ) → (mark : Option Moment) → List Timed
+timed_by number None = []
+timed_by number (Some moment) = timed number moment ∷ []
+
+-- the line with this number, after this mark
+abbrev pub line_times : (number : ℕ) → (mark : Option Moment) → (line : List ℕ) → List Timed
+line_times number mark line = if is_comment line then [] else timed_by number mark
+
+-- The lines that have a moment, after that many others and a mark: those that are no comment and have a mark since the last
+-- line that is none.
+abbrev pub times_from : (count : ℕ) → (mark : Option Moment) → List (List ℕ) → List Timed
+times_from count mark [] = []
+times_from count mark (line ∷ lines) = line_times (count + 1) mark line ++ times_from (count + 1) (mark_after mark line) lines
+
+-- the moments of a trace's lines, by their numbers from 1
+abbrev pub times_of : List (List ℕ) → List Timed
+times_of lines = times_from 0 None lines
+
+-- ---- bad marks
+
+abbrev pub bad_line : (number : ℕ) → (line : List ℕ) → List ℕ
+bad_line number line = if is_bad_mark line then number ∷ [] else []
+
+abbrev pub bad_from : (count : ℕ) → List (List ℕ) → List ℕ
+bad_from count [] = []
+bad_from count (line ∷ lines) = bad_line (count + 1) line ++ bad_from (count + 1) lines
+
+-- the numbers of the bad marks of a trace
+abbrev pub bad_marks_of : List (List ℕ) → List ℕ
+bad_marks_of lines = bad_from 0 lines
+
+-- ---- worked rows
+
+abbrev pub MomentRows : Type 0
+MomentRows =
+    -- a mark belongs to the next line, and to no other
+    (times_of (codes "#@ 2026-11-28T09:14:03Z" ∷ codes "> 0600" ∷ codes "< 80" ∷ []) ≡ timed 2 (moment 2026 11 28 9 14 3 0) ∷ []) ×
+    -- comments and empty lines may stand between, and of several marks the last counts
+    (times_of (codes "#@ 2026-11-28T09:14:03Z" ∷ codes "# note" ∷ codes "#@ 2026-11-28T09:14:04Z" ∷ [] ∷ codes "!" ∷ []) ≡ timed 5 (moment 2026 11 28 9 14 4 0) ∷ []) ×
+    -- a bad one gives no time, and takes none
+    (times_of (codes "#@ 2026-02-30T09:14:03Z" ∷ codes "!" ∷ []) ≡ []) ×
+    (times_of (codes "#@ 2026-11-28T09:14:03Z" ∷ codes "#@ today" ∷ codes "!" ∷ []) ≡ timed 3 (moment 2026 11 28 9 14 3 0) ∷ []) ×
+    (times_of (codes "!" ∷ codes "#@ 2026-11-28T09:14:03Z" ∷ []) ≡ []) ×
+    (bad_marks_of (codes "#@ 2026-02-30T09:14:03Z" ∷ codes "#@ 2026-11-28T09:14:03Z" ∷ codes "#@today" ∷ codes "# @" ∷ codes "#~ 1" ∷ []) ≡ 1 ∷ 3 ∷ [])

@@ -1,0 +1,118 @@
+//! The moments of a trace's lines.
+ghost use Rattle.std.specs.Prelude.{◌≡◌, ◌++◌, IfOk};
+ghost use Rattle.std.specs.Str.Lines.{lines};
+ghost use Rattle.zvt_trace.specs.Moments.{bad_line, bad_marks_of, begins_mark, is_bad_mark, is_comment, line_times};
+ghost use Rattle.zvt_trace.specs.Moments.{mark_after, times_of};
+
+use crate::lines::next_line;
+use crate::moment::Moment;
+use std::alloc::{AllocError, Global};
+
+/// A line of a trace, counted from 1, and its moment.
+#[derive(Clone, Copy, Debug)]
+pub struct Timed {
+    pub line: u64,
+    pub moment: Moment,
+}
+
+/// The moments of a trace's lines, from its time marks. A mark is a comment line, and belongs to the next line that is
+/// none.
+#[derive(Drop)]
+pub struct Moments {
+    /// The lines that have a moment, in their order.
+    pub times: Vec<Timed>,
+    /// The lines that begin with `#@` and are no marks, in their order.
+    pub bad: Vec<u64>,
+}
+
+/// Returns the moments of a trace's lines.
+pub fn moments_of(alloc: Global, trace: &[u8]) -> Result<Moments, AllocError>
+    ensures times { IfOk result (λ found. found.times.items ≡ times_of (lines trace.now)) }
+    ensures bad { IfOk result (λ found. found.bad.items ≡ bad_marks_of (lines trace.now)) }
+{
+    let mut times = Vec::new(alloc);
+    let mut bad = Vec::new(alloc);
+    let mut mark = None;
+    let mut number = 0;
+    let mut rest = trace;
+    'lines: while !rest.is_empty() {
+        let (line, after) = next_line(rest);
+        number += 1;
+        add_time(&mut times, number, &mark, line)?;
+        add_bad(&mut bad, number, line)?;
+        mark = mark_after(mark, line);
+        rest = after;
+    }
+    Ok(Moments { times, bad })
+}
+
+/// Adds the line with this number, if it has a moment.
+fn add_time(
+    times: &mut Vec<Timed>,
+    number: u64,
+    mark: &Option<Moment>,
+    line: &[u8],
+) -> Result<(), AllocError>
+    ensures { IfOk result (λ _. times.new.items ≡ times.old.items ++ line_times number mark.now line.now) }
+{
+    if is_comment(line) {
+        return Ok(());
+    }
+    if let Some(moment) = mark {
+        times.push(Timed {
+            line: number,
+            moment: *moment,
+        })?;
+    }
+    Ok(())
+}
+
+/// Adds the line with this number, if it is a bad mark.
+fn add_bad(bad: &mut Vec<u64>, number: u64, line: &[u8]) -> Result<(), AllocError>
+    ensures { IfOk result (λ _. bad.new.items ≡ bad.old.items ++ bad_line number line.now) }
+{
+    if is_bad_mark(line) {
+        bad.push(number)?;
+    }
+    Ok(())
+}
+
+/// Returns whether a line begins as a mark and is none.
+fn is_bad_mark(line: &[u8]) -> bool
+    ensures { result ≡ is_bad_mark line.now }
+{
+    begins_mark(line) && Moment::of_mark(line).is_none()
+}
+
+/// Returns the mark for the next line.
+fn mark_after(mark: Option<Moment>, line: &[u8]) -> Option<Moment>
+    ensures { result ≡ mark_after mark line.now }
+{
+    if !is_comment(line) {
+        return None;
+    }
+    match Moment::of_mark(line) {
+        Some(next) => Some(next),
+        None => mark,
+    }
+}
+
+/// Returns whether a line is a comment or empty.
+fn is_comment(line: &[u8]) -> bool
+    ensures { result ≡ is_comment line.now }
+{
+    match line {
+        [] => true,
+        [first, ..] => *first == b'#',
+    }
+}
+
+/// Returns whether a line begins as a mark.
+fn begins_mark(line: &[u8]) -> bool
+    ensures { result ≡ begins_mark line.now }
+{
+    match line {
+        [first, second, ..] => *first == b'#' && *second == b'@',
+        _ => false,
+    }
+}
