@@ -14,5 +14,5 @@ mod shown;
 pub use follow::{Follower, follow_trace};
 pub use pages::render_trace;
 pub use receipts::ReceiptOptions;
-pub use render::Style;
+pub use render::{Style, render_event};
 pub use shown::{Shown, ShownToEnd};

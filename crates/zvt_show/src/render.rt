@@ -54,7 +54,7 @@ impl Style {
 
 /// Appends the text of an event at a line of the trace. If an allocation fails, the text does not change.
 #[inline(always)]
-pub(crate) fn render_event(
+pub fn render_event(
     text: &mut Text,
     alloc: Global,
     style: Style,
