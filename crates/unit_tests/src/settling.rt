@@ -1,0 +1,89 @@
+//! A payment whose line broke, and the ask that settles it.
+use std::alloc::Global;
+use std::process::Abort;
+use std::test::Fail;
+use zvt_bcd::{Amount, Trace};
+use zvt_settle::{Settlement, SettlingTill};
+use zvt_till::{CurrencyFact, Heard, Order, Original, StatusFacts, Till};
+
+fn price(rt: &impl Abort) -> Amount {
+    Amount::new(1000).expect(rt, "an amount")
+}
+
+/// An approval of the price under these numbers.
+fn approval(number: u32, receipt: u8) -> StatusFacts {
+    StatusFacts {
+        result: Some(0),
+        has_result: true,
+        amount: Amount::new(1000),
+        trace: Trace::new(number),
+        receipt: Some([0, receipt]),
+        original: Original::Absent,
+        currency: CurrencyFact::Absent,
+    }
+}
+
+/// Accepts an order, sends this status information, and completes the order.
+fn completes(till: &mut SettlingTill, status: StatusFacts) {
+    let _ = till.hear(Heard::Positive);
+    let _ = till.hear(Heard::Status(status));
+    let _ = till.hear(Heard::Passing);
+    let _ = till.hear(Heard::Completion);
+}
+
+/// Connects the till and registers it.
+fn registers(rt: &impl Abort, till: &mut SettlingTill) {
+    till.connected();
+    assert!(rt; till.order(Order::Register).is_ok());
+    let _ = till.hear(Heard::Positive);
+    let _ = till.hear(Heard::Completion);
+}
+
+/// A registered till with a booked payment, whose line broke in a second one.
+fn cut_off(rt: &impl Abort, alloc: Global) -> SettlingTill {
+    let mut till = SettlingTill::new(alloc, Till::with_defaults(alloc));
+    registers(rt, &mut till);
+    assert!(rt; till.order(Order::Pay(price(rt))).is_ok());
+    completes(&mut till, approval(1, 1));
+    assert!(rt; till.order(Order::Pay(price(rt))).is_ok());
+    let _ = till.lost();
+    assert!(rt; till.is_pending());
+    registers(rt, &mut till);
+    till
+}
+
+#[test]
+fn a_new_approval_settles_it_as_paid(rt: HostRuntime) -> Result<(), Fail> {
+    let mut till = cut_off(&rt, rt.alloc());
+    assert!(rt; till.ask().is_ok());
+    assert!(rt; till.is_asking());
+    assert!(rt; till.order(Order::Register).is_err());
+    completes(&mut till, approval(2, 2));
+    assert!(rt; !till.is_asking());
+    assert!(rt; !till.is_pending());
+    assert!(rt; matches!(till.settled(), [Settlement::Paid(0, _, Some([0, 2]))]));
+    assert!(rt; till.till().book().len() == 1);
+    assert!(rt; till.till().unclear().len() == 1);
+    Ok(())
+}
+
+#[test]
+fn the_answer_from_before_settles_it_as_not_paid(rt: HostRuntime) -> Result<(), Fail> {
+    let mut till = cut_off(&rt, rt.alloc());
+    assert!(rt; till.ask().is_ok());
+    completes(&mut till, approval(1, 1));
+    assert!(rt; matches!(till.settled(), [Settlement::NotPaid(0)]));
+    Ok(())
+}
+
+#[test]
+fn an_abort_leaves_it_pending(rt: HostRuntime) -> Result<(), Fail> {
+    let mut till = cut_off(&rt, rt.alloc());
+    assert!(rt; till.ask().is_ok());
+    let _ = till.hear(Heard::Positive);
+    let _ = till.hear(Heard::Abort(0x83));
+    assert!(rt; till.settled().is_empty());
+    assert!(rt; till.is_pending());
+    assert!(rt; till.ask().is_ok());
+    Ok(())
+}

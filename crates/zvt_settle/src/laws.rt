@@ -1,0 +1,62 @@
+//! Laws of every till that settles, each stated as the contract of an empty function.
+ghost use Rattle.zvt_settle.specs.Ledgers.{SameLedgerDecides, OnePaymentDecides, OneReversalDecides};
+ghost use Rattle.zvt_settle.specs.Rows.{RowsHold};
+ghost use Rattle.zvt_settle.specs.StoryRows.{StoriesHold, GivenAgain};
+ghost use Rattle.zvt_settle.specs.AskedWorld.{WorldsCountOnce};
+ghost use Rattle.zvt_settle.specs.Laws.{CountsOnce, OnlyTheSame, PaidIsEarned};
+
+/// Whatever the terminal says, no trace number counts twice, neither in the book nor among the payments that were
+/// settled as paid.
+pub fn counts_once()
+    ensures { CountsOnce }
+{
+    zvt_till::laws::traces_stay_distinct();
+}
+
+/// An order is settled as not having happened only if the terminal repeats the status information from before it.
+pub fn only_the_same()
+    ensures { OnlyTheSame }
+{}
+
+/// A payment is settled as paid only by an approval of its amount in the till's currency, under a trace number that
+/// neither the book nor another settled payment has.
+pub fn paid_is_earned()
+    ensures { PaidIsEarned }
+{}
+
+/// Three days of a till whose line is lost during an order, up to the answer that settles it.
+pub fn rows_hold()
+    ensures { RowsHold }
+{}
+
+/// Twelve logs, and what they settle: by the steps of the till, and by their whole orders and asks.
+pub fn stories_hold()
+    ensures { StoriesHold }
+{}
+
+/// With the simulated terminal, and whatever arrives late, repeatedly or never, no trace number counts twice.
+pub fn worlds_count_once()
+    ensures { WorldsCountOnce }
+{
+    zvt_till::laws::traces_stay_distinct();
+}
+
+/// If the ledger of the simulated terminal did not grow, its answer settles the order as not having happened.
+pub fn same_ledger_decides()
+    ensures { SameLedgerDecides }
+{}
+
+/// If the ledger grew by an approval of the amount, its answer settles the payment as paid under that trace number.
+pub fn one_payment_decides()
+    ensures { OnePaymentDecides }
+{}
+
+/// If the ledger grew by a row that reverses the entry, its answer settles the reversal as having happened.
+pub fn one_reversal_decides()
+    ensures { OneReversalDecides }
+{}
+
+/// If a terminal gives the trace number of a settled payment to another payment, the entry of the book counts.
+pub fn given_again()
+    ensures { GivenAgain }
+{}

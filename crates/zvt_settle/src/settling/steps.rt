@@ -1,0 +1,346 @@
+//! The orders, asks and messages of a till that settles.
+ghost use Rattle.std.specs.Prelude.{◌≡◌};
+
+use super::SettlingTill;
+use crate::answers::{
+    answer_by, did_not, has_counted, has_trace, is_positive, opened_by, taken_back,
+};
+use crate::deciding::{Pending, Settlement, StatusSoFar, What, approved_as, is_same};
+use std::alloc::{AllocError, Global};
+use zvt_bcd::Trace;
+use zvt_till::{
+    Happening, Heard, Order, OrderRefusal, Outcome, Outgoing, Reply, StatusFacts, Till, ends,
+};
+
+impl SettlingTill {
+    ghost use Rattle.std.specs.Prelude.{◌≡◌, ◌⊎◌, true, IsSome, if◌then◌else◌, IsTrue, IsFalse, Some, None, nat_eq};
+    ghost use Rattle.std.specs.Prelude.{IfOk, IfErr, OnOk, OnErr};
+    ghost use Rattle.std.specs.List.{list_any};
+    ghost use Rattle.std.specs.Option.{is_some};
+    ghost use Rattle.zvt_till.specs.Refusals.{refusal};
+    ghost use Rattle.zvt_till.specs.Sending.{message_of, reply_to};
+    ghost use Rattle.zvt_till.specs.Till.{accept, facts_of, step, outcome_at};
+    ghost use Rattle.zvt_settle.specs.Deciding.{decision};
+    ghost use Rattle.zvt_settle.specs.Inside.{both_of, settling_of};
+    ghost use Rattle.zvt_settle.specs.Settling.{Line, Asked, take, new_settling, used_traces, noted, ended_as, sent};
+    ghost use Rattle.zvt_settle.specs.Settling.{asked, unasked, meets, decided, answered, ask_refusal, ask_bytes};
+    ghost use Rattle.zvt_settle.specs.Settling.{IsOrderRefusal};
+
+    /// Creates a till with nothing to settle.
+    pub fn new(alloc: Global, till: Till) -> SettlingTill
+        ensures { both_of result ≡ record { till = till.state; settling = new_settling } }
+    {
+        SettlingTill {
+            till,
+            asking: None,
+            so_far: StatusSoFar::Nothing,
+            last: None,
+            pending: None,
+            settled: Vec::new(alloc),
+        }
+    }
+
+    /// Returns the till inside.
+    pub fn till(&self) -> &Till
+        ensures { result.now ≡ self.now.till }
+    {
+        &self.till
+    }
+
+    /// Returns what was settled, in the order of the answers.
+    pub fn settled(&self) -> &[Settlement]
+        ensures { result.now ≡ (settling_of self.now).settled }
+    {
+        self.settled.as_slice()
+    }
+
+    /// Returns whether an ask is running.
+    pub fn is_asking(&self) -> bool
+        ensures { result ≡ is_some self.now.asking }
+    {
+        self.asking.is_some()
+    }
+
+    /// Returns whether an unclear order waits for an answer that settles it.
+    pub fn is_pending(&self) -> bool
+        ensures { result ≡ is_some (settling_of self.now).pending }
+    {
+        self.pending.is_some()
+    }
+
+    /// Returns whether an entry of the book, or a payment that was settled as paid, has this trace number.
+    #[tactic(auto, using(crate::proofs::Decisions::used_then, crate::proofs::Decisions::used_else))]
+    fn is_used(&self, trace: Trace) -> bool
+        ensures { result ≡ list_any (λ x. nat_eq x trace) (used_traces self.now.till.state.book
+            self.now.settled.items) }
+    {
+        has_trace(self.till.book(), trace) || has_counted(self.settled.as_slice(), trace)
+    }
+
+    /// Returns what this status information decides about a pending order.
+    fn decide(&self, pending: &Pending, status: &StatusFacts) -> Option<Settlement>
+        ensures { result ≡ decision self.now.till.state.settings.currency self.now.till.state.book
+            (used_traces self.now.till.state.book self.now.settled.items) pending.now status.now }
+    {
+        if is_same(&pending.before, status) {
+            return Some(did_not(&pending.what));
+        }
+        let currency = self.till.currency();
+        match pending.what {
+            What::Payment(row, amount) => {
+                let trace = approved_as(amount, currency, status)?;
+                if self.is_used(trace) {
+                    None
+                } else {
+                    Some(Settlement::Paid(row, trace, status.receipt))
+                }
+            }
+            What::Reversal(entry) => taken_back(self.till.book(), entry, currency, status),
+        }
+    }
+
+    /// Returns what the answer to an ask decides, if an order is pending.
+    fn decided(&self, status: &StatusFacts) -> Option<Settlement>
+        ensures { result ≡ decided self.now.till.state self.now.settled.items status.now self.now.pending }
+    {
+        match &self.pending {
+            None => None,
+            Some(pending) => self.decide(pending, status),
+        }
+    }
+
+    /// Ends an ask with this answer.
+    fn answered(&mut self, answer: &Option<StatusFacts>)
+        requires { IsSome self.old.asking }
+        ensures settling { settling_of self.new ≡ answered self.old.till.state (settling_of self.old) answer.now }
+        ensures till { self.new.till ≡ self.old.till }
+    {
+        if let Some(status) = answer {
+            if let Some(settlement) = self.decided(status) {
+                self.settled.push_reserved(settlement);
+            }
+            self.last = Some(*status);
+            self.pending = None;
+        }
+        self.asking = None;
+    }
+
+    /// Notes a status information.
+    fn note(&mut self, heard: &Heard)
+        ensures settling { settling_of self.new ≡ noted (settling_of self.old) (Happening.Heard heard.now) }
+        ensures till { self.new.till ≡ self.old.till }
+    {
+        if let Heard::Status(status) = heard {
+            self.so_far = self.so_far.after(status);
+        }
+    }
+
+    /// Passes a message to the running ask.
+    fn ask_meets(&mut self, positive: bool, heard: &Heard)
+        requires { self.old.asking ≡ Some positive }
+        ensures settling { settling_of self.new ≡ asked self.old.till.state (settling_of self.old) positive
+            (Happening.Heard heard.now) }
+        ensures till { self.new.till ≡ self.old.till }
+    {
+        if ends(positive, &Happening::Heard(*heard)) {
+            let answer = answer_by(self.so_far, heard);
+            self.answered(&answer);
+        } else {
+            self.asking = Some(positive || is_positive(heard));
+        }
+    }
+
+    /// Notes how an order ended, if it did. An unclear payment stands at this index of the unclear payments.
+    fn end(&mut self, order: &Option<Order>, outcome: &Option<Outcome>, place: usize)
+        ensures settling { settling_of self.new ≡ ended_as (settling_of self.old) order.now outcome.now place }
+        ensures till { self.new.till ≡ self.old.till }
+    {
+        let Some(order) = order else {
+            return;
+        };
+        match outcome {
+            Some(Outcome::Paid { .. } | Outcome::Reversed) => self.last = self.so_far.one(),
+            Some(Outcome::Unclear(_)) => {
+                if let Some(what) = opened_by(order, place) {
+                    self.pending = match self.last {
+                        Some(before) => Some(Pending { what, before }),
+                        None => None,
+                    };
+                    self.last = None;
+                }
+            }
+            _ => {}
+        }
+    }
+
+    /// Notes that an order was sent.
+    fn sent(&mut self, order: &Order)
+        ensures settling { settling_of self.new ≡ sent (settling_of self.old) order.now }
+        ensures till { self.new.till ≡ self.old.till }
+    {
+        match order {
+            Order::Cancel => return,
+            Order::Register => {}
+            Order::Pay(_) | Order::Reverse(_) => self.pending = None,
+            Order::CloseDay => {
+                self.pending = None;
+                self.last = None;
+            }
+        }
+        self.so_far = StatusSoFar::Nothing;
+    }
+
+    /// Gives the till an order. If this is a payment, a reversal or an end of day, a pending order stays unclear for
+    /// good.
+    ///
+    /// Fails as the till does, and with `Busy` while an ask is running. Then nothing changes.
+    pub fn order(&mut self, order: Order) -> Result<Outgoing, OrderRefusal>
+        ensures sent { OnOk result (both_of self.new ≡ record {
+          till = accept self.old.till.state order;
+          settling = sent (settling_of self.old) order;
+        }) }
+        ensures taken { IfOk result (λ message. refusal (facts_of self.old.till.state) order ≡ None) }
+        ensures message { IfOk result (λ message. message_of self.old.till.state.settings self.old.till.state.book
+            order ≡ Some message) }
+        ensures refused { IfErr result (λ why. IsOrderRefusal self.old.asking (facts_of self.old.till.state)
+            self.old.till.spare order why) }
+        ensures idle { OnOk result ((settling_of self.old).asking ≡ None) }
+        ensures unchanged { OnErr result (both_of self.new ≡ both_of self.old) }
+    {
+        if self.asking.is_some() {
+            return Err(OrderRefusal::Busy);
+        }
+        match self.till.order(order) {
+            Ok(outgoing) => {
+                self.sent(&order);
+                Ok(outgoing)
+            }
+            Err(why) => Err(why),
+        }
+    }
+
+    /// Asks the terminal to repeat its last receipt, and returns the message to send: 06 20 with the password
+    /// (PA00P015, Repeat Receipt).
+    ///
+    /// Fails with `Offline`, `NotRegistered` or `Busy` as an end of day does, with `Busy` while an ask is running, and
+    /// with `Memory` if there is no room for what the answer settles. Then nothing changes.
+    pub fn ask(&mut self) -> Result<[u8; 6], OrderRefusal>
+        ensures asked { OnOk result (both_of self.new ≡ take (both_of self.old) Asked) }
+        ensures taken { IfOk result (λ bytes. ask_refusal (facts_of self.old.till.state)
+            (settling_of self.old).asking ≡ None) }
+        ensures refused { IfErr result (λ why. (why ≡ OrderRefusal.Memory)
+            ⊎ (ask_refusal (facts_of self.old.till.state) (settling_of self.old).asking ≡ Some why)) }
+        ensures unchanged { OnErr result (both_of self.new ≡ both_of self.old) }
+        ensures bytes { IfOk result (λ bytes. bytes ≡ ask_bytes self.old.till.state.settings.password) }
+    {
+        if !self.till.line_up() && self.asking.is_none() {
+            return Err(OrderRefusal::Offline);
+        }
+        if self.asking.is_some() {
+            return Err(OrderRefusal::Busy);
+        }
+        if !self.till.registered() {
+            return Err(OrderRefusal::NotRegistered);
+        }
+        if self.till.running().is_some() {
+            return Err(OrderRefusal::Busy);
+        }
+        if let Err(AllocError) = self.settled.reserve(1) {
+            return Err(OrderRefusal::Memory);
+        }
+        self.asking = Some(false);
+        self.so_far = StatusSoFar::Nothing;
+        let password = self.till.password();
+        Ok([0x06, 0x20, 0x03, password[0], password[1], password[2]])
+    }
+
+    /// Notifies the till that it is connected.
+    pub fn connected(&mut self)
+        ensures { both_of self.new ≡ take (both_of self.old) (Line Happening.Connected) }
+    {
+        self.till.connected();
+    }
+
+    /// Passes a message to the till while no ask is running.
+    fn pass_on(&mut self, heard: Heard) -> Reply
+        requires { self.old.till.state.line_up ≡ true }
+        ensures till { self.new.till.state ≡ step self.old.till.state (Happening.Heard heard) }
+        ensures settling { settling_of self.new ≡ unasked self.old.till.state (settling_of self.old)
+            (Happening.Heard heard) }
+        ensures send { result.send ≡ reply_to heard }
+        ensures outcome { result.outcome ≡ outcome_at self.old.till.state (Happening.Heard heard) }
+    {
+        let order = self.till.running();
+        let place = self.till.unclear().len();
+        let reply = self.till.hear(heard);
+        self.end(&order, &reply.outcome, place);
+        reply
+    }
+
+    /// Notes the message, and passes it to the running ask. Returns whether an ask was running.
+    fn meet_first(&mut self, heard: &Heard) -> bool
+        ensures asked { IsTrue result → settling_of self.new ≡ meets self.old.till.state (settling_of self.old)
+            (Happening.Heard heard.now) }
+        ensures unasked { IsFalse result → ((settling_of self.old).asking ≡ None)
+            × (settling_of self.new ≡ noted (settling_of self.old) (Happening.Heard heard.now)) }
+        ensures till { self.new.till ≡ self.old.till }
+    {
+        self.note(heard);
+        let Some(positive) = self.asking else {
+            return false;
+        };
+        self.ask_meets(positive, heard);
+        true
+    }
+
+    /// Processes a message from the terminal. Returns the till's answer, and the outcome of the order if this message
+    /// ended it.
+    pub fn hear(&mut self, heard: Heard) -> Reply
+        ensures both { both_of self.new ≡ take (both_of self.old) (Line (Happening.Heard heard)) }
+        ensures send { result.send ≡ (if self.old.till.state.line_up then reply_to heard else None) }
+        ensures outcome { result.outcome ≡ (if self.old.till.state.line_up then outcome_at self.old.till.state
+            (Happening.Heard heard) else None) }
+    {
+        if !self.till.line_up() {
+            return self.till.hear(heard);
+        }
+        let asked = self.meet_first(&heard);
+        if asked {
+            self.till.hear(heard)
+        } else {
+            self.pass_on(heard)
+        }
+    }
+
+    /// Notifies the till that the connection was lost. A running order or ask ends with it.
+    pub fn lost(&mut self) -> Option<Outcome>
+        ensures both { both_of self.new ≡ take (both_of self.old) (Line Happening.Lost) }
+        ensures outcome { result ≡ outcome_at self.old.till.state Happening.Lost }
+    {
+        let order = self.till.running();
+        let place = self.till.unclear().len();
+        let outcome = self.till.lost();
+        if self.asking.is_some() {
+            self.asking = None;
+        } else {
+            self.end(&order, &outcome, place);
+        }
+        outcome
+    }
+
+    /// Gives up the line because its bytes were not a message. A running order or ask ends with it.
+    pub fn malformed(&mut self) -> Option<Outcome>
+        ensures both { both_of self.new ≡ take (both_of self.old) (Line Happening.Malformed) }
+        ensures outcome { result ≡ outcome_at self.old.till.state Happening.Malformed }
+    {
+        let order = self.till.running();
+        let place = self.till.unclear().len();
+        let outcome = self.till.malformed();
+        if self.asking.is_some() {
+            self.asking = None;
+        } else {
+            self.end(&order, &outcome, place);
+        }
+        outcome
+    }
+}
