@@ -43,7 +43,11 @@ pub(crate) fn rare_step(
                 levels,
             )
         }
-        Part::Length => follow(judge_object_length(goes, levels, byte, lengths), goes, levels),
+        Part::Length => follow(
+            judge_object_length(goes, levels, byte, lengths),
+            goes,
+            levels,
+        ),
         _ => unreachable!(),
     }
 }
