@@ -51,7 +51,7 @@ pub use lines::next_line;
 pub use listener::{Listener, ListenerError, Scope};
 pub use marking::{Marking, MomentSource};
 pub use moment::Moment;
-pub use moments::{Moments, Timed, moments_of};
+pub use moments::{Moments, Timed, moments_of, time_at, went_back};
 pub use observed::Observed;
 pub use observer::Observer;
 pub use spelled::spelled_bytes;
