@@ -12,7 +12,7 @@ const FORM: &[u8] = b"#@ 0000-00-00T00:00:00.000000000";
 const WHOLE_SECONDS: usize = 23;
 
 /// A date and a time of day in UTC, to the nanosecond.
-#[derive(Clone, Copy, Debug)]
+#[derive(Clone, Copy, Debug, PartialEq, Eq)]
 pub struct Moment {
     pub year: u16,
     pub month: u8,

@@ -9,7 +9,7 @@ use crate::moment::Moment;
 use std::alloc::{AllocError, Global};
 
 /// A line of a trace, counted from 1, and its moment.
-#[derive(Clone, Copy, Debug)]
+#[derive(Clone, Copy, Debug, PartialEq, Eq)]
 pub struct Timed {
     pub line: u64,
     pub moment: Moment,
