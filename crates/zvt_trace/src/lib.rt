@@ -6,7 +6,8 @@
 //! An [`Observer`] sees the chunks of a line as they pass. An [`Observed`] device shows its bytes to an observer. A
 //! [`TraceWriter`] is an observer that writes a trace.
 //!
-//! A [`Moment`] is written and read as a time mark, a comment line. [`moments_of`] finds the moments of a trace's lines.
+//! A [`Moment`] is written and read as a time mark, a comment line. [`moments_of`] finds the moments of a trace's
+//! lines.
 #![tactic(auto)]
 
 mod alone;

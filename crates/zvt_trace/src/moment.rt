@@ -1,7 +1,7 @@
 //! Moments, and the lines of a trace that mark them.
 ghost use Rattle.std.specs.Prelude.{◌≡◌, ◌≤◌, ◌<◌, ◌/◌, ◌%◌, ◌+◌, ◌++◌, length};
-ghost use Rattle.zvt_trace.specs.Marks.{days_in_month, digit_at, fits, fits_place, fraction_text, has_form, is_leap_year};
-ghost use Rattle.zvt_trace.specs.Marks.{moment_in, three_at, three_digits, two_at, two_digits};
+ghost use Rattle.zvt_trace.specs.Marks.{days_in_month, digit_at, fits, fits_place, fraction_text, has_form};
+ghost use Rattle.zvt_trace.specs.Marks.{is_leap_year, moment_in, three_at, three_digits, two_at, two_digits};
 
 use arrayvec::ArrayVec;
 
