@@ -12,7 +12,7 @@ pub mark_rows : MarkRows
 mark_rows = (refl, refl, refl, refl, refl, refl, refl, refl, refl, refl, refl, refl, refl, refl, refl, refl, refl, refl, refl, refl, refl)
 
 pub moment_rows : MomentRows
-moment_rows = (refl, refl, refl, refl, refl, refl)
+moment_rows = (refl, refl, refl, refl, refl, refl, refl, refl)
 
 -- ---- what is_real says
 
@@ -68,31 +68,31 @@ read x less = rw (is_written x less) (omega arith)
 digit_fits : (x : ℕ) (form text : List ℕ) → x < 10 → fits form text ≡ true → fits (48 ∷ form) ((48 + x) ∷ text) ≡ true
 digit_fits x form text less fit = rw (is_written x less) fit
 
--- the tens and the units of a number below 100
+-- the last two digits of a number
 pub record Two (n : ℕ) : Type 0 where
-  pub tens : n / 10 < 10
-  pub units : n % 10 < 10
-  pub value : digit (48 + n / 10) * 10 + digit (48 + n % 10) ≡ n
-
-two : (n : ℕ) → n < 100 → Two n
-two n less =
-    let high : n / 10 < 10 = omega (arith, less) in
-    let low : n % 10 < 10 = omega arith in
-    record { tens = high; units = low; value = rw (read (n / 10) high, read (n % 10) low) (omega arith) }
-
--- three digits of a number below 1000
-pub record Three (n : ℕ) : Type 0 where
-  pub hundreds : n / 100 < 10
   pub tens : n / 10 % 10 < 10
   pub units : n % 10 < 10
-  pub value : digit (48 + n / 100) * 100 + (digit (48 + n / 10 % 10) * 10 + digit (48 + n % 10)) ≡ n
+  pub value : digit (48 + n / 10 % 10) * 10 + digit (48 + n % 10) ≡ n % 100
 
-three : (n : ℕ) → n < 1_000 → Three n
-three n less =
-    let high : n / 100 < 10 = omega (arith, less) in
+two : (n : ℕ) → Two n
+two n =
+    let high : n / 10 % 10 < 10 = omega arith in
+    let low : n % 10 < 10 = omega arith in
+    record { tens = high; units = low; value = rw (read (n / 10 % 10) high, read (n % 10) low) (omega arith) }
+
+-- the last three digits of a number
+pub record Three (n : ℕ) : Type 0 where
+  pub hundreds : n / 100 % 10 < 10
+  pub tens : n / 10 % 10 < 10
+  pub units : n % 10 < 10
+  pub value : digit (48 + n / 100 % 10) * 100 + (digit (48 + n / 10 % 10) * 10 + digit (48 + n % 10)) ≡ n % 1_000
+
+three : (n : ℕ) → Three n
+three n =
+    let high : n / 100 % 10 < 10 = omega arith in
     let middle : n / 10 % 10 < 10 = omega arith in
     let low : n % 10 < 10 = omega arith in
-    record { hundreds = high; tens = middle; units = low; value = rw (read (n / 100) high, read (n / 10 % 10) middle, read (n % 10) low) (omega arith) }
+    record { hundreds = high; tens = middle; units = low; value = rw (read (n / 100 % 10) high, read (n / 10 % 10) middle, read (n % 10) low) (omega arith) }
 
 pub record Parts (m : Moment) : Type 0 where
   pub century : Two (m.year / 100)
@@ -103,31 +103,31 @@ pub record Parts (m : Moment) : Type 0 where
   pub minute : Two m.minute
   pub second : Two m.second
   pub milli : Three (m.nanosecond / 1_000_000)
-  pub micro : Three (m.nanosecond / 1_000 % 1_000)
-  pub nano : Three (m.nanosecond % 1_000)
+  pub micro : Three (m.nanosecond / 1_000)
+  pub nano : Three m.nanosecond
 
-parts : (m : Moment) → Small m → Parts m
-parts m is =
+parts : (m : Moment) → Parts m
+parts m =
     record {
-      century = two (m.year / 100) (omega (arith, is.year));
-      year = two (m.year % 100) (omega arith);
-      month = two m.month (omega (arith, is.month));
-      day = two m.day (omega (arith, is.day));
-      hour = two m.hour (omega (arith, is.hour));
-      minute = two m.minute (omega (arith, is.minute));
-      second = two m.second (omega (arith, is.second));
-      milli = three (m.nanosecond / 1_000_000) (omega (arith, is.nanosecond));
-      micro = three (m.nanosecond / 1_000 % 1_000) (omega arith);
-      nano = three (m.nanosecond % 1_000) (omega arith);
+      century = two (m.year / 100);
+      year = two (m.year % 100);
+      month = two m.month;
+      day = two m.day;
+      hour = two m.hour;
+      minute = two m.minute;
+      second = two m.second;
+      milli = three (m.nanosecond / 1_000_000);
+      micro = three (m.nanosecond / 1_000);
+      nano = three m.nanosecond;
     }
 
 -- ---- the form
 
-two_fit : (n : ℕ) (form text : List ℕ) → Two n → fits form text ≡ true → fits (48 ∷ 48 ∷ form) ((48 + n / 10) ∷ (48 + n % 10) ∷ text) ≡ true
-two_fit n form text of fit = digit_fits (n / 10) (48 ∷ form) ((48 + n % 10) ∷ text) of.tens (digit_fits (n % 10) form text of.units fit)
+two_fit : (n : ℕ) (form text : List ℕ) → Two n → fits form text ≡ true → fits (48 ∷ 48 ∷ form) ((48 + n / 10 % 10) ∷ (48 + n % 10) ∷ text) ≡ true
+two_fit n form text of fit = digit_fits (n / 10 % 10) (48 ∷ form) ((48 + n % 10) ∷ text) of.tens (digit_fits (n % 10) form text of.units fit)
 
-three_fit : (n : ℕ) (form text : List ℕ) → Three n → fits form text ≡ true → fits (48 ∷ 48 ∷ 48 ∷ form) ((48 + n / 100) ∷ (48 + n / 10 % 10) ∷ (48 + n % 10) ∷ text) ≡ true
-three_fit n form text of fit = digit_fits (n / 100) (48 ∷ 48 ∷ form) ((48 + n / 10 % 10) ∷ (48 + n % 10) ∷ text) of.hundreds (digit_fits (n / 10 % 10) (48 ∷ form) ((48 + n % 10) ∷ text) of.tens (digit_fits (n % 10) form text of.units fit))
+three_fit : (n : ℕ) (form text : List ℕ) → Three n → fits form text ≡ true → fits (48 ∷ 48 ∷ 48 ∷ form) ((48 + n / 100 % 10) ∷ (48 + n / 10 % 10) ∷ (48 + n % 10) ∷ text) ≡ true
+three_fit n form text of fit = digit_fits (n / 100 % 10) (48 ∷ 48 ∷ form) ((48 + n / 10 % 10) ∷ (48 + n % 10) ∷ text) of.hundreds (digit_fits (n / 10 % 10) (48 ∷ form) ((48 + n % 10) ∷ text) of.tens (digit_fits (n % 10) form text of.units fit))
 
 -- the form of a mark and its text up to the fraction, before the rest
 abbrev whole_form : List ℕ → List ℕ
@@ -157,39 +157,49 @@ moment_is : (m : Moment) (year month day hour minute second nanosecond : ℕ) �
     → moment year month day hour minute second nanosecond ≡ m
 moment_is m year month day hour minute second nanosecond a b c d e f g = rw (a, b, c, d, e, f, g) refl
 
-year_is : (m : Moment) → Parts m → (digit (48 + m.year / 100 / 10) * 10 + digit (48 + m.year / 100 % 10)) * 100 + (digit (48 + m.year % 100 / 10) * 10 + digit (48 + m.year % 100 % 10)) ≡ m.year
-year_is m p = rw (p.century.value, p.year.value) (omega arith)
+year_is : (m : Moment) → Small m → Parts m → (digit (48 + m.year / 100 / 10 % 10) * 10 + digit (48 + m.year / 100 % 10)) * 100 + (digit (48 + m.year % 100 / 10 % 10) * 10 + digit (48 + m.year % 100 % 10)) ≡ m.year
+year_is m is p = rw (p.century.value, p.year.value) (omega (arith, is.year))
 
-whole_moment : (m : Moment) (rest : List ℕ) → Parts m → three_at (whole m rest) 23 * 1_000_000 + three_at (whole m rest) 26 * 1_000 + three_at (whole m rest) 29 ≡ m.nanosecond → moment_in (whole m rest) ≡ m
-whole_moment m rest p fraction = moment_is m _ _ _ _ _ _ _ (year_is m p) p.month.value p.day.value p.hour.value p.minute.value p.second.value fraction
+-- two digits of a number below 100
+below_100 : (n value : ℕ) → value ≡ n % 100 → n < 100 → value ≡ n
+below_100 n value same less = omega (arith, same, less)
+
+whole_moment : (m : Moment) (rest : List ℕ) → Small m → Parts m → three_at (whole m rest) 23 * 1_000_000 + three_at (whole m rest) 26 * 1_000 + three_at (whole m rest) 29 ≡ m.nanosecond → moment_in (whole m rest) ≡ m
+whole_moment m rest is p fraction =
+    moment_is m _ _ _ _ _ _ _ (year_is m is p)
+    (below_100 m.month _ p.month.value (omega (arith, is.month)))
+    (below_100 m.day _ p.day.value (omega (arith, is.day)))
+    (below_100 m.hour _ p.hour.value (omega (arith, is.hour)))
+    (below_100 m.minute _ p.minute.value (omega (arith, is.minute)))
+    (below_100 m.second _ p.second.value (omega (arith, is.second))) fraction
 
 equal : (n m : ℕ) → (n == m) ≡ true → n ≡ m
 equal n m is = grind (arith, nat_tests)
 
-short : (m : Moment) → is_real m ≡ true → Parts m → (m.nanosecond % 1_000_000 == 0) ≡ true → mark_of (whole m (three_digits (m.nanosecond / 1_000_000) ++ 90 ∷ [])) ≡ Some m
-short m real p is =
+short : (m : Moment) → is_real m ≡ true → Small m → Parts m → (m.nanosecond % 1_000_000 == 0) ≡ true → mark_of (whole m (three_digits (m.nanosecond / 1_000_000) ++ 90 ∷ [])) ≡ Some m
+short m real small p is =
     let none : m.nanosecond % 1_000_000 ≡ 0 = equal (m.nanosecond % 1_000_000) 0 is in
     mark_is (whole m (three_digits (m.nanosecond / 1_000_000) ++ 90 ∷ [])) m
     (whole_fit m (48 ∷ 48 ∷ 48 ∷ []) (three_digits (m.nanosecond / 1_000_000)) p (three_fit (m.nanosecond / 1_000_000) [] [] p.milli refl))
-    (whole_moment m (three_digits (m.nanosecond / 1_000_000) ++ 90 ∷ []) p (rw p.milli.value (omega (arith, none))))
+    (whole_moment m (three_digits (m.nanosecond / 1_000_000) ++ 90 ∷ []) small p (rw p.milli.value (omega (arith, none, small.nanosecond))))
     real
 
 abbrev nine : ℕ → List ℕ
-nine n = three_digits (n / 1_000_000) ++ three_digits (n / 1_000 % 1_000) ++ three_digits (n % 1_000)
+nine n = three_digits (n / 1_000_000) ++ three_digits (n / 1_000) ++ three_digits n
 
-long : (m : Moment) → is_real m ≡ true → Parts m → mark_of (whole m (nine m.nanosecond ++ 90 ∷ [])) ≡ Some m
-long m real p =
+long : (m : Moment) → is_real m ≡ true → Small m → Parts m → mark_of (whole m (nine m.nanosecond ++ 90 ∷ [])) ≡ Some m
+long m real small p =
     mark_is (whole m (nine m.nanosecond ++ 90 ∷ [])) m
     (whole_fit m (48 ∷ 48 ∷ 48 ∷ 48 ∷ 48 ∷ 48 ∷ 48 ∷ 48 ∷ 48 ∷ []) (nine m.nanosecond) p
-    (three_fit (m.nanosecond / 1_000_000) (48 ∷ 48 ∷ 48 ∷ 48 ∷ 48 ∷ 48 ∷ []) (three_digits (m.nanosecond / 1_000 % 1_000) ++ three_digits (m.nanosecond % 1_000)) p.milli
-    (three_fit (m.nanosecond / 1_000 % 1_000) (48 ∷ 48 ∷ 48 ∷ []) (three_digits (m.nanosecond % 1_000)) p.micro
-    (three_fit (m.nanosecond % 1_000) [] [] p.nano refl))))
-    (whole_moment m (nine m.nanosecond ++ 90 ∷ []) p (rw (p.milli.value, p.micro.value, p.nano.value) (omega arith)))
+    (three_fit (m.nanosecond / 1_000_000) (48 ∷ 48 ∷ 48 ∷ 48 ∷ 48 ∷ 48 ∷ []) (three_digits (m.nanosecond / 1_000) ++ three_digits m.nanosecond) p.milli
+    (three_fit (m.nanosecond / 1_000) (48 ∷ 48 ∷ 48 ∷ []) (three_digits m.nanosecond) p.micro
+    (three_fit m.nanosecond [] [] p.nano refl))))
+    (whole_moment m (nine m.nanosecond ++ 90 ∷ []) small p (rw (p.milli.value, p.micro.value, p.nano.value) (omega (arith, small.nanosecond))))
     real
 
 pub marks_read_back : MarksReadBack
 marks_read_back m real = by_test (m.nanosecond % 1_000_000 == 0) refl
   where
     by_test : (even : Bool) → (m.nanosecond % 1_000_000 == 0) ≡ even → mark_of (mark_text m) ≡ Some m
-    by_test true is = subst (λ (b : Bool). mark_of (whole m (cond b (three_digits (m.nanosecond / 1_000_000)) (nine m.nanosecond) ++ 90 ∷ [])) ≡ Some m) (sym is) (short m real (parts m (small m real)) is)
-    by_test false is = subst (λ (b : Bool). mark_of (whole m (cond b (three_digits (m.nanosecond / 1_000_000)) (nine m.nanosecond) ++ 90 ∷ [])) ≡ Some m) (sym is) (long m real (parts m (small m real)))
+    by_test true is = subst (λ (b : Bool). mark_of (whole m (cond b (three_digits (m.nanosecond / 1_000_000)) (nine m.nanosecond) ++ 90 ∷ [])) ≡ Some m) (sym is) (short m real (small m real) (parts m) is)
+    by_test false is = subst (λ (b : Bool). mark_of (whole m (cond b (three_digits (m.nanosecond / 1_000_000)) (nine m.nanosecond) ++ 90 ∷ [])) ≡ Some m) (sym is) (long m real (small m real) (parts m))

@@ -83,10 +83,10 @@ mark_of line = if has_form line then if_real (moment_in line) else None
 -- ---- writing
 
 abbrev pub two_digits : ℕ → List ℕ
-two_digits n = (48 + n / 10) ∷ (48 + n % 10) ∷ []
+two_digits n = (48 + n / 10 % 10) ∷ (48 + n % 10) ∷ []
 
 abbrev pub three_digits : ℕ → List ℕ
-three_digits n = (48 + n / 100) ∷ (48 + n / 10 % 10) ∷ (48 + n % 10) ∷ []
+three_digits n = (48 + n / 100 % 10) ∷ (48 + n / 10 % 10) ∷ (48 + n % 10) ∷ []
 
 abbrev pub date_text : Moment → List ℕ
 date_text m = two_digits (m.year / 100) ++ two_digits (m.year % 100) ++ codes "-" ++ two_digits m.month ++ codes "-" ++ two_digits m.day
@@ -98,7 +98,7 @@ clock_text m = two_digits m.hour ++ codes ":" ++ two_digits m.minute ++ codes ":
 abbrev pub fraction_text : (nanosecond : ℕ) → List ℕ
 fraction_text n =
     if n % 1_000_000 == 0 then three_digits (n / 1_000_000)
-    else three_digits (n / 1_000_000) ++ three_digits (n / 1_000 % 1_000) ++ three_digits (n % 1_000)
+    else three_digits (n / 1_000_000) ++ three_digits (n / 1_000) ++ three_digits n
 
 -- `2026-11-28T09:14:03.250Z`
 abbrev pub moment_text : Moment → List ℕ

@@ -1,5 +1,5 @@
 -- The moments of a trace's lines, and the time marks that cannot be read.
-use Rattle.std.specs.Prelude.{◌≡◌, ℕ, ◌+◌, ◌==◌, ◌&&◌, Bool, true, false, if◌then◌else◌, List, [], ◌∷◌, ◌++◌, codes, Option, None, Some, is_none}
+use Rattle.std.specs.Prelude.{◌≡◌, ℕ, ◌+◌, ◌*◌, ◌==◌, nat_lt, ◌&&◌, Bool, true, false, if◌then◌else◌, List, [], ◌∷◌, ◌++◌, codes, Option, None, Some, is_none}
 use Rattle.std.specs.Str.Lines.{lines}
 use Rattle.zvt_trace.specs.Marks.{mark_of, moment}
 use Rattle.zvt_trace.specs.declared.moment.Moment.{Moment}
@@ -51,6 +51,27 @@ times_from count mark (line ∷ lines) = line_times (count + 1) mark line ++ tim
 abbrev pub times_of : List (List ℕ) → List Timed
 times_of lines = times_from 0 None lines
 
+-- the moment of the line with this number, if it is one of these
+abbrev pub time_at : List Timed → (line : ℕ) → Option Moment
+time_at [] line = None
+time_at (first ∷ later) line = if first.line == line then Some first.moment else time_at later line
+
+-- ---- a clock that goes back
+
+-- a number that grows with time
+abbrev pub instant : Moment → ℕ
+instant m =
+    (((((m.year * 12 + m.month) * 31 + m.day) * 24 + m.hour) * 60 + m.minute) * 60 + m.second) * 1_000_000_000 + m.nanosecond
+
+abbrev pub back_after : (before : Moment) → List Timed → Option ℕ
+back_after before [] = None
+back_after before (next ∷ later) = if nat_lt (instant next.moment) (instant before) then Some next.line else back_after next.moment later
+
+-- the first of these lines whose moment is before the moment of the line above it
+abbrev pub went_back : List Timed → Option ℕ
+went_back [] = None
+went_back (first ∷ later) = back_after first.moment later
+
 -- ---- bad marks
 
 abbrev pub bad_line : (number : ℕ) → (line : List ℕ) → List ℕ
@@ -76,4 +97,6 @@ MomentRows =
     (times_of (codes "#@ 2026-02-30T09:14:03Z" ∷ codes "!" ∷ []) ≡ []) ×
     (times_of (codes "#@ 2026-11-28T09:14:03Z" ∷ codes "#@ today" ∷ codes "!" ∷ []) ≡ timed 3 (moment 2026 11 28 9 14 3 0) ∷ []) ×
     (times_of (codes "!" ∷ codes "#@ 2026-11-28T09:14:03Z" ∷ []) ≡ []) ×
+    (went_back (timed 2 (moment 2026 11 28 9 14 3 0) ∷ timed 4 (moment 2026 11 28 9 14 3 0) ∷ timed 6 (moment 2026 11 28 9 14 2 999_000_000) ∷ timed 8 (moment 2026 11 27 0 0 0 0) ∷ []) ≡ Some 6) ×
+    (went_back (timed 2 (moment 2026 12 31 23 59 59 999_999_999) ∷ timed 4 (moment 2027 1 1 0 0 0 0) ∷ []) ≡ None) ×
     (bad_marks_of (codes "#@ 2026-02-30T09:14:03Z" ∷ codes "#@ 2026-11-28T09:14:03Z" ∷ codes "#@today" ∷ codes "# @" ∷ codes "#~ 1" ∷ []) ≡ 1 ∷ 3 ∷ [])

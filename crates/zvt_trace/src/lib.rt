@@ -6,7 +6,8 @@
 //! An [`Observer`] sees the chunks of a line as they pass. An [`Observed`] device shows its bytes to an observer. A
 //! [`TraceWriter`] is an observer that writes a trace.
 //!
-//! A [`Moment`] is written and read as a time mark, a comment line. [`moments_of`] finds the moments of a trace's lines.
+//! A [`Moment`] is written and read as a time mark, a comment line. [`moments_of`] finds the moments of a trace's
+//! lines.
 #![tactic(auto)]
 
 mod alone;
@@ -51,7 +52,7 @@ pub use lines::next_line;
 pub use listener::{Listener, ListenerError, Scope};
 pub use marking::{Marking, MomentSource};
 pub use moment::Moment;
-pub use moments::{Moments, Timed, moments_of};
+pub use moments::{Moments, Timed, moments_of, time_at, went_back};
 pub use observed::Observed;
 pub use observer::Observer;
 pub use spelled::spelled_bytes;

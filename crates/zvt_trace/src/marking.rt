@@ -88,8 +88,8 @@ fn choose<'a>(is_marked: bool, marked: &'a [u8], bytes: &'a [u8]) -> &'a [u8]
     if is_marked { marked } else { bytes }
 }
 
-/// Writes a mark and these bytes into the buffer. Returns whether it did: not if the moment is not known, or memory runs
-/// out.
+/// Writes a mark and these bytes into the buffer. Returns whether it did: not if the moment is not known, or memory
+/// runs out.
 fn spell<S: MomentSource>(line: &mut Text, source: &S, bytes: &[u8]) -> bool
     ensures { result ≡ true → IsMarked line.new bytes.now }
 {

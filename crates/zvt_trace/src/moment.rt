@@ -1,7 +1,7 @@
 //! Moments, and the lines of a trace that mark them.
 ghost use Rattle.std.specs.Prelude.{◌≡◌, ◌≤◌, ◌<◌, ◌/◌, ◌%◌, ◌+◌, ◌++◌, length};
-ghost use Rattle.zvt_trace.specs.Marks.{days_in_month, digit_at, fits, fits_place, fraction_text, has_form, is_leap_year};
-ghost use Rattle.zvt_trace.specs.Marks.{moment_in, three_at, three_digits, two_at, two_digits};
+ghost use Rattle.zvt_trace.specs.Marks.{days_in_month, digit_at, fits, fits_place, fraction_text, has_form};
+ghost use Rattle.zvt_trace.specs.Marks.{is_leap_year, moment_in, three_at, three_digits, two_at, two_digits};
 
 use arrayvec::ArrayVec;
 
@@ -12,7 +12,7 @@ const FORM: &[u8] = b"#@ 0000-00-00T00:00:00.000000000";
 const WHOLE_SECONDS: usize = 23;
 
 /// A date and a time of day in UTC, to the nanosecond.
-#[derive(Clone, Copy, Debug)]
+#[derive(Clone, Copy, Debug, PartialEq, Eq)]
 pub struct Moment {
     pub year: u16,
     pub month: u8,
@@ -24,8 +24,9 @@ pub struct Moment {
 }
 
 impl Moment {
-    ghost use Rattle.std.specs.Prelude.{◌≡◌};
-    ghost use Rattle.zvt_trace.specs.Marks.{clock_text, date_text, is_real, mark_of, mark_text};
+    ghost use Rattle.std.specs.Prelude.{◌≡◌, ◌≤◌, ◌++◌, length};
+    ghost use Rattle.zvt_trace.specs.Marks.{clock_text, date_text, is_real, mark_of, mark_text, moment_text};
+    ghost use Rattle.zvt_trace.specs.Moments.{instant};
 
     /// Reads a line without its line feed. Returns `None` unless it is a mark, as `#@ 2026-11-28T09:14:03.250Z`.
     pub fn of_mark(line: &[u8]) -> Option<Moment>
@@ -54,13 +55,23 @@ impl Moment {
             && self.nanosecond < 1_000_000_000
     }
 
-    /// Returns the mark of this moment, as `#@ 2026-11-28T09:14:03.250Z`: with milliseconds, and with nanoseconds only
-    /// if they say more.
+    /// Returns the mark of this moment, as `#@ 2026-11-28T09:14:03.250Z`.
     pub fn mark(&self) -> ArrayVec<u8, 33>
         ensures { result.items ≡ mark_text self.now }
     {
+        let mut mark = ArrayVec::new();
+        add(&mut mark, b"#@ ");
+        add(&mut mark, self.text().as_slice());
+        mark
+    }
+
+    /// Returns the text of this moment, as `2026-11-28T09:14:03.250Z`: with milliseconds, and with nanoseconds only if
+    /// they say more.
+    pub fn text(&self) -> ArrayVec<u8, 33>
+        ensures text { result.items ≡ moment_text self.now }
+        ensures few { length result.items ≤ 30 }
+    {
         let mut text = ArrayVec::new();
-        add(&mut text, b"#@ ");
         add(&mut text, &self.date());
         add(&mut text, b"T");
         add(&mut text, &self.clock());
@@ -68,6 +79,16 @@ impl Moment {
         add_fraction(&mut text, self.nanosecond);
         add(&mut text, b"Z");
         text
+    }
+
+    /// Returns a number that grows with time.
+    pub(crate) fn instant(&self) -> u128
+        ensures { result ≡ instant self.now }
+    {
+        let days = (u128::from(self.year) * 12 + u128::from(self.month)) * 31
+            + u128::from(self.day);
+        let minutes = (days * 24 + u128::from(self.hour)) * 60 + u128::from(self.minute);
+        (minutes * 60 + u128::from(self.second)) * 1_000_000_000 + u128::from(self.nanosecond)
     }
 
     /// Returns the date, as `2026-11-28`.
@@ -113,41 +134,41 @@ fn add(text: &mut ArrayVec<u8, 33>, part: &[u8])
 /// Appends the fraction of a second.
 fn add_fraction(text: &mut ArrayVec<u8, 33>, nanosecond: u32)
     requires { length text.old.items ≤ 24 }
-    ensures { text.new.items ≡ text.old.items ++ fraction_text nanosecond }
+    ensures text { text.new.items ≡ text.old.items ++ fraction_text nanosecond }
+    ensures few { length text.new.items ≤ length text.old.items + 9 }
 {
     add(text, &three_digits(nanosecond / 1_000_000));
     if nanosecond % 1_000_000 != 0 {
-        add(text, &three_digits(nanosecond / 1_000 % 1_000));
-        add(text, &three_digits(nanosecond % 1_000));
+        add(text, &three_digits(nanosecond / 1_000));
+        add(text, &three_digits(nanosecond));
     }
 }
 
-/// Returns two digits of a number.
+/// Returns the last two digits of a number.
 fn two_digits(number: u8) -> [u8; 2]
     ensures { result ≡ two_digits number }
 {
-    [b'0' + number / 10, b'0' + number % 10]
+    [b'0' + number / 10 % 10, b'0' + number % 10]
 }
 
-/// Returns four digits of a number.
+/// Returns the last four digits of a number.
 fn four_digits(number: u16) -> [u8; 4]
     ensures { result ≡ two_digits (number / 100) ++ two_digits (number % 100) }
 {
     [
-        b'0' + (number / 1_000) as u8,
+        b'0' + (number / 1_000 % 10) as u8,
         b'0' + (number / 100 % 10) as u8,
         b'0' + (number / 10 % 10) as u8,
         b'0' + (number % 10) as u8,
     ]
 }
 
-/// Returns three digits of a number.
+/// Returns the last three digits of a number.
 fn three_digits(number: u32) -> [u8; 3]
-    requires { number < 10_000 }
     ensures { result ≡ three_digits number }
 {
     [
-        b'0' + (number / 100) as u8,
+        b'0' + (number / 100 % 10) as u8,
         b'0' + (number / 10 % 10) as u8,
         b'0' + (number % 10) as u8,
     ]

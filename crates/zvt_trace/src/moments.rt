@@ -2,14 +2,14 @@
 ghost use Rattle.std.specs.Prelude.{◌≡◌, ◌++◌, IfOk};
 ghost use Rattle.std.specs.Str.Lines.{lines};
 ghost use Rattle.zvt_trace.specs.Moments.{bad_line, bad_marks_of, begins_mark, is_bad_mark, is_comment, line_times};
-ghost use Rattle.zvt_trace.specs.Moments.{mark_after, times_of};
+ghost use Rattle.zvt_trace.specs.Moments.{mark_after, time_at, times_of, went_back};
 
 use crate::lines::next_line;
 use crate::moment::Moment;
 use std::alloc::{AllocError, Global};
 
 /// A line of a trace, counted from 1, and its moment.
-#[derive(Clone, Copy, Debug)]
+#[derive(Clone, Copy, Debug, PartialEq, Eq)]
 pub struct Timed {
     pub line: u64,
     pub moment: Moment,
@@ -44,6 +44,40 @@ pub fn moments_of(alloc: Global, trace: &[u8]) -> Result<Moments, AllocError>
         rest = after;
     }
     Ok(Moments { times, bad })
+}
+
+/// Returns the moment of the line with this number, if it is one of these.
+pub fn time_at(times: &[Timed], line: u64) -> Option<Moment>
+    ensures { result ≡ time_at times.now line }
+{
+    let mut rest = times;
+    'times: while let [first, later @ ..] = rest {
+        if first.line == line {
+            return Some(first.moment);
+        }
+        rest = later;
+    }
+    None
+}
+
+/// Returns the first of these lines at which the clock went back: its moment is before the moment of the line above it
+/// that has one.
+pub fn went_back(times: &[Timed]) -> Option<u64>
+    ensures { result ≡ went_back times.now }
+{
+    let [first, later @ ..] = times else {
+        return None;
+    };
+    let mut before = first.moment;
+    let mut rest = later;
+    'times: while let [next, more @ ..] = rest {
+        if next.moment.instant() < before.instant() {
+            return Some(next.line);
+        }
+        before = next.moment;
+        rest = more;
+    }
+    None
 }
 
 /// Adds the line with this number, if it has a moment.
