@@ -37,6 +37,7 @@ REFUSED = [
     ("till --port=1 --timeout=65536", "error: invalid value '65536' for '--timeout <SECONDS>': 65536 is not in 0..=65535\n"),
     ("report --open", "error: unexpected argument '--open' found\n"),
     ("report --follow x", "error: unexpected argument '--follow' found\n"),
+    ("audit --html", "error: unexpected argument '--html' found\n"),
     ("loop --open", "error: unexpected argument '--open' found\n"),
     ("loop --timeout 1", "error: unexpected argument '--timeout' found\n"),
     ("loop --close-by-completion", "error: unexpected argument '--close-by-completion' found\n"),

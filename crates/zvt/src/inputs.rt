@@ -100,7 +100,7 @@ impl Ended {
 /// Runs the command on the trace in each of its files, or on standard input if no file is named. Returns the highest
 /// exit status.
 pub fn work_on(rt: &HostRuntime, command: &TraceCommand<'_>) -> io::Result<u8> {
-    if !takes_codepage(rt, command)? {
+    if !takes_codepage(rt, command)? || !takes_page(rt, command)? {
         return Ok(WORDS);
     }
     match command.files.as_slice() {
@@ -136,6 +136,25 @@ fn takes_codepage(rt: &HostRuntime, command: &TraceCommand<'_>) -> io::Result<bo
             rt,
             "'--codepage' does not go with '--json', where bytes that are not ASCII stay escapes",
         )?;
+        return Ok(false);
+    }
+    Ok(true)
+}
+
+/// Returns whether the command can write its page, if it is to write one, and reports if it cannot.
+fn takes_page(rt: &HostRuntime, command: &TraceCommand<'_>) -> io::Result<bool> {
+    if !command.html {
+        return Ok(true);
+    }
+    if command.is_json() {
+        report(
+            rt,
+            "'--html' does not go with '--json': leave one of them out",
+        )?;
+        return Ok(false);
+    }
+    if command.files.len() > 1 {
+        report(rt, "'--html' takes one FILE: write a page for each")?;
         return Ok(false);
     }
     Ok(true)

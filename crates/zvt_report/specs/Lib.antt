@@ -26,3 +26,9 @@ pub mod LookList
 pub mod PaymentTable
 pub mod OtherTable
 pub mod TextReport
+pub mod Tones
+pub mod PageParts
+pub mod PageLooks
+pub mod PageTables
+pub mod PageCards
+pub mod Page

@@ -2,8 +2,6 @@
 use Rattle.std.specs.Prelude.{◌≡◌, ℕ, ◌<◌, ◌≤◌, Bool, true, false, List, length, filter, Option, Result, Ok, Err}
 use Rattle.std.specs.Io.KnownBytes.{Appends, Keeps}
 use Rattle.zvt_grammar.specs.Reading.{Reading}
-use Rattle.zvt_text.specs.declared.form.Form.{Form}
-use Rattle.zvt_text.specs.declared.form.Form.TheVariants.{Text, Json}
 use Rattle.zvt_trace.specs.Written.{AppendsPrefix, limit}
 use Rattle.zvt_trace.specs.declared.fault.TraceFault.{TraceFault}
 use Rattle.zvt_trace.specs.declared.fault.TraceFault.TheVariants.{Memory, Read, TooLong, Trace, Write}
@@ -11,23 +9,27 @@ use Rattle.zvt_trace.specs.declared.listener.Scope.{Scope}
 use Rattle.zvt_report.specs.Looks.{looks, weight_of}
 use Rattle.zvt_report.specs.Objects.{report_json}
 use Rattle.zvt_report.specs.Reports.{AnswersReport}
+use Rattle.zvt_report.specs.Page.{report_page}
 use Rattle.zvt_report.specs.TextReport.{report_text}
 use Rattle.zvt_report.specs.declared.cases.Look.{Look}
 use Rattle.zvt_report.specs.declared.cases.Weight.{Weight}
 use Rattle.zvt_report.specs.declared.cases.Weight.TheVariants.{Act, Check}
+use Rattle.zvt_report.specs.declared.form.ReportForm.{ReportForm}
+use Rattle.zvt_report.specs.declared.form.ReportForm.TheVariants.{Text, Json, Page}
 use Rattle.zvt_report.specs.declared.report.Report.{Report}
 use Rattle.zvt_report.specs.declared.written.ReportSummary.{ReportSummary}
 
 -- ---- the text
 
--- the text or the objects of a report with these looks
-abbrev pub report_in : Form → Report → List Look → List ℕ
-report_in Text report found = report_text report.tally report.currency report.books report.messages.items found
-report_in Json report found = report_json report.tally report.currency report.books report.messages.items found
+-- the text, the objects or the page of a report with these looks; only the page has the name of the file
+abbrev pub report_in : ReportForm → (name : List ℕ) → Report → List Look → List ℕ
+report_in Text name report found = report_text report.tally report.currency report.books report.messages.items found
+report_in Json name report found = report_json report.tally report.currency report.books report.messages.items found
+report_in Page name report found = report_page name report.tally report.currency report.books report.messages.items found
 
 -- with the looks that its orders need
-abbrev pub written : Form → Report → List ℕ
-written form report = report_in form report (looks report.books.book report.books.orders)
+abbrev pub written : ReportForm → (name : List ℕ) → Report → List ℕ
+written form name report = report_in form name report (looks report.books.book report.books.orders)
 
 -- ---- the summary
 
@@ -48,29 +50,29 @@ summed_up report = record { tally = report.tally; acts = acts_in (looks report.b
 -- ---- the answer
 
 -- What the writing of a report in that form answers. If a write failed, a prefix of the text is written.
-abbrev pub AnswersFound : Form → Report → (old new : Option (List ℕ)) → Result ReportSummary TraceFault → Type 0
-AnswersFound form report old new (Ok summary) = Appends old new (written form report) × (summary ≡ summed_up report)
-AnswersFound form report old new (Err Memory) = Keeps old new
-AnswersFound form report old new (Err Write) = AppendsPrefix old new (written form report)
-AnswersFound form report old new (Err (Trace number what)) = ⊥
-AnswersFound form report old new (Err TooLong) = ⊥
-AnswersFound form report old new (Err Read) = ⊥
+abbrev pub AnswersFound : ReportForm → (name : List ℕ) → Report → (old new : Option (List ℕ)) → Result ReportSummary TraceFault → Type 0
+AnswersFound form name report old new (Ok summary) = Appends old new (written form name report) × (summary ≡ summed_up report)
+AnswersFound form name report old new (Err Memory) = Keeps old new
+AnswersFound form name report old new (Err Write) = AppendsPrefix old new (written form name report)
+AnswersFound form name report old new (Err (Trace number what)) = ⊥
+AnswersFound form name report old new (Err TooLong) = ⊥
+AnswersFound form name report old new (Err Read) = ⊥
 
 -- What a report answers that is written in this form, by that reading of lengths, and with what a refusal leaves unread. If it
 -- fails, nothing is written, but of a write that failed a prefix of the text.
-abbrev pub AnswersWritten : Reading → Scope → Form → (trace : List ℕ) → (old new : Option (List ℕ)) → Result ReportSummary TraceFault → Type 0
-AnswersWritten r scope form trace old new (Ok summary) = (report : Report) × AnswersReport r scope trace (Ok report) × Appends old new (written form report) × (summary ≡ summed_up report)
-AnswersWritten r scope form trace old new (Err (Trace number what)) = AnswersReport r scope trace (Err (Trace number what)) × Keeps old new
-AnswersWritten r scope form trace old new (Err Memory) = Keeps old new
-AnswersWritten r scope form trace old new (Err Write) = (report : Report) × AnswersReport r scope trace (Ok report) × AppendsPrefix old new (written form report)
-AnswersWritten r scope form trace old new (Err TooLong) = ⊥
-AnswersWritten r scope form trace old new (Err Read) = ⊥
+abbrev pub AnswersWritten : Reading → Scope → ReportForm → (name : List ℕ) → (trace : List ℕ) → (old new : Option (List ℕ)) → Result ReportSummary TraceFault → Type 0
+AnswersWritten r scope form name trace old new (Ok summary) = (report : Report) × AnswersReport r scope trace (Ok report) × Appends old new (written form name report) × (summary ≡ summed_up report)
+AnswersWritten r scope form name trace old new (Err (Trace number what)) = AnswersReport r scope trace (Err (Trace number what)) × Keeps old new
+AnswersWritten r scope form name trace old new (Err Memory) = Keeps old new
+AnswersWritten r scope form name trace old new (Err Write) = (report : Report) × AnswersReport r scope trace (Ok report) × AppendsPrefix old new (written form name report)
+AnswersWritten r scope form name trace old new (Err TooLong) = ⊥
+AnswersWritten r scope form name trace old new (Err Read) = ⊥
 
 -- The same for a trace that is read first, and may be too long.
-abbrev pub AnswersReadWritten : Reading → Scope → Form → (trace : List ℕ) → (old new : Option (List ℕ)) → Result ReportSummary TraceFault → Type 0
-AnswersReadWritten r scope form trace old new (Ok summary) = (length trace ≤ limit) × AnswersWritten r scope form trace old new (Ok summary)
-AnswersReadWritten r scope form trace old new (Err (Trace number what)) = (length trace ≤ limit) × AnswersWritten r scope form trace old new (Err (Trace number what))
-AnswersReadWritten r scope form trace old new (Err Write) = (length trace ≤ limit) × AnswersWritten r scope form trace old new (Err Write)
-AnswersReadWritten r scope form trace old new (Err TooLong) = (limit < length trace) × Keeps old new
-AnswersReadWritten r scope form trace old new (Err Read) = Keeps old new
-AnswersReadWritten r scope form trace old new (Err Memory) = Keeps old new
+abbrev pub AnswersReadWritten : Reading → Scope → ReportForm → (name : List ℕ) → (trace : List ℕ) → (old new : Option (List ℕ)) → Result ReportSummary TraceFault → Type 0
+AnswersReadWritten r scope form name trace old new (Ok summary) = (length trace ≤ limit) × AnswersWritten r scope form name trace old new (Ok summary)
+AnswersReadWritten r scope form name trace old new (Err (Trace number what)) = (length trace ≤ limit) × AnswersWritten r scope form name trace old new (Err (Trace number what))
+AnswersReadWritten r scope form name trace old new (Err Write) = (length trace ≤ limit) × AnswersWritten r scope form name trace old new (Err Write)
+AnswersReadWritten r scope form name trace old new (Err TooLong) = (limit < length trace) × Keeps old new
+AnswersReadWritten r scope form name trace old new (Err Read) = Keeps old new
+AnswersReadWritten r scope form name trace old new (Err Memory) = Keeps old new

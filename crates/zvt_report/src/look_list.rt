@@ -15,7 +15,7 @@ use zvt_text::Text;
 use zvt_till::{Entry, Sent};
 
 /// Returns the payment that a reversal takes back.
-fn entry_of(book: &[Entry], order: &Sent) -> Option<Entry>
+pub(crate) fn entry_of(book: &[Entry], order: &Sent) -> Option<Entry>
     ensures { result ≡ entry_of book.now order.now }
 {
     match order {
@@ -25,7 +25,7 @@ fn entry_of(book: &[Entry], order: &Sent) -> Option<Entry>
 }
 
 /// Returns the order at this place.
-fn row_at(rows: &[OrderRow], place: Option<usize>) -> Option<OrderRow>
+pub(crate) fn row_at(rows: &[OrderRow], place: Option<usize>) -> Option<OrderRow>
     ensures { result ≡ row_at rows.now place }
 {
     rows.get(place?).copied()
@@ -150,7 +150,7 @@ fn is_urgent(case: Case) -> bool
 }
 
 /// Whether a case is listed in the round of the urgent ones, or in the other one.
-fn is_listed(urgent: bool, case: Case) -> bool
+pub(crate) fn is_listed(urgent: bool, case: Case) -> bool
     ensures { result ≡ is_listed urgent case }
 {
     if urgent {

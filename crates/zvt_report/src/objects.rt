@@ -98,7 +98,7 @@ fn one_if_other(kind: OrderKind) -> usize
 }
 
 /// Returns the number of orders that move money and that the book does not follow.
-fn others(rows: &[OrderRow], messages: &[OrderMessage]) -> usize
+pub(crate) fn others(rows: &[OrderRow], messages: &[OrderMessage]) -> usize
     ensures { result ≡ others_from messages.now 0 rows.now }
 {
     let mut found = 0;

@@ -39,7 +39,7 @@ fn amount_or_blank(
 
 /// Writes what is taken back.
 #[tactic(auto, unfolding(crate::specs::OtherTable::reversal_name))]
-fn reversal_name(text: &mut Text, order: &Sent) -> Result<(), AllocError>
+pub(crate) fn reversal_name(text: &mut Text, order: &Sent) -> Result<(), AllocError>
     ensures { OnOk result (text.new ≡ text.old ++ reversal_name order.now) }
 {
     match order {
@@ -60,7 +60,7 @@ fn named(text: &mut Text, name: Option<&str>) -> Result<(), AllocError>
 
 /// Writes the name of an order that moves money.
 #[tactic(auto, unfolding(crate::specs::OtherTable::money_name))]
-fn money_name(text: &mut Text, high: u8, low: u8) -> Result<(), AllocError>
+pub(crate) fn money_name(text: &mut Text, high: u8, low: u8) -> Result<(), AllocError>
     ensures { OnOk result (text.new ≡ text.old ++ money_name high low) }
 {
     named(text, command_name(high, low))

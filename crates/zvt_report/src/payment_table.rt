@@ -135,7 +135,11 @@ fn entry_text(text: &mut Text, reversed: bool, doubt: &Doubt) -> Result<(), Allo
 
 /// Writes what became of a payment, as its entry says if it was booked.
 #[tactic(auto, unfolding(crate::specs::PaymentTable::payment_text))]
-fn payment_text(text: &mut Text, entry: &Option<Entry>, row: &OrderRow) -> Result<(), AllocError>
+pub(crate) fn payment_text(
+    text: &mut Text,
+    entry: &Option<Entry>,
+    row: &OrderRow,
+) -> Result<(), AllocError>
     ensures { OnOk result (text.new ≡ text.old ++ payment_text entry.now row.now) }
 {
     match entry {
@@ -184,7 +188,7 @@ fn payment_row(
 }
 
 /// Returns the entry at this place.
-fn entry_at(book: &[Entry], place: Option<usize>) -> Option<Entry>
+pub(crate) fn entry_at(book: &[Entry], place: Option<usize>) -> Option<Entry>
     ensures { result ≡ entry_at book.now place }
 {
     book.get(place?).copied()

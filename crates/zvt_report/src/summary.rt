@@ -16,7 +16,7 @@ use zvt_till::{Cause, Entry};
 
 /// Writes the letters of the currency, or in which unit the amounts are.
 #[tactic(auto, unfolding(crate::specs::Summary::unit_text))]
-fn unit(text: &mut Text, money: &Option<Money>) -> Result<(), AllocError>
+pub(crate) fn unit(text: &mut Text, money: &Option<Money>) -> Result<(), AllocError>
     ensures { OnOk result (text.new ≡ text.old ++ unit_text money.now) }
 {
     match money {
@@ -52,7 +52,7 @@ fn booked_line(text: &mut Text, money: &Option<Money>, book: &[Entry]) -> Result
 
 /// Returns the sign of a sum that was taken back.
 #[tactic(auto, unfolding(crate::specs::Summary::minus))]
-fn minus(units: u128) -> &'static [u8]
+pub(crate) fn minus(units: u128) -> &'static [u8]
     ensures { result.now ≡ minus units }
 {
     if units == 0 { b"" } else { b"-" }

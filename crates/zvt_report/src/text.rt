@@ -31,7 +31,7 @@ fn bad_text(text: &mut Text, bad: u64) -> Result<(), AllocError>
 
 /// Writes how many messages the trace has.
 #[tactic(auto, unfolding(crate::specs::TextReport::footer))]
-fn footer(text: &mut Text, tally: Tally) -> Result<(), AllocError>
+pub(crate) fn footer(text: &mut Text, tally: Tally) -> Result<(), AllocError>
     ensures { OnOk result (text.new ≡ text.old ++ footer tally) }
 {
     count(text, tally.messages as usize, b"message")?;

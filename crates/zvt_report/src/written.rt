@@ -7,12 +7,13 @@ ghost use Rattle.zvt_report.specs.Written.{AnswersFound, AnswersReadWritten, Ans
 ghost use Rattle.zvt_report.specs.Written.{acts_in, is_act, report_in};
 
 use crate::cases::{Look, Weight, looks};
+use crate::form::ReportForm;
 use crate::report::{Report, report_trace};
-use crate::{objects, text};
+use crate::{objects, page, text};
 use std::alloc::{AllocError, Global};
 use zvt_grammar::Lengths;
 use zvt_io::{Sink, Source};
-use zvt_text::{Form, Text};
+use zvt_text::Text;
 use zvt_trace::{Scope, Tally, TraceFault, read_trace};
 
 /// Findings of a report that was written.
@@ -25,31 +26,34 @@ pub struct ReportSummary {
     pub passed: u64,
 }
 
-/// Writes the report of the trace, as text or as JSON. `lengths` selects the accepted forms of length, and `scope` says
-/// how much is not read after a refused message, as for [`report_trace`].
+/// Writes the report of the trace in this form. Only a page has the `name` of the file, which is empty if there is
+/// none. `lengths` selects the accepted forms of length, and `scope` says how much is not read after a refused message,
+/// as for [`report_trace`].
 ///
 /// Writes the text once, at the end. Writes nothing if a line can't be read or an allocation fails.
 pub fn write_report<W: Sink>(
     alloc: Global,
-    form: Form,
+    form: ReportForm,
+    name: &[u8],
     scope: Scope,
     lengths: Lengths,
     trace: &[u8],
     writer: &mut W,
 ) -> Result<ReportSummary, TraceFault>
     requires { length trace.now ≤ limit }
-    ensures writes { AnswersWritten (reading_of lengths) scope form trace.now (W.written writer.old)
+    ensures writes { AnswersWritten (reading_of lengths) scope form name.now trace.now (W.written writer.old)
         (W.written writer.new) result }
     ensures write { result ≡ Err TraceFault.Write → W.failures writer.old < W.failures writer.new }
 {
     let report = report_trace(alloc, scope, lengths, trace)?;
-    write_found(alloc, form, &report, writer)
+    write_found(alloc, form, name, &report, writer)
 }
 
 /// Reads a trace to its end, and writes its report like [`write_report`].
 pub fn read_report<R: Source, W: Sink>(
     alloc: Global,
-    form: Form,
+    form: ReportForm,
+    name: &[u8],
     scope: Scope,
     lengths: Lengths,
     reader: &mut R,
@@ -57,28 +61,29 @@ pub fn read_report<R: Source, W: Sink>(
 ) -> Result<ReportSummary, TraceFault>
     ensures taken { (taken : List ℕ) × (length taken ≤ limit + 1) × Consumes (R.remaining reader.old)
         (R.remaining reader.new) taken }
-    ensures writes { IfSome (R.remaining reader.old) (λ trace. AnswersReadWritten (reading_of lengths) scope form trace
-        (W.written writer.old) (W.written writer.new) result) }
+    ensures writes { IfSome (R.remaining reader.old) (λ trace. AnswersReadWritten (reading_of lengths) scope form
+        name.now trace (W.written writer.old) (W.written writer.new) result) }
     ensures read { result ≡ Err TraceFault.Read → R.failures reader.old < R.failures reader.new }
     ensures write { result ≡ Err TraceFault.Write → W.failures writer.old < W.failures writer.new }
 {
     let trace = read_trace(alloc, reader)?;
-    write_report(alloc, form, scope, lengths, trace.as_slice(), writer)
+    write_report(alloc, form, name, scope, lengths, trace.as_slice(), writer)
 }
 
 /// Writes a report in this form, and returns its findings.
 fn write_found<W: Sink>(
     alloc: Global,
-    form: Form,
+    form: ReportForm,
+    name: &[u8],
     report: &Report,
     writer: &mut W,
 ) -> Result<ReportSummary, TraceFault>
-    ensures writes { AnswersFound form report.now (W.written writer.old) (W.written writer.new) result }
+    ensures writes { AnswersFound form name.now report.now (W.written writer.old) (W.written writer.new) result }
     ensures write { result ≡ Err TraceFault.Write → W.failures writer.old < W.failures writer.new }
 {
     let books = &report.books;
     let looks = looks(alloc, books.book.as_slice(), books.orders.as_slice())?;
-    let text = text_of(alloc, form, report, looks.as_slice())?;
+    let text = text_of(alloc, form, name, report, looks.as_slice())?;
     writer.write_all(text.bytes())?;
     Ok(ReportSummary {
         tally: report.tally,
@@ -87,15 +92,21 @@ fn write_found<W: Sink>(
     })
 }
 
-/// Returns the text or the objects of a report with these looks.
-fn text_of(alloc: Global, form: Form, report: &Report, looks: &[Look]) -> Result<Text, AllocError>
-    ensures { IfOk result (λ text. text ≡ report_in form report.now looks.now) }
+/// Returns the text, the objects or the page of a report with these looks.
+fn text_of(
+    alloc: Global,
+    form: ReportForm,
+    name: &[u8],
+    report: &Report,
+    looks: &[Look],
+) -> Result<Text, AllocError>
+    ensures { IfOk result (λ text. text ≡ report_in form name.now report.now looks.now) }
 {
     let books = &report.books;
     let messages = report.messages.as_slice();
     let mut text = Text::new(alloc);
     match form {
-        Form::Text => text::write(
+        ReportForm::Text => text::write(
             alloc,
             &mut text,
             report.tally,
@@ -104,8 +115,18 @@ fn text_of(alloc: Global, form: Form, report: &Report, looks: &[Look]) -> Result
             messages,
             looks,
         )?,
-        Form::Json => objects::write(
+        ReportForm::Json => objects::write(
             &mut text,
+            report.tally,
+            report.currency,
+            books,
+            messages,
+            looks,
+        )?,
+        ReportForm::Page => page::write(
+            alloc,
+            &mut text,
+            name,
             report.tally,
             report.currency,
             books,

@@ -1,6 +1,7 @@
 -- The results of the commands on a trace.
-use Rattle.std.specs.Prelude.{ℕ, List, Option, Result, Ok, Err, IfSome}
+use Rattle.std.specs.Prelude.{ℕ, List, [], ◌∷◌, codes, cond, map, Option, Result, Ok, Err, IfSome}
 use Rattle.std.specs.Io.KnownBytes.{Consumes}
+use Rattle.std.specs.Str.{bytes_eq}
 use Rattle.std.specs.Str.Lines.{lines}
 use Rattle.zvt_grammar.specs.Reading.{Reading}
 use Rattle.zvt_grammar.specs.Lengths.{reading_of}
@@ -31,24 +32,29 @@ abbrev pub report_of : Result AuditSummary TraceFault → Result ReportSummary T
 report_of (Ok found) = Ok (summary_of found)
 report_of (Err fault) = Err fault
 
+-- the name of the first of these files; standard input has none
+abbrev pub file_name : (files : List (List ℕ)) → List ℕ
+file_name [] = []
+file_name (file ∷ files) = cond (bytes_eq file (codes "-")) [] file
+
 -- the result and the output for a trace, with these lengths
-abbrev pub AnswersWork : TraceWork → Reading → Scope → (trace : List ℕ) → (old new : Option (List ℕ)) → Result AuditSummary TraceFault → Type 0
-AnswersWork (Render style) r scope trace old new result = AnswersLinesBy r scope style (lines trace) old new (tally_of result)
-AnswersWork (Audit form) r scope trace old new result = AnswersReadBy r scope form trace old new result
-AnswersWork (Report form strict) r scope trace old new result = AnswersWritten r scope form trace old new (report_of result)
-AnswersWork (Vectors form) r scope trace old new result = AnswersVectors form trace old new (tally_of result)
+abbrev pub AnswersWork : TraceWork → (name : List ℕ) → Reading → Scope → (trace : List ℕ) → (old new : Option (List ℕ)) → Result AuditSummary TraceFault → Type 0
+AnswersWork (Render style) name r scope trace old new result = AnswersLinesBy r scope style (lines trace) old new (tally_of result)
+AnswersWork (Audit form) name r scope trace old new result = AnswersReadBy r scope form trace old new result
+AnswersWork (Report form strict) name r scope trace old new result = AnswersWritten r scope form name trace old new (report_of result)
+AnswersWork (Vectors form) name r scope trace old new result = AnswersVectors form trace old new (tally_of result)
 
 -- the result of the command for a trace that was read
 abbrev pub AnswersOnTrace : TraceCommand → (trace : List ℕ) → (old new : Option (List ℕ)) → Result AuditSummary TraceFault → Type 0
-AnswersOnTrace command trace old new result = AnswersWork command.work (reading_of command.lengths) (work_scope command.work command.reads_on) trace old new result
+AnswersOnTrace command trace old new result = AnswersWork command.work (file_name (map (λ file. file.now) command.files.items)) (reading_of command.lengths) (work_scope command.work command.reads_on) trace old new result
 
 -- the result and the output for a trace that is being read, with these lengths; vectors and the trace of a report are read completely first
-abbrev pub FollowsWork : TraceWork → Reading → Scope → (left rest old new : Option (List ℕ)) → Result AuditSummary TraceFault → Type 0
-FollowsWork (Render style) r scope left rest old new result = (taken : List ℕ) × Consumes left rest taken × AnswersFollow r scope style taken rest old new (tally_of result)
-FollowsWork (Audit form) r scope left rest old new result = (taken : List ℕ) × Consumes left rest taken × AnswersFollowed r scope form taken rest old new result
-FollowsWork (Report form strict) r scope left rest old new result = IfSome left (λ text. AnswersReadWritten r scope form text old new (report_of result))
-FollowsWork (Vectors form) r scope left rest old new result = IfSome left (λ text. AnswersVectors form text old new (tally_of result))
+abbrev pub FollowsWork : TraceWork → (name : List ℕ) → Reading → Scope → (left rest old new : Option (List ℕ)) → Result AuditSummary TraceFault → Type 0
+FollowsWork (Render style) name r scope left rest old new result = (taken : List ℕ) × Consumes left rest taken × AnswersFollow r scope style taken rest old new (tally_of result)
+FollowsWork (Audit form) name r scope left rest old new result = (taken : List ℕ) × Consumes left rest taken × AnswersFollowed r scope form taken rest old new result
+FollowsWork (Report form strict) name r scope left rest old new result = IfSome left (λ text. AnswersReadWritten r scope form name text old new (report_of result))
+FollowsWork (Vectors form) name r scope left rest old new result = IfSome left (λ text. AnswersVectors form text old new (tally_of result))
 
 -- the result of the command for a trace that is being read
 abbrev pub FollowsTrace : TraceCommand → (left rest old new : Option (List ℕ)) → Result AuditSummary TraceFault → Type 0
-FollowsTrace command left rest old new result = FollowsWork command.work (reading_of command.lengths) (work_scope command.work command.reads_on) left rest old new result
+FollowsTrace command left rest old new result = FollowsWork command.work (file_name (map (λ file. file.now) command.files.items)) (reading_of command.lengths) (work_scope command.work command.reads_on) left rest old new result

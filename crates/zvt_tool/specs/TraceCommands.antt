@@ -10,6 +10,8 @@ use Rattle.zvt_show.specs.declared.render.Style.{Style}
 use Rattle.zvt_show.specs.declared.render.Style.TheVariants.{Show, Join, Receipts, Json, JsonReceipts}
 use Rattle.zvt_text.specs.declared.codepages.Codepage.{Codepage}
 use Rattle.zvt_text.specs.declared.codepages.Codepage.TheVariants.{Cp437, Cp850, Latin1, Utf8}
+use Rattle.zvt_report.specs.declared.form.ReportForm.{ReportForm}
+use Rattle.zvt_report.specs.declared.form.ReportForm.TheVariants as report
 use Rattle.zvt_text.specs.declared.form.Form.TheVariants as form
 use Rattle.zvt_trace.specs.Resuming.{side_scope}
 use Rattle.zvt_trace.specs.declared.listener.Scope.{Scope}
@@ -33,8 +35,9 @@ is_json (Render Json) = true
 is_json (Render (JsonReceipts text_blocks)) = true
 is_json (Audit form.Text) = false
 is_json (Audit form.Json) = true
-is_json (Report form.Text strict) = false
-is_json (Report form.Json strict) = true
+is_json (Report report.Text strict) = false
+is_json (Report report.Json strict) = true
+is_json (Report report.Page strict) = false
 is_json (Vectors form.Text) = false
 is_json (Vectors form.Json) = true
 
@@ -85,6 +88,7 @@ report_app = command_app (codes "report") (
     flag_rule (codes "loose") ∷
     flag_rule (codes "check") ∷
     flag_rule (codes "json") ∷
+    flag_rule (codes "html") ∷
     flag_rule (codes "strict") ∷
     [])
 
@@ -112,6 +116,7 @@ pub record IsTraceCommandOf (rows : List Row) (writes : TraceWork) (reads : Leng
   pub check : IsFlagOf (codes "check") rows command.check
   pub follow : IsFlagOf (codes "follow") rows command.follow
   pub reads_on : IsByFlag (codes "open") rows (λ by_name. IsByFlag (codes "resync") rows (λ by_other. command.reads_on ≡ (by_name || by_other)))
+  pub html : IsFlagOf (codes "html") rows command.html
   pub codepage : IsTextOf (codes "codepage") rows command.codepage
 
 -- the lengths and the form, by `--loose` and `--json`
@@ -147,8 +152,12 @@ IsReceipts rows command =
 abbrev pub IsAudit : List Row → TraceCommand → Type 0
 IsAudit rows = IsByForm rows (λ json. Audit (form_by json))
 
+abbrev pub report_form : (json html : Bool) → ReportForm
+report_form json html = cond json report.Json (cond html report.Page report.Text)
+
 abbrev pub IsReport : List Row → TraceCommand → Type 0
-IsReport rows command = IsByFlag (codes "strict") rows (λ strict. IsByForm rows (λ json. Report (form_by json) strict) command)
+IsReport rows command =
+    IsByFlag (codes "strict") rows (λ strict. IsByFlag (codes "html") rows (λ html. IsByForm rows (λ json. Report (report_form json html) strict) command))
 
 abbrev pub IsVectors : List Row → TraceCommand → Type 0
 IsVectors rows command = IsByFlag (codes "json") rows (λ json. IsTraceCommandOf rows (Vectors (form_by json)) Shortest command)

@@ -1,7 +1,7 @@
 //! The commands on a trace.
-ghost use Rattle.std.specs.Prelude.{◌≡◌, ◌<◌, ◌≤◌, false, length, [], Err, IfOk};
+ghost use Rattle.std.specs.Prelude.{◌≡◌, ◌<◌, ◌≤◌, false, length, map, [], Err, IfOk};
 ghost use Rattle.zvt_trace.specs.Written.{limit};
-ghost use Rattle.zvt_tool.specs.OnTrace.{AnswersOnTrace, FollowsTrace, report_of, tally_of};
+ghost use Rattle.zvt_tool.specs.OnTrace.{AnswersOnTrace, FollowsTrace, file_name, report_of, tally_of};
 
 use crate::trace_command::{TraceCommand, TraceWork};
 use crate::vector_check::vectors;
@@ -37,9 +37,10 @@ pub fn work_on_trace<W: Sink>(
         }
         TraceWork::Audit(form) => audit_trace(alloc, form, scope, lengths, trace, writer),
         TraceWork::Report { form, .. } => {
+            let name = file_name(command);
             reported(
                 alloc,
-                write_report(alloc, form, scope, lengths, trace, writer),
+                write_report(alloc, form, name, scope, lengths, trace, writer),
             )
         }
         TraceWork::Vectors(form) => {
@@ -72,12 +73,23 @@ pub fn follow_work<R: Source, W: Sink>(
         }
         TraceWork::Audit(form) => follow_audit(alloc, form, scope, lengths, reader, writer),
         TraceWork::Report { form, .. } => {
+            let name = file_name(command);
             reported(
                 alloc,
-                read_report(alloc, form, scope, lengths, reader, writer),
+                read_report(alloc, form, name, scope, lengths, reader, writer),
             )
         }
         TraceWork::Vectors(form) => found(alloc, vectors(alloc, form, reader, writer)),
+    }
+}
+
+/// Returns the name of the command's first file. Standard input has none.
+fn file_name<'a>(command: &TraceCommand<'a>) -> &'a [u8]
+    ensures { result.now ≡ file_name (map (λ file. file.now) command.now.files.items) }
+{
+    match command.files.first() {
+        Some(file) if *file != "-" => file.as_bytes(),
+        _ => b"",
     }
 }
 

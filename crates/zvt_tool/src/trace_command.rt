@@ -5,7 +5,7 @@ ghost use Rattle.zvt_tool.specs.Options.{app_for, form_by, lengths_by};
 ghost use Rattle.zvt_tool.specs.TraceCommands.{IsAudit, IsReceipts, IsRendering, IsReport, IsShow, IsTraceCommandOf};
 ghost use Rattle.zvt_tool.specs.TraceCommands.{audit_app, codepage_by, codepage_named};
 ghost use Rattle.zvt_tool.specs.TraceCommands.{is_json, join_app, normalise_app, receipts_app, report_app, show_app};
-ghost use Rattle.zvt_tool.specs.TraceCommands.{IsVectors, style_by, vectors_app, work_scope};
+ghost use Rattle.zvt_tool.specs.TraceCommands.{IsVectors, report_form, style_by, vectors_app, work_scope};
 ghost use Rattle.zvt_tool.specs.declared.trace_command.TraceWork.TheVariants.{Render};
 ghost use Rattle.zvt_show.specs.declared.render.Style.TheVariants.{Show};
 ghost use Rattle.zvt_text.specs.TextOptions.{plain_text};
@@ -17,6 +17,7 @@ use crate::options::{CommandOption, CommandRow, form_by, lengths_by};
 use clap::ArgMatches;
 use std::alloc::{AllocError, Global};
 use zvt_grammar::Lengths;
+use zvt_report::ReportForm;
 use zvt_show::{ReceiptOptions, Style};
 use zvt_text::{Codepage, Form, TextOptions};
 use zvt_trace::Scope;
@@ -30,7 +31,7 @@ pub enum TraceWork {
     Audit(Form),
     /// The report on its orders and payments.
     Report {
-        form: Form,
+        form: ReportForm,
         /// Whether the line counts as malformed after a refused message, as it does for a till.
         strict: bool,
     },
@@ -53,6 +54,8 @@ pub struct TraceCommand<'a> {
     pub follow: bool,
     /// Whether a side is read on after a refused message. `--resync` is another name for `--open`.
     pub reads_on: bool,
+    /// Whether `--html` asks for a page. With `--json` it can't be written.
+    pub html: bool,
     /// The code page of receipts, as it was given. One that [`codepage_named`] does not know decodes nothing.
     pub codepage: Option<&'a str>,
 }
@@ -69,6 +72,7 @@ impl<'a> TraceCommand<'a> {
             check: false,
             follow: false,
             reads_on: false,
+            html: false,
             codepage: None,
         }
     }
@@ -95,7 +99,7 @@ impl<'a> TraceCommand<'a> {
             TraceWork::Render(Style::Json | Style::JsonReceipts { .. })
                 | TraceWork::Audit(Form::Json)
                 | TraceWork::Report {
-                    form: Form::Json,
+                    form: ReportForm::Json,
                     ..
                 }
                 | TraceWork::Vectors(Form::Json)
@@ -207,6 +211,7 @@ Example:
                 "Exit with 1 if there is a case that someone must act on",
             ),
             CommandOption::Flag("json", help::JSON),
+            CommandOption::Flag("html", "Write a page for a browser, about one FILE"),
             CommandOption::Flag(
                 "strict",
                 "After a refused message, read nothing until the connection is lost, as a till would",
@@ -310,10 +315,23 @@ pub fn read_report<'a>(
     ensures { IfOk result (IsReport (rows_of (found_of inner.now))) }
 {
     let work = TraceWork::Report {
-        form: form_by(flag(inner, "json")),
+        form: report_form(flag(inner, "json"), flag(inner, "html")),
         strict: flag(inner, "strict"),
     };
     on_traces(alloc, inner, work, lengths_by(flag(inner, "loose")))
+}
+
+/// Returns the form of a report. With both flags it is JSON.
+fn report_form(json: bool, html: bool) -> ReportForm
+    ensures { result ≡ report_form json html }
+{
+    if json {
+        ReportForm::Json
+    } else if html {
+        ReportForm::Page
+    } else {
+        ReportForm::Text
+    }
 }
 
 /// Returns the choice from the arguments of `receipts`.
@@ -406,6 +424,7 @@ fn on_traces<'a>(
         check: flag(inner, "check"),
         follow: flag(inner, "follow"),
         reads_on: open || resync,
+        html: flag(inner, "html"),
         codepage: text(inner, "codepage"),
     })
 }

@@ -1,5 +1,7 @@
+use Rattle.zvt_grammar.specs.Lengths.{reading_of}
 use Rattle.zvt_report.proofs.WrittenLemmas.{found_written}
 use Rattle.zvt_report.proofs.written.write_report.Goals as goal
 
 pub returns-clause-writes : goal.returns-clause-writes
-returns-clause-writes g c = found_written _ c.args.scope c.args.form c.args.trace.now c.in_ok-report.report _ _ c.write_found.result c.in_ok-report.ensures c.write_found.ensures.writes
+returns-clause-writes g c =
+    found_written (reading_of c.args.lengths) c.args.scope c.args.form c.args.name.now c.args.trace.now c.in_ok-report.report _ _ c.write_found.result c.in_ok-report.ensures c.write_found.ensures.writes

@@ -1,0 +1,4 @@
+pub mod Names
+pub mod Html
+pub mod Document
+pub mod Laws

@@ -1,0 +1,60 @@
+-- The report of a trace as a page.
+use Rattle.std.specs.Prelude.{◌≡◌, ℕ, List, [], ◌∷◌, ◌++◌, codes, Option, Some, None, refl}
+use Rattle.zvt_page.specs.Document.{document}
+use Rattle.zvt_page.specs.Html.{Html, element, text, leaf, all, both, attribute_text, end_tag, escaped, render, start_tag}
+use Rattle.zvt_page.specs.declared.elements.Attribute.TheVariants.{Class, Href}
+use Rattle.zvt_page.specs.declared.elements.Element.TheVariants.{A, Footer, H1, Header, Main, P}
+use Rattle.zvt_trace.specs.declared.fault.Tally.{Tally}
+use Rattle.zvt_report.specs.Currencies.{decimals_of, money_of}
+use Rattle.zvt_report.specs.Day.{DayValue}
+use Rattle.zvt_report.specs.PageCards.{cards}
+use Rattle.zvt_report.specs.PageLooks.{looks_section}
+use Rattle.zvt_report.specs.PageTables.{others_section, payments_section}
+use Rattle.zvt_report.specs.Summary.{unit_text}
+use Rattle.zvt_report.specs.TextReport.{footer}
+use Rattle.zvt_report.specs.declared.cases.Look.{Look}
+use Rattle.zvt_report.specs.declared.currencies.Money.{Money}
+use Rattle.zvt_report.specs.declared.rows.OrderMessage.{OrderMessage}
+
+-- the name of the file, if there is one
+abbrev pub heading : (name : List ℕ) → List ℕ
+heading [] = codes "Report of a trace"
+heading (letter ∷ name) = letter ∷ name
+
+abbrev pub unit_words : Option Money → List ℕ
+unit_words None = codes "Amounts"
+unit_words (Some money) = codes "Amounts in"
+
+-- in which currency the amounts are
+abbrev pub amounts_in : Option Money → List ℕ
+amounts_in money = unit_words money ++ unit_text money
+
+unfoldable pub page_head : (name : List ℕ) → Option Money → Html
+page_head name money = element Header [] (all (leaf H1 [] (heading name) ∷ leaf P (codes "meta") (amounts_in money) ∷ []))
+
+-- how much of the trace was read
+unfoldable pub page_foot : Tally → Html
+page_foot tally = element Footer [] (leaf P [] (footer tally))
+
+-- for readers without a mouse
+unfoldable pub skip_link : Html
+skip_link = element A ((Class, codes "skip") ∷ (Href, codes "#look") ∷ []) (text (codes "Skip to what needs a look"))
+
+unfoldable pub sections : (name : List ℕ) → Option Money → Tally → DayValue → List OrderMessage → List Look → Html
+sections name money tally books messages looks =
+    all (page_head name money ∷ cards (decimals_of money) books messages ∷ looks_section (decimals_of money) books looks ∷ payments_section (decimals_of money) books
+    ∷ others_section (decimals_of money) books messages ∷ page_foot tally ∷ [])
+
+-- the body of the page
+unfoldable pub page_of : (name : List ℕ) → Option Money → Tally → DayValue → List OrderMessage → List Look → Html
+page_of name money tally books messages looks =
+    both skip_link (element Main ((Class, codes "page") ∷ []) (sections name money tally books messages looks))
+
+abbrev pub report_page : (name : List ℕ) → Tally → (currency : Option ℕ) → DayValue → List OrderMessage → List Look → List ℕ
+report_page name tally currency books messages looks = document (heading name) (page_of name (money_of currency) tally books messages looks)
+
+-- ---- a row worked by hand
+
+a_head : render (page_head (codes "<b>.trace") (money_of (Some 978))) ≡ codes "<header><h1>&lt;b&gt;.trace</h1><p class=\"meta\">Amounts in EUR</p></header>"
+unfolding attribute_text end_tag escaped page_head start_tag unit_text
+a_head = refl

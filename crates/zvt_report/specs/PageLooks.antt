@@ -1,0 +1,88 @@
+-- The orders that a person should look at, on a page.
+use Rattle.std.specs.Prelude.{◌≡◌, ℕ, Bool, true, false, cond, List, [], ◌∷◌, ◌++◌, codes, Option, Some, None, slice_get, refl}
+use Rattle.std.specs.Fmt.{digits}
+use Rattle.zvt_page.specs.Html.{Html, nothing, both, element, text, leaf, all, attribute_text, end_tag, escaped, render, start_tag}
+use Rattle.zvt_page.specs.declared.elements.Attribute.TheVariants.{Class, Id}
+use Rattle.zvt_page.specs.declared.elements.Element.TheVariants.{H2, H3, Li, Ol, P, Span}
+use Rattle.zvt_till.specs.declared.entries.Entry.{Entry}
+use Rattle.zvt_till.specs.declared.happenings.Sent.TheVariants.{CloseDay}
+use Rattle.zvt_till.specs.declared.outcomes.Cause.TheVariants.{Line}
+use Rattle.zvt_till.specs.declared.outcomes.Outcome.TheVariants.{Unclear}
+use Rattle.zvt_report.specs.Day.{DayValue}
+use Rattle.zvt_report.specs.LookList.{entry_of, is_listed, row_at}
+use Rattle.zvt_report.specs.Looks.{weight_of}
+use Rattle.zvt_report.specs.PageParts.{from_to}
+use Rattle.zvt_report.specs.Phrases.{reason}
+use Rattle.zvt_report.specs.Sentences.{account, advice, title}
+use Rattle.zvt_report.specs.declared.cases.Case.{Case}
+use Rattle.zvt_report.specs.declared.cases.Case.TheVariants.{CloseUnclear}
+use Rattle.zvt_report.specs.declared.cases.Look.{Look}
+use Rattle.zvt_report.specs.declared.cases.Weight.{Weight}
+use Rattle.zvt_report.specs.declared.cases.Weight.TheVariants.{Act, Check}
+use Rattle.zvt_report.specs.declared.currencies.Decimals.{Decimals}
+use Rattle.zvt_report.specs.declared.currencies.Decimals.TheVariants.{Two}
+use Rattle.zvt_report.specs.declared.rows.OrderRow.{OrderRow}
+
+-- how urgent a case is: by a class, which gives a shape and a colour, and by a word
+abbrev pub weight_class : Weight → List ℕ
+weight_class Act = codes "act"
+weight_class Check = codes "check"
+
+abbrev pub weight_word : Weight → List ℕ
+weight_word Act = codes "Act"
+weight_word Check = codes "Check"
+
+unfoldable pub title_part : Decimals → Option Entry → OrderRow → (again : Option OrderRow) → Case → Html
+title_part decimals entry row again case = leaf H3 [] (title decimals entry row again case)
+
+unfoldable pub lines_part : (first last : ℕ) → Html
+lines_part first last = leaf Span (codes "at") (codes "lines " ++ from_to first last)
+
+unfoldable pub account_part : Decimals → Option Entry → OrderRow → (again : Option OrderRow) → Case → Html
+account_part decimals entry row again case = leaf P (codes "why") (account decimals entry row again case)
+
+unfoldable pub advice_part : Decimals → Option Entry → OrderRow → (again : Option OrderRow) → Case → Html
+advice_part decimals entry row again case = leaf P (codes "do") (advice decimals entry row again case)
+
+-- one order: its weight, a title, its lines, what happened and what to do
+unfoldable pub item : Decimals → Option Entry → OrderRow → (again : Option OrderRow) → Case → Html
+item decimals entry row again case =
+    element Li ((Class, weight_class (weight_of case)) ∷ [])
+    (all (leaf Span (codes "sev") (weight_word (weight_of case)) ∷ title_part decimals entry row again case ∷ lines_part row.first row.last
+    ∷ account_part decimals entry row again case ∷ advice_part decimals entry row again case ∷ []))
+
+unfoldable pub item_of : Decimals → List Entry → List OrderRow → Look → Html
+item_of decimals book rows look =
+    elim (slice_get rows look.order) [ None ↦ nothing | Some row ↦ item decimals (entry_of book row.order) row (row_at rows look.again) look.case ]
+
+-- an order is listed in the round of the urgent ones, or in the other one
+abbrev pub listed_item : Decimals → List Entry → List OrderRow → (urgent : Bool) → Look → Html
+listed_item decimals book rows urgent look = cond (is_listed urgent look.case) (item_of decimals book rows look) nothing
+
+abbrev pub items : Decimals → List Entry → List OrderRow → (urgent : Bool) → List Look → Html
+items decimals book rows urgent [] = nothing
+items decimals book rows urgent (look ∷ looks) = both (listed_item decimals book rows urgent look) (items decimals book rows urgent looks)
+
+abbrev pub items_or_none : Decimals → List Entry → List OrderRow → List Look → Html
+items_or_none decimals book rows [] = leaf P (codes "none") (codes "Nothing in this trace needs a look.")
+items_or_none decimals book rows (look ∷ looks) =
+    element Ol ((Class, codes "look") ∷ []) (both (items decimals book rows true (look ∷ looks)) (items decimals book rows false (look ∷ looks)))
+
+unfoldable pub look_heading : Html
+look_heading = element H2 ((Id, codes "look") ∷ []) (text (codes "Look at these"))
+
+-- the urgent ones first
+unfoldable pub looks_section : Decimals → DayValue → List Look → Html
+looks_section decimals books looks = both look_heading (items_or_none decimals books.book books.orders looks)
+
+-- ---- a row worked by hand
+
+abbrev an_end : OrderRow
+an_end = record { order = CloseDay; first = 10; last = 16; outcome = Unclear Line; approval = None }
+
+an_item : render (item Two None an_end None CloseUnclear)
+    ≡ codes "<li class=\"check\"><span class=\"sev\">Check</span><h3>End of day unclear</h3><span class=\"at\">lines 10-16</span>"
+    ++ codes "<p class=\"why\">The end of day is unclear: the connection was lost.</p>"
+    ++ codes "<p class=\"do\">If the terminal printed no end-of-day receipt, start the end of day again.</p></li>"
+unfolding account_part advice_part attribute_text digits end_tag escaped item lines_part reason start_tag title_part
+an_item = refl

@@ -1,0 +1,140 @@
+-- The tables of a page: the payments, and the reversals and other orders that move money.
+use Rattle.std.specs.Prelude.{◌≡◌, ℕ, ◌+◌, ◌==◌, ◌||◌, Bool, true, false, cond, List, [], ◌∷◌, codes, Option, Some, None, unwrap_or, refl}
+use Rattle.std.specs.Fmt.{decimal, digits}
+use Rattle.std.specs.Option.{option_or}
+use Rattle.hex.specs.Hex.{encode_with}
+use Rattle.zvt_page.specs.Html.{Html, nothing, both, element, class_of, leaf, all, attribute_text, end_tag, escaped, render, start_tag}
+use Rattle.zvt_page.specs.declared.elements.Attribute.TheVariants.{Class}
+use Rattle.zvt_page.specs.declared.elements.Element.TheVariants.{H2, P, Table, Tbody, Td, Thead, Tr}
+use Rattle.zvt_till.specs.declared.entries.Entry.{Entry}
+use Rattle.zvt_till.specs.declared.happenings.Sent.{Sent}
+use Rattle.zvt_till.specs.declared.happenings.Sent.TheVariants.{Pay}
+use Rattle.zvt_till.specs.declared.outcomes.Outcome.TheVariants.{Paid}
+use Rattle.zvt_report.specs.Amounts.{amount_text}
+use Rattle.zvt_report.specs.Day.{DayValue}
+use Rattle.zvt_report.specs.Kinds.{kind_of}
+use Rattle.zvt_report.specs.Objects.{amount_at, approved_of, entry_at, message_at, receipt_by, trace_by}
+use Rattle.zvt_report.specs.OtherTable.{money_name, reversal_name}
+use Rattle.zvt_report.specs.PageParts.{amount_cell, column, lines_cell, outcome_cell, receipt_cell, trace_cell}
+use Rattle.zvt_report.specs.PaymentTable.{explained, outcome_text, payment_text}
+use Rattle.zvt_report.specs.Places.{counted, no_counts, payments_in, place_after}
+use Rattle.zvt_report.specs.Tones.{outcome_tone, payment_tone, row_class}
+use Rattle.zvt_report.specs.declared.currencies.Decimals.{Decimals}
+use Rattle.zvt_report.specs.declared.currencies.Decimals.TheVariants.{Two}
+use Rattle.zvt_report.specs.declared.kinds.OrderKind.{OrderKind}
+use Rattle.zvt_report.specs.declared.kinds.OrderKind.TheVariants.{Reversal, OtherMoney}
+use Rattle.zvt_report.specs.declared.places.Counts.{Counts}
+use Rattle.zvt_report.specs.declared.places.Place.{Place}
+use Rattle.zvt_report.specs.declared.rows.OrderMessage.{OrderMessage}
+use Rattle.zvt_report.specs.declared.rows.OrderRow.{OrderRow}
+
+-- a table of this head and body
+abbrev pub table : (head body : Html) → Html
+table head body = element Table ((Class, codes "t") ∷ []) (both (element Thead [] (element Tr [] head)) (element Tbody [] body))
+
+-- ---- payments
+
+unfoldable pub payment_columns : Html
+payment_columns =
+    all (column (codes "i n") (codes "#") ∷ column (codes "n am") (codes "Amount") ∷ column (codes "ids") (codes "Trace") ∷ column (codes "rc") (codes "Receipt")
+    ∷ column (codes "oc") (codes "Outcome") ∷ column (codes "ln") (codes "Lines") ∷ [])
+
+unfoldable pub number_cell : (number : ℕ) → Html
+number_cell number = leaf Td (codes "i n") (decimal number)
+
+-- how a payment ended
+unfoldable pub payment_end : Option Entry → OrderRow → Html
+payment_end entry row = outcome_cell (payment_tone entry row.outcome) (payment_text entry row)
+
+unfoldable pub payment_row : Decimals → (number : ℕ) → Option Entry → OrderRow → (amount : ℕ) → Html
+payment_row decimals number entry row amount =
+    element Tr (class_of (row_class (payment_tone entry row.outcome)))
+    (all (number_cell number ∷ amount_cell decimals (Some amount) ∷ trace_cell (trace_by row.outcome row.approval) ∷ receipt_cell (receipt_by row.outcome row.approval)
+    ∷ payment_end entry row ∷ lines_cell row.first row.last ∷ []))
+
+-- the row of an order, if it is a payment
+unfoldable pub payment_of : Decimals → List Entry → Place → OrderRow → Sent → Html
+payment_of decimals book place row (Pay amount) = payment_row decimals (unwrap_or place.payment 0) (entry_at book place.entry) row amount
+payment_of decimals book place row _ = nothing
+
+abbrev pub payment_rows : Decimals → List Entry → Counts → List OrderRow → Html
+payment_rows decimals book c [] = nothing
+payment_rows decimals book c (row ∷ rows) = both (payment_of decimals book (place_after c row) row row.order) (payment_rows decimals book (counted c row) rows)
+
+unfoldable pub payments_table : Decimals → List Entry → List OrderRow → Html
+payments_table decimals book rows = table payment_columns (payment_rows decimals book no_counts rows)
+
+abbrev pub payments_or_none : Decimals → List Entry → List OrderRow → Html
+payments_or_none decimals book rows =
+    cond (payments_in rows == 0) (leaf P (codes "none") (codes "There is no payment in this trace.")) (payments_table decimals book rows)
+
+unfoldable pub payments_section : Decimals → DayValue → Html
+payments_section decimals books = both (leaf H2 [] (codes "Payments")) (payments_or_none decimals books.book books.orders)
+
+-- ---- reversals and other orders
+
+unfoldable pub other_columns : Html
+other_columns =
+    all (column (codes "n am") (codes "Amount") ∷ column (codes "cd") (codes "Order") ∷ column (codes "rc") (codes "Receipt")
+    ∷ column (codes "oc") (codes "Outcome") ∷ column (codes "ln") (codes "Lines") ∷ [])
+
+-- how another order ended
+unfoldable pub other_end : OrderRow → Html
+other_end row = outcome_cell (outcome_tone row.outcome) (outcome_text row.order row.outcome)
+
+unfoldable pub other_row : Decimals → (amount : Option ℕ) → (receipt : Option (List ℕ)) → (name : List ℕ) → OrderRow → Html
+other_row decimals amount receipt name row =
+    element Tr (class_of (row_class (outcome_tone row.outcome)))
+    (all (amount_cell decimals amount ∷ leaf Td (codes "cd") name ∷ receipt_cell receipt ∷ other_end row ∷ lines_cell row.first row.last ∷ []))
+
+-- If the payment of a reversal is not in the trace, the amount is the one that the message names.
+abbrev pub reversal_row : Decimals → List Entry → Place → OrderRow → OrderMessage → Html
+reversal_row decimals book place row message = other_row decimals (option_or (amount_at book place.entry) message.amount) message.receipt (reversal_name row.order) row
+
+abbrev pub money_row : Decimals → OrderRow → OrderMessage → Html
+money_row decimals row message = other_row decimals (option_or message.amount (approved_of row)) message.receipt (money_name message.high message.low) row
+
+-- the row of an order, if it moves money and is no payment
+unfoldable pub other_of : OrderKind → Decimals → List Entry → Place → OrderRow → OrderMessage → Html
+other_of Reversal decimals book place row message = reversal_row decimals book place row message
+other_of OtherMoney decimals book place row message = money_row decimals row message
+other_of _ decimals book place row message = nothing
+
+abbrev pub kind_at : List OrderMessage → (place : ℕ) → OrderRow → OrderKind
+kind_at messages place row = kind_of row.order (message_at messages place).high (message_at messages place).low
+
+abbrev pub other_rows : Decimals → List Entry → List OrderMessage → Counts → List OrderRow → Html
+other_rows decimals book messages c [] = nothing
+other_rows decimals book messages c (row ∷ rows) =
+    both (other_of (kind_at messages c.orders row) decimals book (place_after c row) row (message_at messages c.orders)) (other_rows decimals book messages (counted c row) rows)
+
+abbrev pub is_listed : OrderKind → Bool
+is_listed Reversal = true
+is_listed OtherMoney = true
+is_listed _ = false
+
+-- whether the table has a row; the first order has this place
+abbrev pub has_rows : List OrderMessage → (place : ℕ) → List OrderRow → Bool
+has_rows messages place [] = false
+has_rows messages place (row ∷ rows) = is_listed (kind_at messages place row) || has_rows messages (place + 1) rows
+
+unfoldable pub others_table : Decimals → List Entry → List OrderMessage → List OrderRow → Html
+others_table decimals book messages rows = table other_columns (other_rows decimals book messages no_counts rows)
+
+-- the table under its heading
+unfoldable pub headed_table : Decimals → List Entry → List OrderMessage → List OrderRow → Html
+headed_table decimals book messages rows = both (leaf H2 [] (codes "Reversals and other orders that move money")) (others_table decimals book messages rows)
+
+-- the table, if it has a row
+unfoldable pub others_section : Decimals → DayValue → List OrderMessage → Html
+others_section decimals books messages = cond (has_rows messages 0 books.orders) (headed_table decimals books.book messages books.orders) nothing
+
+-- ---- a row worked by hand
+
+abbrev a_payment : OrderRow
+a_payment = record { order = Pay 1234; first = 12; last = 38; outcome = Paid 17 (Some (0 ∷ 5 ∷ [])); approval = None }
+
+a_row : render (payment_row Two 1 None a_payment 1234)
+    ≡ codes "<tr><td class=\"i n\">1</td><td class=\"n am\">12.34</td><td class=\"ids\">000017</td><td class=\"rc\">0005</td><td class=\"oc\"><span class=\"dot c-ok\">paid</span></td><td class=\"ln\">12-38</td></tr>"
+unfolding amount_cell amount_text attribute_text digits encode_with end_tag escaped explained lines_cell number_cell outcome_cell outcome_text payment_end payment_row payment_text receipt_cell start_tag trace_cell
+a_row = refl

@@ -1,0 +1,159 @@
+//! Writes the report of a trace as a page.
+ghost use Rattle.std.specs.Prelude.{◌≡◌, ◌++◌, OnOk};
+ghost use Rattle.zvt_page.specs.Html.{render};
+ghost use Rattle.zvt_report.specs.Page.{amounts_in, heading, page_foot, page_head, page_of, report_page, sections};
+ghost use Rattle.zvt_report.specs.Page.{skip_link, unit_words};
+
+use crate::books::DayBooks;
+use crate::cases::Look;
+use crate::currencies::{Money, decimals_of, money_of};
+use crate::page_cards::cards;
+use crate::page_looks::looks_section;
+use crate::page_others::others_section;
+use crate::page_tables::payments_section;
+use crate::rows::OrderMessage;
+use crate::summary::unit;
+use crate::text::footer;
+use std::alloc::{AllocError, Global};
+use zvt_bcd::Currency;
+use zvt_page::{
+    Attribute, Element, document_end, document_start, end, escaped, leaf, start, start_both,
+    start_with,
+};
+use zvt_text::Text;
+use zvt_trace::Tally;
+
+/// Returns the heading of a page about the file of this name. The name is empty if there is no file.
+fn heading(name: &[u8]) -> &[u8]
+    ensures { result.now ≡ heading name.now }
+{
+    if name.is_empty() {
+        b"Report of a trace"
+    } else {
+        name
+    }
+}
+
+/// Returns the words before the unit of the amounts.
+fn unit_words(money: &Option<Money>) -> &'static [u8]
+    ensures { result.now ≡ unit_words money.now }
+{
+    match money {
+        Some(_) => b"Amounts in",
+        None => b"Amounts",
+    }
+}
+
+/// Writes in which currency the amounts are.
+fn amounts_in(text: &mut Text, money: &Option<Money>) -> Result<(), AllocError>
+    ensures { OnOk result (text.new ≡ text.old ++ amounts_in money.now) }
+{
+    text.word(unit_words(money))?;
+    unit(text, money)
+}
+
+/// Writes the name of the file, and in which currency the amounts are.
+#[tactic(auto, unfolding(crate::specs::Page::page_head))]
+fn page_head(
+    page: &mut Text,
+    note: &mut Text,
+    name: &[u8],
+    money: &Option<Money>,
+) -> Result<(), AllocError>
+    ensures { OnOk result (page.new ≡ page.old ++ render (page_head name.now money.now)) }
+{
+    start(page, Element::Header)?;
+    leaf(page, Element::H1, b"", heading(name))?;
+    note.clear();
+    amounts_in(note, money)?;
+    leaf(page, Element::P, b"meta", note.bytes())?;
+    end(page, Element::Header)
+}
+
+/// Writes how much of the trace was read.
+#[tactic(auto, unfolding(crate::specs::Page::page_foot))]
+fn page_foot(page: &mut Text, note: &mut Text, tally: Tally) -> Result<(), AllocError>
+    ensures { OnOk result (page.new ≡ page.old ++ render (page_foot tally)) }
+{
+    start(page, Element::Footer)?;
+    note.clear();
+    footer(note, tally)?;
+    leaf(page, Element::P, b"", note.bytes())?;
+    end(page, Element::Footer)
+}
+
+/// Writes a link to the orders that a person should look at, for readers without a mouse.
+#[tactic(auto, unfolding(crate::specs::Page::skip_link))]
+fn skip_link(page: &mut Text) -> Result<(), AllocError>
+    ensures { OnOk result (page.new ≡ page.old ++ render skip_link) }
+{
+    start_both(page, Element::A, b"skip", Attribute::Href, b"#look")?;
+    escaped(page, b"Skip to what needs a look")?;
+    end(page, Element::A)
+}
+
+/// Writes the sections of a page.
+#[tactic(auto, unfolding(crate::specs::Page::sections))]
+fn sections(
+    page: &mut Text,
+    note: &mut Text,
+    name: &[u8],
+    money: &Option<Money>,
+    tally: Tally,
+    books: &DayBooks,
+    messages: &[OrderMessage],
+    looks: &[Look],
+) -> Result<(), AllocError>
+    ensures { OnOk result (page.new ≡ page.old
+        ++ render (sections name.now money.now tally books.now messages.now looks.now)) }
+{
+    let decimals = decimals_of(money);
+    page_head(page, note, name, money)?;
+    cards(page, note, decimals, books, messages)?;
+    looks_section(page, note, decimals, books, looks)?;
+    payments_section(page, note, decimals, books)?;
+    others_section(page, note, decimals, books, messages)?;
+    page_foot(page, note, tally)
+}
+
+/// Writes the body of a page. The texts are put together in `note`, whose own text is lost.
+#[tactic(auto, unfolding(crate::specs::Page::page_of))]
+fn page_of(
+    page: &mut Text,
+    note: &mut Text,
+    name: &[u8],
+    money: &Option<Money>,
+    tally: Tally,
+    books: &DayBooks,
+    messages: &[OrderMessage],
+    looks: &[Look],
+) -> Result<(), AllocError>
+    ensures { OnOk result (page.new ≡ page.old
+        ++ render (page_of name.now money.now tally books.now messages.now looks.now)) }
+{
+    skip_link(page)?;
+    start_with(page, Element::Main, Attribute::Class, b"page")?;
+    sections(page, note, name, money, tally, books, messages, looks)?;
+    end(page, Element::Main)
+}
+
+/// Writes the report of the trace in the file of this name, as a page. Fails only if memory runs out.
+pub(crate) fn write(
+    alloc: Global,
+    page: &mut Text,
+    name: &[u8],
+    tally: Tally,
+    currency: Option<Currency>,
+    books: &DayBooks,
+    messages: &[OrderMessage],
+    looks: &[Look],
+) -> Result<(), AllocError>
+    ensures { OnOk result (page.new ≡ page.old
+        ++ report_page name.now tally currency books.now messages.now looks.now) }
+{
+    let mut note = Text::new(alloc);
+    let money = money_of(currency);
+    document_start(page, heading(name))?;
+    page_of(page, &mut note, name, &money, tally, books, messages, looks)?;
+    document_end(page)
+}

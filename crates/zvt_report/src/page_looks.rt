@@ -1,0 +1,236 @@
+//! Writes the orders that a person should look at to a page.
+ghost use Rattle.std.specs.Prelude.{◌≡◌, ◌++◌, OnOk};
+ghost use Rattle.zvt_page.specs.Html.{render};
+ghost use Rattle.zvt_report.specs.PageLooks.{account_part, advice_part, item, item_of, items, items_or_none};
+ghost use Rattle.zvt_report.specs.PageLooks.{lines_part, listed_item, look_heading, looks_section, title_part};
+ghost use Rattle.zvt_report.specs.PageLooks.{weight_class, weight_word};
+
+use crate::books::DayBooks;
+use crate::cases::{Case, Look, Weight};
+use crate::currencies::Decimals;
+use crate::look_list::{entry_of, is_listed, row_at};
+use crate::page_parts::from_to;
+use crate::rows::OrderRow;
+use crate::sentences::{account, advice, title};
+use std::alloc::AllocError;
+use zvt_page::{Attribute, Element, end, escaped, leaf, start_with};
+use zvt_text::Text;
+use zvt_till::Entry;
+
+/// Returns the class of an order of this weight, which gives it a shape and a colour.
+fn weight_class(weight: Weight) -> &'static [u8]
+    ensures { result.now ≡ weight_class weight }
+{
+    match weight {
+        Weight::Act => b"act",
+        Weight::Check => b"check",
+    }
+}
+
+/// Returns the word for a weight.
+fn weight_word(weight: Weight) -> &'static [u8]
+    ensures { result.now ≡ weight_word weight }
+{
+    match weight {
+        Weight::Act => b"Act",
+        Weight::Check => b"Check",
+    }
+}
+
+/// Writes the title of an order.
+#[tactic(auto, unfolding(crate::specs::PageLooks::title_part))]
+fn title_part(
+    page: &mut Text,
+    note: &mut Text,
+    decimals: Decimals,
+    entry: &Option<Entry>,
+    row: &OrderRow,
+    again: &Option<OrderRow>,
+    case: Case,
+) -> Result<(), AllocError>
+    ensures { OnOk result (page.new ≡ page.old ++ render (title_part decimals entry.now row.now again.now case)) }
+{
+    note.clear();
+    title(note, decimals, entry, row, again, case)?;
+    leaf(page, Element::H3, b"", note.bytes())
+}
+
+/// Writes the lines of an order.
+#[tactic(auto, unfolding(crate::specs::PageLooks::lines_part))]
+fn lines_part(page: &mut Text, note: &mut Text, first: u64, last: u64) -> Result<(), AllocError>
+    ensures { OnOk result (page.new ≡ page.old ++ render (lines_part first last)) }
+{
+    note.clear();
+    note.word(b"lines ")?;
+    from_to(note, first, last)?;
+    leaf(page, Element::Span, b"at", note.bytes())
+}
+
+/// Writes what happened to an order.
+#[tactic(auto, unfolding(crate::specs::PageLooks::account_part))]
+fn account_part(
+    page: &mut Text,
+    note: &mut Text,
+    decimals: Decimals,
+    entry: &Option<Entry>,
+    row: &OrderRow,
+    again: &Option<OrderRow>,
+    case: Case,
+) -> Result<(), AllocError>
+    ensures { OnOk result (page.new ≡ page.old ++ render (account_part decimals entry.now row.now again.now case)) }
+{
+    note.clear();
+    account(note, decimals, entry, row, again, case)?;
+    leaf(page, Element::P, b"why", note.bytes())
+}
+
+/// Writes what to do about an order.
+#[tactic(auto, unfolding(crate::specs::PageLooks::advice_part))]
+fn advice_part(
+    page: &mut Text,
+    note: &mut Text,
+    decimals: Decimals,
+    entry: &Option<Entry>,
+    row: &OrderRow,
+    again: &Option<OrderRow>,
+    case: Case,
+) -> Result<(), AllocError>
+    ensures { OnOk result (page.new ≡ page.old ++ render (advice_part decimals entry.now row.now again.now case)) }
+{
+    note.clear();
+    advice(note, decimals, entry, row, again, case)?;
+    leaf(page, Element::P, b"do", note.bytes())
+}
+
+/// Writes an order in this case.
+#[tactic(auto, unfolding(crate::specs::PageLooks::item))]
+fn item(
+    page: &mut Text,
+    note: &mut Text,
+    decimals: Decimals,
+    entry: &Option<Entry>,
+    row: &OrderRow,
+    again: &Option<OrderRow>,
+    case: Case,
+) -> Result<(), AllocError>
+    ensures { OnOk result (page.new ≡ page.old ++ render (item decimals entry.now row.now again.now case)) }
+{
+    let weight = case.weight();
+    start_with(page, Element::Li, Attribute::Class, weight_class(weight))?;
+    leaf(page, Element::Span, b"sev", weight_word(weight))?;
+    title_part(page, note, decimals, entry, row, again, case)?;
+    lines_part(page, note, row.first, row.last)?;
+    account_part(page, note, decimals, entry, row, again, case)?;
+    advice_part(page, note, decimals, entry, row, again, case)?;
+    end(page, Element::Li)
+}
+
+/// Writes a look.
+#[tactic(auto, unfolding(crate::specs::PageLooks::item_of))]
+fn item_of(
+    page: &mut Text,
+    note: &mut Text,
+    decimals: Decimals,
+    book: &[Entry],
+    rows: &[OrderRow],
+    look: &Look,
+) -> Result<(), AllocError>
+    ensures { OnOk result (page.new ≡ page.old ++ render (item_of decimals book.now rows.now look.now)) }
+{
+    let Some(row) = rows.get(look.order) else {
+        return Ok(());
+    };
+    let entry = entry_of(book, &row.order);
+    let again = row_at(rows, look.again);
+    item(page, note, decimals, &entry, row, &again, look.case)
+}
+
+/// Writes a look if it is listed in this round.
+fn listed_item(
+    page: &mut Text,
+    note: &mut Text,
+    decimals: Decimals,
+    book: &[Entry],
+    rows: &[OrderRow],
+    urgent: bool,
+    look: &Look,
+) -> Result<(), AllocError>
+    ensures { OnOk result (page.new ≡ page.old
+        ++ render (listed_item decimals book.now rows.now urgent look.now)) }
+{
+    if !is_listed(urgent, look.case) {
+        return Ok(());
+    }
+    item_of(page, note, decimals, book, rows, look)
+}
+
+/// Writes the looks of one round.
+fn items(
+    page: &mut Text,
+    note: &mut Text,
+    decimals: Decimals,
+    book: &[Entry],
+    rows: &[OrderRow],
+    urgent: bool,
+    looks: &[Look],
+) -> Result<(), AllocError>
+    ensures { OnOk result (page.new ≡ page.old ++ render (items decimals book.now rows.now urgent looks.now)) }
+{
+    let mut rest = looks;
+    'looks: while let [look, later @ ..] = rest {
+        listed_item(page, note, decimals, book, rows, urgent, look)?;
+        rest = later;
+    }
+    Ok(())
+}
+
+/// Writes the looks, the urgent ones first, or that there are none.
+fn items_or_none(
+    page: &mut Text,
+    note: &mut Text,
+    decimals: Decimals,
+    book: &[Entry],
+    rows: &[OrderRow],
+    looks: &[Look],
+) -> Result<(), AllocError>
+    ensures { OnOk result (page.new ≡ page.old ++ render (items_or_none decimals book.now rows.now looks.now)) }
+{
+    if looks.is_empty() {
+        return leaf(
+            page,
+            Element::P,
+            b"none",
+            b"Nothing in this trace needs a look.",
+        );
+    }
+    start_with(page, Element::Ol, Attribute::Class, b"look")?;
+    items(page, note, decimals, book, rows, true, looks)?;
+    items(page, note, decimals, book, rows, false, looks)?;
+    end(page, Element::Ol)
+}
+
+/// Writes the heading of the looks.
+#[tactic(auto, unfolding(crate::specs::PageLooks::look_heading))]
+fn look_heading(page: &mut Text) -> Result<(), AllocError>
+    ensures { OnOk result (page.new ≡ page.old ++ render look_heading) }
+{
+    start_with(page, Element::H2, Attribute::Id, b"look")?;
+    escaped(page, b"Look at these")?;
+    end(page, Element::H2)
+}
+
+/// Writes the section of the looks.
+#[tactic(auto, unfolding(crate::specs::PageLooks::looks_section))]
+pub(crate) fn looks_section(
+    page: &mut Text,
+    note: &mut Text,
+    decimals: Decimals,
+    books: &DayBooks,
+    looks: &[Look],
+) -> Result<(), AllocError>
+    ensures { OnOk result (page.new ≡ page.old ++ render (looks_section decimals books.now looks.now)) }
+{
+    look_heading(page)?;
+    let book = books.book.as_slice();
+    items_or_none(page, note, decimals, book, books.orders.as_slice(), looks)
+}
