@@ -191,13 +191,13 @@ def text_of(said):
     return "unclear {amount} {cause}".format(**said["unclear"]) if "unclear" in said else f"total {said['total']}"
 
 
-def main():
+def main(model):
     for path in sys.argv[1:]:
         with open(path, "rb") as file:
-            for said in Audit(file.read()).objects():
+            for said in model(file.read()).objects():
                 print(json_model.json_of(said))
     return 0
 
 
 if __name__ == "__main__":
-    sys.exit(main())
+    sys.exit(main(Audit))

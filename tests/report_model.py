@@ -275,13 +275,5 @@ def said(**members):
     return {name: members[name] for name in sorted(members) if members[name] is not None}
 
 
-def main():
-    for path in sys.argv[1:]:
-        with open(path, "rb") as file:
-            for one in Report(file.read()).objects():
-                print(json_model.json_of(one))
-    return 0
-
-
 if __name__ == "__main__":
-    sys.exit(main())
+    sys.exit(audit_model.main(Report))

@@ -75,7 +75,7 @@ step_text decimals book rows urgent listed look = cond (is_listed urgent look.ca
 abbrev pub listed_after : (urgent : Bool) → (listed : ℕ) → Look → ℕ
 listed_after urgent listed look = cond (is_listed urgent look.case) (listed + 1) listed
 
--- after so many that are listed already
+-- the looks of one round; their numbers follow the number of looks listed before
 abbrev pub looks_from : Decimals → List Entry → List OrderRow → (urgent : Bool) → (listed : ℕ) → List Look → List ℕ
 looks_from decimals book rows urgent listed [] = []
 looks_from decimals book rows urgent listed (look ∷ looks) =

@@ -38,7 +38,7 @@ unclear_line money book unclear =
     codes "Unclear     " ++ amount_column (decimals_of money) [] (unclear_total unclear) ++ codes "  " ++ count_text (length unclear) (codes "payment") ++ codes ", "
     ++ count_text (unclear_reversals book) (codes "reversal") ++ 10 ∷ []
 
--- the net total, of which booked payments and of which reversals it consists, and what is in no total
+-- the net total, the booked payments and the reversals that make it up, and what is in no total
 abbrev pub summary_text : Option Money → DayValue → List ℕ
 summary_text money books =
     net_line money books.book ++ booked_line money books.book ++ taken_back_line money books.book ++ unclear_line money books.book books.unclear

@@ -17,7 +17,7 @@ letter_text indent free letter later = cond (letter == 32) (cond (nat_lt (word_l
 abbrev pub free_after : (width free letter : ℕ) → (later : List ℕ) → ℕ
 free_after width free letter later = cond (letter == 32) (cond (nat_lt (word_length later) free) (free - 1) width) (free - 1)
 
--- the sentence in lines of this width after their indentation, the first of which has so many columns left
+-- the sentence in lines that are `width` columns wide after their indentation; `free` columns are left in the first
 abbrev pub wrapped_from : (indent width free : ℕ) → List ℕ → List ℕ
 wrapped_from indent width free [] = []
 wrapped_from indent width free (letter ∷ later) = letter_text indent free letter later ++ wrapped_from indent width (free_after width free letter later) later
@@ -31,8 +31,8 @@ wrapped indent sentence = wrapped_from indent (76 - indent) (76 - indent) senten
 abbrev pub is_no_end : ℕ → Bool
 is_no_end letter = not (letter == 10)
 
--- The lines with a blank between them: each end of a line and the indentation after it are read as a blank. Of an indentation,
--- so many blanks are left to be read.
+-- The lines with a blank between them: each end of a line and the indentation after it are read as a blank. `left` blanks of an
+-- indentation are still to be read.
 abbrev pub unwrapped : (indent left : ℕ) → List ℕ → List ℕ
 unwrapped indent left [] = []
 unwrapped indent zero (letter ∷ text) = cond (letter == 10) (32 ∷ unwrapped indent indent text) (letter ∷ unwrapped indent 0 text)
@@ -42,11 +42,12 @@ unwrapped indent (suc left) (letter ∷ text) = unwrapped indent left text
 abbrev pub BreaksOnlyAtBlanks : Type 0
 BreaksOnlyAtBlanks = (indent : ℕ) (sentence : List ℕ) → list_all is_no_end sentence ≡ true → unwrapped indent 0 (wrapped indent sentence) ≡ sentence
 
--- a line that has used so many columns is no wider, unless it has no blank
+-- a line with `used` columns is not too wide, or has no blank
 abbrev pub line_fits : (width used : ℕ) → (spaced : Bool) → Bool
 line_fits width used spaced = not spaced || nat_le used width
 
--- Each line fits. The line that is read has used so many columns after its indentation, of which so many blanks are left to be read.
+-- Each line fits. The current line has `used` columns after its indentation, and `left` blanks of the indentation are still to be
+-- read.
 abbrev pub lines_fit : (indent width left used : ℕ) → (spaced : Bool) → List ℕ → Bool
 lines_fit indent width left used spaced [] = line_fits width used spaced
 lines_fit indent width zero used spaced (letter ∷ text) =

@@ -1,19 +1,18 @@
 -- What is written of a report.
-use Rattle.std.specs.Prelude.{◌≡◌, ℕ, ◌<◌, ◌≤◌, Bool, true, false, List, length, filter, Option, Result, Ok, Err}
+use Rattle.std.specs.Prelude.{◌≡◌, ℕ, ◌<◌, ◌≤◌, List, length, Option, Result, Ok, Err}
 use Rattle.std.specs.Io.KnownBytes.{Appends, Keeps}
 use Rattle.zvt_grammar.specs.Reading.{Reading}
 use Rattle.zvt_trace.specs.Written.{AppendsPrefix, limit}
 use Rattle.zvt_trace.specs.declared.fault.TraceFault.{TraceFault}
 use Rattle.zvt_trace.specs.declared.fault.TraceFault.TheVariants.{Memory, Read, TooLong, Trace, Write}
 use Rattle.zvt_trace.specs.declared.listener.Scope.{Scope}
-use Rattle.zvt_report.specs.Looks.{looks, weight_of}
+use Rattle.zvt_report.specs.LookList.{urgent_count}
+use Rattle.zvt_report.specs.Looks.{looks}
 use Rattle.zvt_report.specs.Objects.{report_json}
 use Rattle.zvt_report.specs.Reports.{AnswersReport}
 use Rattle.zvt_report.specs.Page.{report_page}
 use Rattle.zvt_report.specs.TextReport.{report_text}
 use Rattle.zvt_report.specs.declared.cases.Look.{Look}
-use Rattle.zvt_report.specs.declared.cases.Weight.{Weight}
-use Rattle.zvt_report.specs.declared.cases.Weight.TheVariants.{Act, Check}
 use Rattle.zvt_report.specs.declared.form.ReportForm.{ReportForm}
 use Rattle.zvt_report.specs.declared.form.ReportForm.TheVariants.{Text, Json, Page}
 use Rattle.zvt_report.specs.declared.report.Report.{Report}
@@ -33,19 +32,8 @@ written form name report = report_in form name report (looks report.books.book r
 
 -- ---- the summary
 
-abbrev pub weighs_act : Weight → Bool
-weighs_act Act = true
-weighs_act Check = false
-
--- someone must act on it
-abbrev pub is_act : Look → Bool
-is_act look = weighs_act (weight_of look.case)
-
-abbrev pub acts_in : List Look → ℕ
-acts_in found = length (filter is_act found)
-
 abbrev pub summed_up : Report → ReportSummary
-summed_up report = record { tally = report.tally; acts = acts_in (looks report.books.book report.books.orders); passed = report.passed }
+summed_up report = record { tally = report.tally; acts = urgent_count (looks report.books.book report.books.orders); passed = report.passed }
 
 -- ---- the answer
 

@@ -1,4 +1,4 @@
-//! What is left of a day that has ended.
+//! The orders and the book of a day that has ended.
 use crate::rows::OrderRow;
 use std::marker::Model;
 use zvt_bcd::Amount;

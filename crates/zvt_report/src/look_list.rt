@@ -182,7 +182,7 @@ fn step(
     Ok(listed + 1)
 }
 
-/// Writes the looks of one round, after so many that are listed already.
+/// Writes the looks of one round. Their numbers follow `before`.
 fn looks_from(
     text: &mut Text,
     note: &mut Text,
@@ -207,7 +207,7 @@ fn looks_from(
 }
 
 /// Returns the number of urgent looks.
-fn urgent_count(looks: &[Look]) -> usize
+pub(crate) fn urgent_count(looks: &[Look]) -> usize
     ensures { result ≡ urgent_count looks.now }
 {
     looks.iter().filter(|look| is_urgent(look.case)).count()

@@ -181,7 +181,7 @@ pub(crate) struct Member {
     pub(crate) value: Value,
 }
 
-/// Writes the line of an object with those of these members that have a value.
+/// Writes the line of an object with the members that have a value.
 pub(crate) fn write_object(
     text: &mut Text,
     object: Object,

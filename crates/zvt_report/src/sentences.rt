@@ -67,7 +67,7 @@ fn approved_account(
     again_part(text, decimals, asked, again)
 }
 
-/// Writes what happened to a payment of which another amount was approved.
+/// Writes what happened to a payment if the terminal approved another amount.
 fn other_amount_account(
     text: &mut Text,
     decimals: Decimals,
@@ -92,7 +92,7 @@ fn other_amount_account(
     again_part(text, decimals, asked, again)
 }
 
-/// Writes what happened to a payment that is unclear, and of which no approval was heard.
+/// Writes what happened to an unclear payment without an approval.
 fn unclear_account(
     text: &mut Text,
     decimals: Decimals,
@@ -226,7 +226,7 @@ fn approved_advice(
     }
 }
 
-/// Writes what to do about a payment of which another amount was approved.
+/// Writes what to do about a payment if the terminal approved another amount.
 fn other_amount_advice(
     text: &mut Text,
     decimals: Decimals,
@@ -241,7 +241,7 @@ fn other_amount_advice(
     text.word(b", add that amount to the day by hand, or take it back and charge again.")
 }
 
-/// Writes what to do about a payment that is unclear, and of which no approval was heard.
+/// Writes what to do about an unclear payment without an approval.
 fn unclear_advice(
     text: &mut Text,
     decimals: Decimals,

@@ -16,7 +16,8 @@ fn word_length(text: &[u8]) -> usize
     text.iter().take_while(|letter| **letter != b' ').count()
 }
 
-/// Writes a letter of a sentence, of which these are left, and returns the columns that are left in the line.
+/// Writes the next letter of a sentence, before `later`, in a line with `free` columns left. Returns how many columns are
+/// left after it.
 fn put(
     text: &mut Text,
     indent: usize,

@@ -4,10 +4,11 @@ ghost use Rattle.std.specs.Io.KnownBytes.{Consumes};
 ghost use Rattle.zvt_grammar.specs.Lengths.{reading_of};
 ghost use Rattle.zvt_trace.specs.Written.{limit};
 ghost use Rattle.zvt_report.specs.Written.{AnswersFound, AnswersReadWritten, AnswersWritten};
-ghost use Rattle.zvt_report.specs.Written.{acts_in, is_act, report_in};
+ghost use Rattle.zvt_report.specs.Written.{report_in};
 
-use crate::cases::{Look, Weight, looks};
+use crate::cases::{Look, looks};
 use crate::form::ReportForm;
+use crate::look_list::urgent_count;
 use crate::report::{Report, report_trace};
 use crate::{objects, page, text};
 use std::alloc::{AllocError, Global};
@@ -87,7 +88,7 @@ fn write_found<W: Sink>(
     writer.write_all(text.bytes())?;
     Ok(ReportSummary {
         tally: report.tally,
-        acts: acts_in(looks.as_slice()),
+        acts: urgent_count(looks.as_slice()) as u64,
         passed: report.passed,
     })
 }
@@ -135,18 +136,4 @@ fn text_of(
         )?,
     }
     Ok(text)
-}
-
-/// Whether someone must act on this case.
-fn is_act(look: &Look) -> bool
-    ensures { result ≡ is_act look.now }
-{
-    matches!(look.case.weight(), Weight::Act)
-}
-
-/// Returns the number of cases that someone must act on.
-fn acts_in(looks: &[Look]) -> u64
-    ensures { result ≡ acts_in looks.now }
-{
-    looks.iter().filter(|look| is_act(look)).count() as u64
 }

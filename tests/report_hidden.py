@@ -1,0 +1,164 @@
+#!/usr/bin/env python3
+"""Replaces the bytes of traces that a report does not show, and compares the reports.
+
+    tests/report_hidden.py [PROGRAM]
+
+PROGRAM is the one that `rt ci` built, unless another is named. The traces are those of examples/, tests/data/report and
+tests/data/real. Hidden are passwords, the contents of all fields but a few, the contents of objects, printed texts, and the data
+of acknowledgements and of messages that the profile does not name. The text and the JSON of a report stay the same, byte for
+byte, whatever these bytes are. The status is 1 if a report differs, or if a byte that a report shows makes no difference.
+"""
+import random
+import subprocess
+import sys
+
+import json_model
+from common import EXAMPLES, TOP, Checks, program
+from report_model import MOVES_MONEY, WITH_PASSWORD
+
+PROGRAM = program(sys.argv[1:])
+SEED, ROUNDS, PASSWORD = 20261130, 3, 3
+# A report shows, or judges by, the result code, the amount, the numbers of a payment, and the currency.
+SHOWN = {0x04, 0x0B, 0x27, 0x37, 0x49, 0x87}
+AMOUNT = 0x04
+LENGTH_DIGITS = {"LL": 2, "LLL": 3}
+check = Checks()
+
+
+def length_at(data, at):
+    """The length of objects at this place, and where it ends."""
+    first = data[at]
+    if first < 0x80:
+        return first, at + 1
+    size = first - 0x80
+    return int.from_bytes(data[at + 1:at + 1 + size], "big"), at + 1 + size
+
+
+def objects(data, at, end):
+    """The places of the contents of objects that hold no others."""
+    while at < end:
+        tag = at
+        at += 1
+        if data[tag] & 0x1F == 0x1F:
+            while data[at] & 0x80:
+                at += 1
+            at += 1
+        size, at = length_at(data, at)
+        yield from objects(data, at, at + size) if data[tag] & 0x20 else range(at, at + size)
+        at += size
+
+
+def fields(data, at):
+    """The BMP of each field, with the places of its content; of a container, with those of its objects."""
+    while at < len(data):
+        bmp, shape = data[at], json_model.FIELDS[data[at]][1]
+        at += 1
+        if shape == "TLV":
+            size, at = length_at(data, at)
+            places = list(objects(data, at, at + size))
+        else:
+            digits = LENGTH_DIGITS.get(shape, 0)
+            size = int("".join(str(byte & 15) for byte in data[at:at + digits])) if digits else shape
+            at += digits
+            places = list(range(at, at + size))
+        yield bmp, places
+        at += size
+
+
+def hidden(data):
+    """The places of a message that a report does not show, each with whether only digits may stand there."""
+    control, start = data[:2].hex().upper(), 5 if data[2] == 0xFF else 3
+    kind, first, has_fields = json_model.KINDS.get(control, ("Other", 0, False))
+    if control in MOVES_MONEY:
+        first, has_fields = PASSWORD if control in WITH_PASSWORD else 0, True
+    password = {"0600", "0630", "0650"} | WITH_PASSWORD
+    found = [(at, False) for at in range(start, start + PASSWORD)] if control in password and len(data) >= start + PASSWORD else []
+    if not has_fields:
+        return found + [(at, False) for at in range(start + (kind == "Abort"), len(data))]
+    if control == "0600":
+        first += 2
+    for bmp, places in fields(data, start + first):
+        if bmp not in SHOWN:
+            found += [(at, bmp in json_model.DIGITS) for at in places]
+    return found
+
+
+def shown(data):
+    """The last bytes of the amounts of a message."""
+    if data[:2].hex().upper() not in ("0601", "040F"):
+        return []
+    return [(places[-1], True) for bmp, places in fields(data, 5 if data[2] == 0xFF else 3) if bmp == AMOUNT]
+
+
+class Trace:
+    """A trace, its bytes by line, and the whole messages in them."""
+
+    def __init__(self, text):
+        self.rows, self.messages, self.pieces = text.splitlines(), [], {}
+        self.begin()
+        for at, row in enumerate(self.rows):
+            if row[:1] == b"!":
+                self.begin()
+            elif row[:1] in self.held:
+                self.pieces[at] = bytearray(json_model.bytes_of(at + 1, row))
+                self.held[row[:1]] += [(at, place) for place in range(len(self.pieces[at]))]
+                self.take(row[:1])
+
+    def begin(self):
+        self.held = {b">": [], b"<": []}
+
+    def take(self, side):
+        """Takes the whole messages off what is held of a side."""
+        held = self.held[side]
+        while len(held) >= 3:
+            data = self.data(held)
+            if data[2] == 0xFF and len(data) < 5:
+                return
+            size = 5 + int.from_bytes(data[3:5], "little") if data[2] == 0xFF else 3 + data[2]
+            if len(held) < size:
+                return
+            self.messages.append(held[:size])
+            del held[:size]
+
+    def data(self, places):
+        return bytes(self.pieces[at][place] for at, place in places)
+
+    def replaced(self, chance, found):
+        """The trace with other bytes at the places that are found in its messages, and how many there are."""
+        other, count = {at: bytearray(piece) for at, piece in self.pieces.items()}, 0
+        for places in self.messages:
+            try:
+                for index, is_digits in found(self.data(places)):
+                    at, place = places[index]
+                    other[at][place] = int(f"{chance.randrange(100):02}", 16) if is_digits else chance.randrange(256)
+                    count += 1
+            except (IndexError, KeyError, ValueError):
+                continue
+        rows = [row[:1] + b" " + other[at].hex().encode() if at in other else row for at, row in enumerate(self.rows)]
+        return b"\n".join(rows) + b"\n", count
+
+
+def reports(trace):
+    found = [subprocess.run([PROGRAM, "report", *words], input=trace, capture_output=True, timeout=60) for words in ([], ["--json"])]
+    return [(one.returncode, one.stdout) for one in found]
+
+
+def main():
+    chance, bytes_hidden, shows = random.Random(SEED), 0, 0
+    folders = (EXAMPLES, EXAMPLES / "messages", TOP / "tests/data/report", TOP / "tests/data/real")
+    traces = [path for folder in folders for path in sorted(folder.glob("*.trace"))]
+    for path in traces:
+        trace = Trace(path.read_bytes())
+        wanted = reports(path.read_bytes())
+        for number in range(ROUNDS):
+            other, count = trace.replaced(chance, hidden)
+            bytes_hidden += count
+            check(f"{path.name} with other hidden bytes, {number}", reports(other), wanted)
+        shows += reports(trace.replaced(chance, shown)[0]) != wanted
+    check("reports show amounts", shows > len(traces) / 3, True)
+    print(f"report_hidden: {len(traces)} traces, {bytes_hidden} hidden bytes replaced, {shows} traces with other amounts differ; {check.verdict}")
+    return check.status
+
+
+if __name__ == "__main__":
+    sys.exit(main())
