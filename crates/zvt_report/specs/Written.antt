@@ -21,17 +21,17 @@ use Rattle.zvt_report.specs.declared.written.ReportSummary.{ReportSummary}
 
 -- the text or the objects of a report with these looks
 abbrev pub report_in : Form → Report → List Look → List ℕ
-report_in Text report found = report_text report.tally report.currency report.books report.messages.items found
-report_in Json report found = report_json report.tally report.currency report.books report.messages.items found
+report_in Text report found = report_text report.tally report.currency report.books report.messages.items report.closings.items found
+report_in Json report found = report_json report.tally report.currency report.books report.messages.items report.closings.items found
 
 -- with the looks that its orders need
 abbrev pub written : Form → Report → List ℕ
-written form report = report_in form report (looks report.books.book report.books.orders)
+written form report = report_in form report (looks report.books.book report.closings.items report.books.orders)
 
 -- ---- the summary
 
 abbrev pub summed_up : Report → ReportSummary
-summed_up report = record { tally = report.tally; acts = urgent_count (looks report.books.book report.books.orders); passed = report.passed }
+summed_up report = record { tally = report.tally; acts = urgent_count (looks report.books.book report.closings.items report.books.orders); passed = report.passed }
 
 -- ---- the answer
 

@@ -78,7 +78,12 @@ fn write_found<W: Sink>(
     ensures write { result ≡ Err TraceFault.Write → W.failures writer.old < W.failures writer.new }
 {
     let books = &report.books;
-    let looks = looks(alloc, books.book.as_slice(), books.orders.as_slice())?;
+    let looks = looks(
+        alloc,
+        books.book.as_slice(),
+        report.closings.as_slice(),
+        books.orders.as_slice(),
+    )?;
     let text = text_of(alloc, form, report, looks.as_slice())?;
     writer.write_all(text.bytes())?;
     Ok(ReportSummary {
@@ -94,6 +99,7 @@ fn text_of(alloc: Global, form: Form, report: &Report, looks: &[Look]) -> Result
 {
     let books = &report.books;
     let messages = report.messages.as_slice();
+    let closings = report.closings.as_slice();
     let mut text = Text::new(alloc);
     match form {
         Form::Text => text::write(
@@ -103,6 +109,7 @@ fn text_of(alloc: Global, form: Form, report: &Report, looks: &[Look]) -> Result
             report.currency,
             books,
             messages,
+            closings,
             looks,
         )?,
         Form::Json => objects::write(
@@ -111,6 +118,7 @@ fn text_of(alloc: Global, form: Form, report: &Report, looks: &[Look]) -> Result
             report.currency,
             books,
             messages,
+            closings,
             looks,
         )?,
     }
