@@ -6,7 +6,7 @@ use Rattle.std.specs.Cmp.Lexicographic.{slice_cmp}
 use Rattle.std.specs.declared.cmp.Ordering.{Ordering}
 use Rattle.std.specs.declared.cmp.Ordering.TheVariants.{Less, Equal, Greater}
 use Rattle.std.proofs.lemmas.Bool.{and_from, and_parts}
-use Rattle.serde_json.specs.Data.{Data, number, unsigned, negative, Members, no_members, member, depth, members_depth}
+use Rattle.serde_json.specs.Data.{Data, number as numeral, unsigned, negative, Members, no_members, member, depth, members_depth}
 use Rattle.zvt_json.specs.Reading.{and_then, comes_after, members_ordered, ordered}
 use Rattle.zvt_json.proofs.ReadBack.{reads_back}
 use Rattle.zvt_text.specs.Meanings.{command_name, meaning_of}
@@ -84,7 +84,7 @@ covers_less before n found covers k h = covers k (after_first k before n h)
 covers_more : (before : List Name) (n : Name) (d : Data) (found : Members) → Covers before found → Covers (before ++ n ∷ []) (and_then found (member (name_text n) d no_members))
 covers_more before n d found covers k h = comes_last k (name_text n) d found (covers k (after_first k before n h)) (after_last k before n h)
 
-difference_ordered : (b : Bool) (m n : ℕ) → ordered (cond b (number (unsigned m)) (number (negative (negsuc n)))) ≡ true
+difference_ordered : (b : Bool) (m n : ℕ) → ordered (cond b (numeral (unsigned m)) (numeral (negative (negsuc n)))) ≡ true
 difference_ordered true m n = refl
 difference_ordered false m n = refl
 
@@ -125,7 +125,7 @@ said_ordered (Some m ∷ ms) (n ∷ ns) before found named order covers =
 
 -- ---- depth
 
-difference_shallow : (b : Bool) (m n : ℕ) → depth (cond b (number (unsigned m)) (number (negative (negsuc n)))) ≤ 1
+difference_shallow : (b : Bool) (m n : ℕ) → depth (cond b (numeral (unsigned m)) (numeral (negative (negsuc n)))) ≤ 1
 difference_shallow true m n = omega arith
 difference_shallow false m n = omega arith
 

@@ -41,13 +41,21 @@ differs_line decimals booked (Some covered) = cond (covered == booked) [] (codes
 abbrev pub line_of : List OrderRow → (order : ℕ) → ℕ
 line_of rows order = elim (slice_get rows order) [ None ↦ 0 | Some row ↦ row.first ]
 
-unfoldable pub explained_line : List OrderRow → Explained → List ℕ
+abbrev pub one_order : (a : ℕ) → List ℕ
+one_order a = codes "  explained by the order of line " ++ decimal a ++ codes "\n"
+
+abbrev pub two_orders : (a b : ℕ) → List ℕ
+two_orders a b = codes "  explained by the orders of lines " ++ decimal a ++ codes " and " ++ decimal b ++ codes "\n"
+
+abbrev pub three_orders : (a b c : ℕ) → List ℕ
+three_orders a b c = codes "  explained by the orders of lines " ++ decimal a ++ codes ", " ++ decimal b ++ codes " and " ++ decimal c ++ codes "\n"
+
+abbrev pub explained_line : List OrderRow → Explained → List ℕ
 explained_line rows Nothing = []
 explained_line rows Empty = []
-explained_line rows (One a) = codes "  explained by the order of line " ++ decimal (line_of rows a) ++ 10 ∷ []
-explained_line rows (Two a b) = codes "  explained by the orders of lines " ++ decimal (line_of rows a) ++ codes " and " ++ decimal (line_of rows b) ++ 10 ∷ []
-explained_line rows (Three a b c) =
-    codes "  explained by the orders of lines " ++ decimal (line_of rows a) ++ codes ", " ++ decimal (line_of rows b) ++ codes " and " ++ decimal (line_of rows c) ++ 10 ∷ []
+explained_line rows (One a) = one_order (line_of rows a)
+explained_line rows (Two a b) = two_orders (line_of rows a) (line_of rows b)
+explained_line rows (Three a b c) = three_orders (line_of rows a) (line_of rows b) (line_of rows c)
 explained_line rows Several = []
 
 unfoldable pub closing_text : Decimals → (all : List OrderRow) → OrderRow → Closing → List ℕ
@@ -86,10 +94,10 @@ a_closing booked taken_back =
 differs : closings_text Cents (Some (a_closing 15713 1500) ∷ []) (a_close ∷ [])
     ≡ codes "\nEnd of day (lines 346-366)\n" ++ codes "  terminal           172.12  receipts 0005 to 0015\n"
     ++ codes "  book               142.13\n" ++ codes "  differs             29.99\n" ++ codes "  explained by the orders of lines 346 and 0\n"
-unfolding amount_column book_line closing_if closing_text difference_column differs_line explained_line digits encode_with lines_part receipts_part terminal_line
+unfolding amount_column book_line closing_if closing_text difference_column differs_line digits encode_with lines_part receipts_part terminal_line
 differs = refl
 
 agrees : closings_text Cents (None ∷ Some (record (a_closing 17212 0) { explained = Nothing }) ∷ []) (a_close ∷ a_close ∷ [])
     ≡ codes "\nEnd of day (lines 346-366)\n" ++ codes "  terminal           172.12  receipts 0005 to 0015\n" ++ codes "  book               172.12\n"
-unfolding amount_column book_line closing_if closing_text difference_column differs_line explained_line digits encode_with lines_part receipts_part terminal_line
+unfolding amount_column book_line closing_if closing_text difference_column differs_line digits encode_with lines_part receipts_part terminal_line
 agrees = refl

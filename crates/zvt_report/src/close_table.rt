@@ -1,7 +1,8 @@
 //! Writes the ends of day that closed a day.
 ghost use Rattle.std.specs.Prelude.{◌≡◌, ◌++◌, OnOk};
 ghost use Rattle.zvt_report.specs.CloseTable.{book_line, closing_if, closing_text, closings_text, difference_column};
-ghost use Rattle.zvt_report.specs.CloseTable.{differs_line, explained_line, line_of, receipts_part, terminal_line};
+ghost use Rattle.zvt_report.specs.CloseTable.{differs_line, explained_line, line_of, one_order, receipts_part};
+ghost use Rattle.zvt_report.specs.CloseTable.{terminal_line, three_orders, two_orders};
 
 use crate::amounts::amount_column;
 use crate::card_totals::CardTotals;
@@ -116,8 +117,40 @@ fn line_of(rows: &[OrderRow], order: usize) -> u64
     }
 }
 
+/// Writes the line of the order that explains a difference.
+fn one_order(text: &mut Text, a: u64) -> Result<(), AllocError>
+    ensures { OnOk result (text.new ≡ text.old ++ one_order a) }
+{
+    text.word(b"  explained by the order of line ")?;
+    text.number(a)?;
+    text.word(b"\n")
+}
+
+/// Writes the lines of the two orders that explain a difference.
+fn two_orders(text: &mut Text, a: u64, b: u64) -> Result<(), AllocError>
+    ensures { OnOk result (text.new ≡ text.old ++ two_orders a b) }
+{
+    text.word(b"  explained by the orders of lines ")?;
+    text.number(a)?;
+    text.word(b" and ")?;
+    text.number(b)?;
+    text.word(b"\n")
+}
+
+/// Writes the lines of the three orders that explain a difference.
+fn three_orders(text: &mut Text, a: u64, b: u64, c: u64) -> Result<(), AllocError>
+    ensures { OnOk result (text.new ≡ text.old ++ three_orders a b c) }
+{
+    text.word(b"  explained by the orders of lines ")?;
+    text.number(a)?;
+    text.word(b", ")?;
+    text.number(b)?;
+    text.word(b" and ")?;
+    text.number(c)?;
+    text.word(b"\n")
+}
+
 /// Writes which orders explain a difference, if any do.
-#[tactic(auto, unfolding(crate::specs::CloseTable::explained_line))]
 fn explained_line(
     text: &mut Text,
     rows: &[OrderRow],
@@ -126,27 +159,14 @@ fn explained_line(
     ensures { OnOk result (text.new ≡ text.old ++ explained_line rows.now explained.now) }
 {
     match explained {
-        Explained::One(a) => {
-            text.word(b"  explained by the order of line ")?;
-            text.number(line_of(rows, *a))?;
-            text.push(b'\n')
-        }
-        Explained::Two(a, b) => {
-            text.word(b"  explained by the orders of lines ")?;
-            text.number(line_of(rows, *a))?;
-            text.word(b" and ")?;
-            text.number(line_of(rows, *b))?;
-            text.push(b'\n')
-        }
-        Explained::Three(a, b, c) => {
-            text.word(b"  explained by the orders of lines ")?;
-            text.number(line_of(rows, *a))?;
-            text.word(b", ")?;
-            text.number(line_of(rows, *b))?;
-            text.word(b" and ")?;
-            text.number(line_of(rows, *c))?;
-            text.push(b'\n')
-        }
+        Explained::One(a) => one_order(text, line_of(rows, *a)),
+        Explained::Two(a, b) => two_orders(text, line_of(rows, *a), line_of(rows, *b)),
+        Explained::Three(a, b, c) => three_orders(
+            text,
+            line_of(rows, *a),
+            line_of(rows, *b),
+            line_of(rows, *c),
+        ),
         Explained::Nothing | Explained::Empty | Explained::Several => Ok(()),
     }
 }
