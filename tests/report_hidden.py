@@ -18,8 +18,8 @@ from report_model import MOVES_MONEY, WITH_PASSWORD
 
 PROGRAM = program(sys.argv[1:])
 SEED, ROUNDS, PASSWORD = 20261130, 3, 3
-# A report shows, or judges by, the result code, the amount, the numbers of a payment, and the currency.
-SHOWN = {0x04, 0x0B, 0x27, 0x37, 0x49, 0x87}
+# A report shows, or judges by, the result code, the amount, the numbers of a payment, the currency, and the totals by card.
+SHOWN = {0x04, 0x0B, 0x27, 0x37, 0x49, 0x60, 0x87}
 AMOUNT = 0x04
 LENGTH_DIGITS = {"LL": 2, "LLL": 3}
 check = Checks()

@@ -5,6 +5,7 @@ look at the program's code.
 `Report` goes over the bytes of a trace with the reader of `json_model.py` and judges each order of the till. With files as
 arguments it writes the JSON of each.
 """
+import itertools
 import sys
 
 import json_model
@@ -16,7 +17,10 @@ WITH_PASSWORD = {"0625", "0631"}
 CONTROLS = {"Registration": "0600", "Authorisation": "0601", "Reversal": "0630", "EndOfDay": "0650"}
 ALREADY_REVERSED = "B4"
 DECLINES, GOOD = "declines", "good"
-WEIGHTS = {"PaymentUnclear": "check", "ReversalRefused": "check", "CloseUnclear": "check", "CloseRefused": "check"}
+CHECKS = ("PaymentUnclear", "ReversalRefused", "CloseUnclear", "CloseRefused", "CloseDiffers")
+TOTALS = "60"
+# Whether an order adds its amount to the terminal's total, or takes it from the total.
+SIGNS = {"0604": 1, "0609": 1, "0621": 1, "0624": 1, "0631": -1}
 
 
 def fields_of(payload):
@@ -42,6 +46,22 @@ def with_fields(message):
     return {**message, **fields_of(bytes.fromhex(message["data"])[3 if control in WITH_PASSWORD else 0:])}
 
 
+def totals_of(status):
+    """The digits of BMP 60, if it has the totals by card."""
+    content = only(status, TOTALS)
+    if content is None or len(content) != 106 or not all(content[at + 2:at + 14].isdecimal() for at in range(8, 106, 14)):
+        return None
+    return content
+
+
+def explained(differs, items):
+    """The numbers of the orders in the only set of at most three whose amounts make the difference."""
+    if differs is None or len(items) > 64:
+        return None
+    sets = [one for size in (1, 2, 3) for one in itertools.combinations(items, size) if sum(amount for _, amount in one) == differs]
+    return [number for number, _ in sets[0]] if len(sets) == 1 else None
+
+
 class Order:
     """An order of the till, with what was heard of it."""
 
@@ -50,7 +70,7 @@ class Order:
         self.first = self.last = message["line"]
         self.amount = amount_of(message)
         self.receipt = only(message, RECEIPT)
-        self.accepted, self.statuses, self.approval, self.outcome = False, [], None, None
+        self.accepted, self.statuses, self.approval, self.outcome, self.last_status = False, [], None, None, {}
 
     @property
     def is_of_money(self):
@@ -78,6 +98,7 @@ class Order:
 
     def noted(self, status, book):
         self.statuses.append((*self.class_of(status, book), only(status, RECEIPT)))
+        self.last_status = status
         if self.approval is None and only(status, RESULT) == "00" and amount_of(status):
             self.approval = {"amount": amount_of(status), "line": status["line"], "receipt": only(status, RECEIPT),
                              "trace": int(only(status, TRACE)) if only(status, TRACE) else None}
@@ -99,6 +120,8 @@ class Order:
         done = {"close": "closed"}.get(self.kind, "completed")
         if not self.statuses:
             return ("unclear", "NoStatus") if self.is_of_money else (done, None)
+        if self.kind == "close" and all(one[0] != DECLINES for one in self.statuses):
+            return done, None
         fault = self.fault()
         if fault:
             return "unclear", fault
@@ -204,7 +227,9 @@ class Report(Audit):
                 return "PaymentUnclear"
             return "ApprovedNotCompleted" if order.approval["amount"] == order.amount else "OtherAmount"
         if order.kind == "close":
-            return "CloseUnclear" if word == "unclear" else "CloseRefused" if word in ("declined", "refused", "aborted") else None
+            if word == "closed":
+                return "CloseDiffers" if "differs" in said(**self.close_members(order)) else None
+            return "CloseUnclear" if word == "unclear" else "CloseRefused"
         if order.kind != "reversal" or not order.is_of_money:
             return None
         decided = any(one.kind == "reversal" and one.entry == order.entry and (
@@ -223,7 +248,7 @@ class Report(Audit):
         for case, at, again in self.looks():
             order = self.orders[at]
             yield {"look": said(again=None if again is None else again + 1, case=case, cause=self.ending(order).get("cause"),
-                                lines=[order.first, order.last], order=at + 1, payment=self.number_of(order), weight=WEIGHTS.get(case, "act"))}
+                                lines=[order.first, order.last], order=at + 1, payment=self.number_of(order), weight="check" if case in CHECKS else "act")}
         for number, order in enumerate(self.orders, 1):
             yield {order.kind: said(**getattr(self, f"{order.kind}_members")(order), **self.ending(order), lines=[order.first, order.last], order=number)}
 
@@ -264,7 +289,40 @@ class Report(Audit):
         return {"amount": order.amount or order.approval and order.approval["amount"], **self.order_members(order)}
 
     def close_members(self, order):
-        return {}
+        closing = self.closings().get(id(order))
+        if closing is None:
+            return {}
+        stated, book, totals, items = closing
+        differs = None if stated in (None, book) else stated - book
+        return {"book": book, "differs": differs, "explained_by": explained(differs, items), "receipts": totals and [totals[:4], totals[4:8]],
+                "stated": stated}
+
+    def closings(self):
+        """By the order: the total that the terminal states, the book of the same time, the totals by card, and what may explain a difference."""
+        found, book, taken_back, items = {}, 0, set(), []
+        for at, order in enumerate(self.orders):
+            word = order.outcome[0]
+            if order.kind == "payment" and word == "unclear":
+                items.append((at + 1, order.amount))
+            elif order.kind == "reversal" and self.case_of(order, self.orders[at + 1:]) == "ReversalUnclear":
+                items.append((at + 1, -self.book[order.entry]["amount"]))
+            elif order.kind == "other" and word in ("completed", "unclear") and SIGNS.get(order.control):
+                amount = order.amount or order.approval and order.approval["amount"]
+                if amount:
+                    items.append((at + 1, SIGNS[order.control] * amount))
+            if word == "paid":
+                book += order.amount
+            elif word == "reversed" and order.entry not in taken_back:
+                taken_back.add(order.entry)
+                book -= self.book[order.entry]["amount"]
+            elif word == "closed":
+                totals = totals_of(order.last_status)
+                stated = only(order.last_status, AMOUNT)
+                if stated is None and totals:
+                    stated = sum(int(totals[at + 2:at + 14]) for at in range(8, 106, 14))
+                found[id(order)] = stated, book, totals, items
+                book, items = 0, []
+        return found
 
     def order_members(self, order):
         return {"control": order.control, "name": json_model.COMMANDS.get(order.control)}

@@ -67,7 +67,7 @@ class Day(Dialogue):
 
     def close(self):
         self.say(">", message(END_OF_DAY, bytes(3)))
-        self.answer(self.chance.choice((b"\x27\0", b"\x27\x6C", b"\x04" + digits(100, 6))))
+        self.answer(self.chance.choice((b"\x27\0", b"\x27\x6C", b"\x04" + digits(100, 6), by_card(100, 1), by_card(*self.chance.choices((0, 1, 100), k=7)))))
 
 
 def compared(name, trace):
@@ -111,6 +111,15 @@ def closed(*answers):
     return [(">", message(END_OF_DAY, bytes(3))), ("<", ACK), *(("<", one) for one in answers)]
 
 
+def totalled(amount):
+    return message(STATUS, b"\x04" + digits(amount, 6))
+
+
+def by_card(*sums):
+    groups = b"".join(bytes([one > 0]) + digits(one, 6) for one in (*sums, *[0] * (7 - len(sums))))
+    return message(STATUS, b"\x60\xF0\xF5\xF3" + digits(1, 2) + digits(9, 2) + groups)
+
+
 LOST, DONE, DECLINED = ("!", None), message(COMPLETION), message(STATUS, b"\x27\x6C")
 TAKEN_BACK = (ACK, approving(500, 2, 1), DONE)
 CASES = [
@@ -121,9 +130,32 @@ CASES = [
     ("ReversalUnclear", [*paid(500, 1), *reversed_by(1, ACK)], [*paid(500, 1), *reversed_by(7, ACK)]),
     ("TakenBackBefore", [*paid(500, 1), *reversed_by(1, message(ABORT, b"\xB4"))], [*paid(500, 1), *reversed_by(1, *TAKEN_BACK), *reversed_by(1, message(ABORT, b"\xB4"))]),
     ("ReversalRefused", [*paid(500, 1), *reversed_by(1, ACK, DECLINED, DONE)], [*paid(500, 1), *reversed_by(1, *TAKEN_BACK)]),
-    ("CloseUnclear", [*closed(message(STATUS, b"\x04" + digits(500, 6)), DONE)], [*closed(DONE)]),
+    ("CloseUnclear", [*closed(message(STATUS, b"\x04" + digits(500, 6)), DECLINED, message(STATUS, b"\x27\0"), DONE)], [*closed(message(STATUS, b"\x04" + digits(0, 6)), DONE)]),
     ("CloseRefused", [*closed(message(ABORT, b"\x6C"))], [*closed(message(STATUS, b"\x27\0"), DONE)]),
+    ("CloseDiffers", [*paid(500, 1), *closed(totalled(400), DONE)], [*paid(500, 1), *closed(totalled(500), DONE)]),
+    ("CloseDiffers", [*paid(500, 1), *closed(totalled(500), DONE), *paid(300, 2), *closed(totalled(800), DONE)],
+     [*paid(500, 1), *closed(totalled(500), DONE), *paid(300, 2), *closed(totalled(300), DONE)]),
+    ("CloseDiffers", [*paid(500, 1), *reversed_by(1, *TAKEN_BACK), *closed(by_card(0, 500), DONE)], [*paid(500, 1), *closed(by_card(200, 300), DONE)]),
 ]
+
+
+EXPLAINED = [
+    ("an unclear payment", [*paid(500, 1, DONE), *closed(totalled(500), DONE)], [1]),
+    ("two unclear payments of one amount", [*paid(500, 1, DONE), *paid(500, 2, DONE), *closed(totalled(500), DONE)], None),
+    ("a payment and a refund", [*paid(500, 1, DONE), (">", message(b"\x06\x31", bytes(3) + b"\x04" + digits(200, 6))), ("<", ACK), ("<", DONE), *closed(totalled(300), DONE)], [1, 2]),
+    ("an unclear reversal", [*paid(500, 1), *reversed_by(1, ACK), LOST, *closed(totalled(0), DONE)], [2]),
+    ("four payments", [*(one for number in range(4) for one in paid(500 + number, number, DONE)), *closed(totalled(2006), DONE)], None),
+]
+
+
+def explanations():
+    """What explains the difference of an end of day."""
+    for name, said, wanted in EXPLAINED:
+        trace = dialogue(*said)
+        found = [json.loads(line)["close"] for line in run(["report", "--json"], trace)[1].splitlines() if line.startswith('{"close"')]
+        check(f"{name}: what explains the difference", found[-1].get("explained_by"), wanted)
+        check(f"{name}: that there is one", "differs" in found[-1], True)
+        compared(name, trace)
 
 
 def cases():
@@ -149,6 +181,7 @@ def main():
     with concurrent.futures.ThreadPoolExecutor(4) as pool:
         list(pool.map(lambda one: compared(*one), traces.items()))
     cases()
+    explanations()
     stored()
     print(f"{check.verdict}: {len(traces)} traces, {len(CASES)} cases, {check.count} comparisons")
     return check.status

@@ -7,6 +7,9 @@ pub mod LookLemmas
 pub mod OpenLemmas
 pub mod NamingLemmas
 pub mod SaidLemmas
+pub mod DigitLemmas
+pub mod StatementLemmas
+pub mod ExplainLemmas
 pub mod ReporterLemmas
 pub mod ReportedLemmas
 pub mod MemberLemmas

@@ -8,10 +8,12 @@ use Rattle.zvt_till.specs.declared.happenings.Sent.{Sent}
 use Rattle.zvt_till.specs.declared.happenings.Sent.TheVariants.{Register, Pay, Reverse, CloseDay, Cancel, Foreign}
 use Rattle.zvt_till.specs.declared.outcomes.Outcome.{Outcome}
 use Rattle.zvt_till.specs.declared.outcomes.Outcome.TheVariants.{Registered, Paid, Declined, Refused, Aborted, Unclear, Reversed, DayClosed}
+use Rattle.zvt_report.specs.Differing.{differs_at}
 use Rattle.zvt_report.specs.Looks.{EachPaymentIsLookedAt, EachReversalIsLookedAt, case_as, decides, is_marked, is_of_payment, is_of_reversal, is_unclear_by, looks_from, open_by, open_places, paid_again, payment_case, payments_looked_at, reversals_looked_at, unclear_places}
 use Rattle.zvt_report.specs.declared.cases.Case.{Case}
 use Rattle.zvt_report.specs.declared.cases.Case.TheVariants.{ApprovedNotCompleted, OtherAmount, ReversalRefused, ReversalUnclear, TakenBackBefore}
 use Rattle.zvt_report.specs.declared.cases.Look.{Look}
+use Rattle.zvt_report.specs.declared.closings.Closing.{Closing}
 use Rattle.zvt_report.specs.declared.rows.Approval.{Approval}
 use Rattle.zvt_report.specs.declared.rows.OrderRow.{OrderRow}
 
@@ -51,44 +53,45 @@ undecided-payment : (place : ℕ) (decided : Bool) → place_if is_of_payment pl
 undecided-payment place true = refl
 undecided-payment place false = refl
 
-payment-at : (book : List Entry) (place : ℕ) (later : List OrderRow) (approval : Option Approval) (outcome : Outcome) (order : Sent)
-    → place_if is_of_payment place (case_as book later approval outcome order) ≡ cond (is_unclear_by order outcome) (place ∷ []) []
-payment-at book place later approval outcome (Register c) = refl
-payment-at book place later approval Registered (Pay a) = refl
-payment-at book place later approval (Paid t r) (Pay a) = refl
-payment-at book place later approval (Declined k) (Pay a) = refl
-payment-at book place later approval (Refused k) (Pay a) = refl
-payment-at book place later approval (Aborted k) (Pay a) = refl
-payment-at book place later approval (Unclear x) (Pay a) = payment-looks place a approval
-payment-at book place later approval Reversed (Pay a) = refl
-payment-at book place later approval DayClosed (Pay a) = refl
-payment-at book place later approval Registered (Reverse e) = refl
-payment-at book place later approval (Paid t r) (Reverse e) = refl
-payment-at book place later approval (Declined k) (Reverse e) = refl
-payment-at book place later approval (Refused k) (Reverse e) = refused-payment place (k == already_reversed) (is_marked book e) (list_any (decides e) later)
-payment-at book place later approval (Aborted k) (Reverse e) = refused-payment place (k == already_reversed) (is_marked book e) (list_any (decides e) later)
-payment-at book place later approval (Unclear x) (Reverse e) = undecided-payment place (list_any (decides e) later)
-payment-at book place later approval Reversed (Reverse e) = refl
-payment-at book place later approval DayClosed (Reverse e) = refl
-payment-at book place later approval Registered CloseDay = refl
-payment-at book place later approval (Paid t r) CloseDay = refl
-payment-at book place later approval (Declined k) CloseDay = refl
-payment-at book place later approval (Refused k) CloseDay = refl
-payment-at book place later approval (Aborted k) CloseDay = refl
-payment-at book place later approval (Unclear x) CloseDay = refl
-payment-at book place later approval Reversed CloseDay = refl
-payment-at book place later approval DayClosed CloseDay = refl
-payment-at book place later approval outcome Cancel = refl
-payment-at book place later approval outcome Foreign = refl
+payment-at : (book : List Entry) (differs : Bool) (place : ℕ) (later : List OrderRow) (approval : Option Approval) (outcome : Outcome) (order : Sent)
+    → place_if is_of_payment place (case_as book differs later approval outcome order) ≡ cond (is_unclear_by order outcome) (place ∷ []) []
+payment-at book differs place later approval outcome (Register c) = refl
+payment-at book differs place later approval Registered (Pay a) = refl
+payment-at book differs place later approval (Paid t r) (Pay a) = refl
+payment-at book differs place later approval (Declined k) (Pay a) = refl
+payment-at book differs place later approval (Refused k) (Pay a) = refl
+payment-at book differs place later approval (Aborted k) (Pay a) = refl
+payment-at book differs place later approval (Unclear x) (Pay a) = payment-looks place a approval
+payment-at book differs place later approval Reversed (Pay a) = refl
+payment-at book differs place later approval DayClosed (Pay a) = refl
+payment-at book differs place later approval Registered (Reverse e) = refl
+payment-at book differs place later approval (Paid t r) (Reverse e) = refl
+payment-at book differs place later approval (Declined k) (Reverse e) = refl
+payment-at book differs place later approval (Refused k) (Reverse e) = refused-payment place (k == already_reversed) (is_marked book e) (list_any (decides e) later)
+payment-at book differs place later approval (Aborted k) (Reverse e) = refused-payment place (k == already_reversed) (is_marked book e) (list_any (decides e) later)
+payment-at book differs place later approval (Unclear x) (Reverse e) = undecided-payment place (list_any (decides e) later)
+payment-at book differs place later approval Reversed (Reverse e) = refl
+payment-at book differs place later approval DayClosed (Reverse e) = refl
+payment-at book differs place later approval Registered CloseDay = refl
+payment-at book differs place later approval (Paid t r) CloseDay = refl
+payment-at book differs place later approval (Declined k) CloseDay = refl
+payment-at book differs place later approval (Refused k) CloseDay = refl
+payment-at book differs place later approval (Aborted k) CloseDay = refl
+payment-at book differs place later approval (Unclear x) CloseDay = refl
+payment-at book differs place later approval Reversed CloseDay = refl
+payment-at book true place later approval DayClosed CloseDay = refl
+payment-at book false place later approval DayClosed CloseDay = refl
+payment-at book differs place later approval outcome Cancel = refl
+payment-at book differs place later approval outcome Foreign = refl
 
-payments-from : (book : List Entry) (place : ℕ) (rows : List OrderRow) → payments_looked_at (looks_from book place rows) ≡ unclear_places place rows
-payments-from book place [] = refl
-payments-from book place (row ∷ later) =
-    payments-cons (paid_again row.order (place + 1) later) place (case_as book later row.approval row.outcome row.order) (looks_from book (place + 1) later)
-    ∙ ap₂ (λ x y. x ++ y) (payment-at book place later row.approval row.outcome row.order) (payments-from book (place + 1) later)
+payments-from : (book : List Entry) (closings : List (Option Closing)) (place : ℕ) (rows : List OrderRow) → payments_looked_at (looks_from book closings place rows) ≡ unclear_places place rows
+payments-from book closings place [] = refl
+payments-from book closings place (row ∷ later) =
+    payments-cons (paid_again row.order (place + 1) later) place (case_as book (differs_at closings place) later row.approval row.outcome row.order) (looks_from book closings (place + 1) later)
+    ∙ ap₂ (λ x y. x ++ y) (payment-at book (differs_at closings place) place later row.approval row.outcome row.order) (payments-from book closings (place + 1) later)
 
 pub each_payment_is_looked_at : EachPaymentIsLookedAt
-each_payment_is_looked_at book rows = payments-from book 0 rows
+each_payment_is_looked_at book closings rows = payments-from book closings 0 rows
 
 -- ---- reversals
 
@@ -110,41 +113,42 @@ undecided-reversal : (place : ℕ) (decided : Bool) → place_if is_of_reversal 
 undecided-reversal place true = refl
 undecided-reversal place false = refl
 
-reversal-at : (book : List Entry) (place : ℕ) (later : List OrderRow) (approval : Option Approval) (outcome : Outcome) (order : Sent)
-    → place_if is_of_reversal place (case_as book later approval outcome order) ≡ cond (open_by order outcome later) (place ∷ []) []
-reversal-at book place later approval outcome (Register c) = refl
-reversal-at book place later approval Registered (Pay a) = refl
-reversal-at book place later approval (Paid t r) (Pay a) = refl
-reversal-at book place later approval (Declined k) (Pay a) = refl
-reversal-at book place later approval (Refused k) (Pay a) = refl
-reversal-at book place later approval (Aborted k) (Pay a) = refl
-reversal-at book place later approval (Unclear x) (Pay a) = payment-no-reversal place a approval
-reversal-at book place later approval Reversed (Pay a) = refl
-reversal-at book place later approval DayClosed (Pay a) = refl
-reversal-at book place later approval Registered (Reverse e) = refl
-reversal-at book place later approval (Paid t r) (Reverse e) = refl
-reversal-at book place later approval (Declined k) (Reverse e) = refl
-reversal-at book place later approval (Refused k) (Reverse e) = refused-reversal place (k == already_reversed) (is_marked book e) (list_any (decides e) later)
-reversal-at book place later approval (Aborted k) (Reverse e) = refused-reversal place (k == already_reversed) (is_marked book e) (list_any (decides e) later)
-reversal-at book place later approval (Unclear x) (Reverse e) = undecided-reversal place (list_any (decides e) later)
-reversal-at book place later approval Reversed (Reverse e) = refl
-reversal-at book place later approval DayClosed (Reverse e) = refl
-reversal-at book place later approval Registered CloseDay = refl
-reversal-at book place later approval (Paid t r) CloseDay = refl
-reversal-at book place later approval (Declined k) CloseDay = refl
-reversal-at book place later approval (Refused k) CloseDay = refl
-reversal-at book place later approval (Aborted k) CloseDay = refl
-reversal-at book place later approval (Unclear x) CloseDay = refl
-reversal-at book place later approval Reversed CloseDay = refl
-reversal-at book place later approval DayClosed CloseDay = refl
-reversal-at book place later approval outcome Cancel = refl
-reversal-at book place later approval outcome Foreign = refl
+reversal-at : (book : List Entry) (differs : Bool) (place : ℕ) (later : List OrderRow) (approval : Option Approval) (outcome : Outcome) (order : Sent)
+    → place_if is_of_reversal place (case_as book differs later approval outcome order) ≡ cond (open_by order outcome later) (place ∷ []) []
+reversal-at book differs place later approval outcome (Register c) = refl
+reversal-at book differs place later approval Registered (Pay a) = refl
+reversal-at book differs place later approval (Paid t r) (Pay a) = refl
+reversal-at book differs place later approval (Declined k) (Pay a) = refl
+reversal-at book differs place later approval (Refused k) (Pay a) = refl
+reversal-at book differs place later approval (Aborted k) (Pay a) = refl
+reversal-at book differs place later approval (Unclear x) (Pay a) = payment-no-reversal place a approval
+reversal-at book differs place later approval Reversed (Pay a) = refl
+reversal-at book differs place later approval DayClosed (Pay a) = refl
+reversal-at book differs place later approval Registered (Reverse e) = refl
+reversal-at book differs place later approval (Paid t r) (Reverse e) = refl
+reversal-at book differs place later approval (Declined k) (Reverse e) = refl
+reversal-at book differs place later approval (Refused k) (Reverse e) = refused-reversal place (k == already_reversed) (is_marked book e) (list_any (decides e) later)
+reversal-at book differs place later approval (Aborted k) (Reverse e) = refused-reversal place (k == already_reversed) (is_marked book e) (list_any (decides e) later)
+reversal-at book differs place later approval (Unclear x) (Reverse e) = undecided-reversal place (list_any (decides e) later)
+reversal-at book differs place later approval Reversed (Reverse e) = refl
+reversal-at book differs place later approval DayClosed (Reverse e) = refl
+reversal-at book differs place later approval Registered CloseDay = refl
+reversal-at book differs place later approval (Paid t r) CloseDay = refl
+reversal-at book differs place later approval (Declined k) CloseDay = refl
+reversal-at book differs place later approval (Refused k) CloseDay = refl
+reversal-at book differs place later approval (Aborted k) CloseDay = refl
+reversal-at book differs place later approval (Unclear x) CloseDay = refl
+reversal-at book differs place later approval Reversed CloseDay = refl
+reversal-at book true place later approval DayClosed CloseDay = refl
+reversal-at book false place later approval DayClosed CloseDay = refl
+reversal-at book differs place later approval outcome Cancel = refl
+reversal-at book differs place later approval outcome Foreign = refl
 
-reversals-from : (book : List Entry) (place : ℕ) (rows : List OrderRow) → reversals_looked_at (looks_from book place rows) ≡ open_places place rows
-reversals-from book place [] = refl
-reversals-from book place (row ∷ later) =
-    reversals-cons (paid_again row.order (place + 1) later) place (case_as book later row.approval row.outcome row.order) (looks_from book (place + 1) later)
-    ∙ ap₂ (λ x y. x ++ y) (reversal-at book place later row.approval row.outcome row.order) (reversals-from book (place + 1) later)
+reversals-from : (book : List Entry) (closings : List (Option Closing)) (place : ℕ) (rows : List OrderRow) → reversals_looked_at (looks_from book closings place rows) ≡ open_places place rows
+reversals-from book closings place [] = refl
+reversals-from book closings place (row ∷ later) =
+    reversals-cons (paid_again row.order (place + 1) later) place (case_as book (differs_at closings place) later row.approval row.outcome row.order) (looks_from book closings (place + 1) later)
+    ∙ ap₂ (λ x y. x ++ y) (reversal-at book (differs_at closings place) place later row.approval row.outcome row.order) (reversals-from book closings (place + 1) later)
 
 pub each_reversal_is_looked_at : EachReversalIsLookedAt
-each_reversal_is_looked_at book rows = reversals-from book 0 rows
+each_reversal_is_looked_at book closings rows = reversals-from book closings 0 rows

@@ -39,6 +39,7 @@ case_plain case_of.TakenBackBefore = refl
 case_plain case_of.ReversalRefused = refl
 case_plain case_of.CloseUnclear = refl
 case_plain case_of.CloseRefused = refl
+case_plain case_of.CloseDiffers = refl
 
 weight_plain : (w : Weight) → escape (weight_name w) ≡ weight_name w
 unfolding escape_byte
@@ -83,12 +84,15 @@ name_plain name.Again = refl
 name_plain name.Amount = refl
 name_plain name.Approved = refl
 name_plain name.Bad = refl
+name_plain name.Book = refl
 name_plain name.Booked = refl
 name_plain name.Case = refl
 name_plain name.Cause = refl
 name_plain name.Code = refl
 name_plain name.Control = refl
 name_plain name.Currency = refl
+name_plain name.Differs = refl
+name_plain name.ExplainedBy = refl
 name_plain name.Lines = refl
 name_plain name.Looks = refl
 name_plain name.Messages = refl
@@ -99,10 +103,12 @@ name_plain name.Others = refl
 name_plain name.Outcome = refl
 name_plain name.Payment = refl
 name_plain name.Receipt = refl
+name_plain name.Receipts = refl
 name_plain name.ReversalUnclear = refl
 name_plain name.ReversalsUnclear = refl
 name_plain name.Reversed = refl
 name_plain name.ReversedBy = refl
+name_plain name.Stated = refl
 name_plain name.TakenBack = refl
 name_plain name.Total = refl
 name_plain name.Trace = refl

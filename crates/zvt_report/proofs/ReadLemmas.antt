@@ -1,20 +1,25 @@
 -- The members of the objects of a report come in the order of their names, so that an object is read back from its text.
-use Rattle.std.proofs.Common.{◌≡◌, ℕ, ◌≤◌, ◌&&◌, Bool, true, false, Some, None, Option, List, [], ◌∷◌, ◌++◌, refl, ◌∙◌, ap, arith}
+use Rattle.std.proofs.Common.{◌≡◌, ℕ, ◌==◌, ◌≤◌, ◌&&◌, Bool, true, false, cond, nat_le, negsuc, ◌-◌, Some, None, Option, List, [], ◌∷◌, ◌++◌, refl, ◌∙◌, ap, arith}
 use Rattle.std.specs.Option.{option_and_then, option_map}
 use Rattle.std.specs.Ordering.{nat_cmp, match_ordering}
 use Rattle.std.specs.Cmp.Lexicographic.{slice_cmp}
 use Rattle.std.specs.declared.cmp.Ordering.{Ordering}
 use Rattle.std.specs.declared.cmp.Ordering.TheVariants.{Less, Equal, Greater}
 use Rattle.std.proofs.lemmas.Bool.{and_from, and_parts}
-use Rattle.serde_json.specs.Data.{Data, Members, no_members, member, depth, members_depth}
+use Rattle.serde_json.specs.Data.{Data, number as numeral, unsigned, negative, Members, no_members, member, depth, members_depth}
 use Rattle.zvt_json.specs.Reading.{and_then, comes_after, members_ordered, ordered}
 use Rattle.zvt_json.proofs.ReadBack.{reads_back}
 use Rattle.zvt_text.specs.Meanings.{command_name, meaning_of}
 use Rattle.zvt_till.specs.declared.outcomes.Cause.{Cause}
 use Rattle.zvt_till.specs.declared.outcomes.Outcome.{Outcome}
-use Rattle.zvt_report.specs.Members.{name_text, object_value, said, value_data}
+use Rattle.zvt_report.specs.Members.{name_text, object_value, orders_value, said, value_data}
 use Rattle.zvt_report.specs.Objects.{again, close_members, code, code_of, command, look_members, maybe_cause, maybe_count, maybe_currency, maybe_receipt, other_members, payment_members, plain_members, reversal_members, summary_members, true_if, words}
+use Rattle.zvt_report.specs.CloseObjects.{book_member, difference_member, differs_member, explained_member, orders_of, receipts_member, receipts_of, stated_member}
 use Rattle.zvt_report.specs.Reading.{ObjectsReadBack, ReadsBack}
+use Rattle.zvt_report.specs.declared.card_totals.CardTotals.{CardTotals}
+use Rattle.zvt_report.specs.declared.closings.Closing.{Closing}
+use Rattle.zvt_report.specs.declared.explaining.Explained.{Explained}
+use Rattle.zvt_report.specs.declared.explaining.Explained.TheVariants as explained
 use Rattle.zvt_report.specs.declared.members.Member.{Member}
 use Rattle.zvt_report.specs.declared.members.Name.{Name}
 use Rattle.zvt_report.specs.declared.members.Name.TheVariants as name
@@ -79,12 +84,27 @@ covers_less before n found covers k h = covers k (after_first k before n h)
 covers_more : (before : List Name) (n : Name) (d : Data) (found : Members) → Covers before found → Covers (before ++ n ∷ []) (and_then found (member (name_text n) d no_members))
 covers_more before n d found covers k h = comes_last k (name_text n) d found (covers k (after_first k before n h)) (after_last k before n h)
 
+difference_ordered : (b : Bool) (m n : ℕ) → ordered (cond b (numeral (unsigned m)) (numeral (negative (negsuc n)))) ≡ true
+difference_ordered true m n = refl
+difference_ordered false m n = refl
+
+orders_ordered : (e : Explained) → ordered (orders_value e) ≡ true
+orders_ordered explained.Nothing = refl
+orders_ordered explained.Empty = refl
+orders_ordered (explained.One a) = refl
+orders_ordered (explained.Two a b) = refl
+orders_ordered (explained.Three a b c) = refl
+orders_ordered explained.Several = refl
+
 value_ordered : (v : Value) → ordered (value_data v) ≡ true
 value_ordered value.True = refl
 value_ordered (value.Count n) = refl
+value_ordered (value.Difference more less) = difference_ordered (nat_le less more) (more - less) (less - more - 1)
 value_ordered (value.Lines first last) = refl
 value_ordered (value.Byte byte) = refl
 value_ordered (value.Bytes bytes) = refl
+value_ordered (value.Receipts first last) = refl
+value_ordered (value.Orders orders) = orders_ordered orders
 value_ordered (value.Currency currency) = refl
 value_ordered (value.Word w) = refl
 
@@ -105,12 +125,27 @@ said_ordered (Some m ∷ ms) (n ∷ ns) before found named order covers =
 
 -- ---- depth
 
+difference_shallow : (b : Bool) (m n : ℕ) → depth (cond b (numeral (unsigned m)) (numeral (negative (negsuc n)))) ≤ 1
+difference_shallow true m n = omega arith
+difference_shallow false m n = omega arith
+
+orders_shallow : (e : Explained) → depth (orders_value e) ≤ 1
+orders_shallow explained.Nothing = omega arith
+orders_shallow explained.Empty = omega arith
+orders_shallow (explained.One a) = omega arith
+orders_shallow (explained.Two a b) = omega arith
+orders_shallow (explained.Three a b c) = omega arith
+orders_shallow explained.Several = omega arith
+
 value_shallow : (v : Value) → depth (value_data v) ≤ 1
 value_shallow value.True = omega arith
 value_shallow (value.Count n) = omega arith
+value_shallow (value.Difference more less) = difference_shallow (nat_le less more) (more - less) (less - more - 1)
 value_shallow (value.Lines first last) = omega arith
 value_shallow (value.Byte byte) = omega arith
 value_shallow (value.Bytes bytes) = omega arith
+value_shallow (value.Receipts first last) = omega arith
+value_shallow (value.Orders orders) = orders_shallow orders
 value_shallow (value.Currency currency) = omega arith
 value_shallow (value.Word w) = omega arith
 
@@ -177,6 +212,46 @@ command_by high low (Some n) = refl
 command_named : (message : OrderMessage) → IsNamed (command message) name.Name
 command_named message = command_by message.high message.low (command_name message.high message.low)
 
+book_named : (closing : Option Closing) → IsNamed (book_member closing) name.Book
+book_named None = tt
+book_named (Some c) = refl
+
+differs_by : (booked : ℕ) (covered : Option ℕ) → IsNamed (difference_member booked covered) name.Differs
+differs_by booked None = tt
+differs_by booked (Some covered) = differs_if (covered == booked)
+  where
+    differs_if : (same : Bool) → IsNamed (cond same None (Some (record { name = name.Differs; value = value.Difference covered booked }))) name.Differs
+    differs_if true = tt
+    differs_if false = refl
+
+differs_named : (closing : Option Closing) → IsNamed (differs_member closing) name.Differs
+differs_named None = tt
+differs_named (Some c) = differs_by c.booked c.covered
+
+explained_by : (e : Explained) → IsNamed (orders_of e) name.ExplainedBy
+explained_by explained.Nothing = tt
+explained_by explained.Empty = tt
+explained_by (explained.One a) = refl
+explained_by (explained.Two a b) = refl
+explained_by (explained.Three a b c) = refl
+explained_by explained.Several = tt
+
+explained_named : (closing : Option Closing) → IsNamed (explained_member closing) name.ExplainedBy
+explained_named None = tt
+explained_named (Some c) = explained_by c.explained
+
+receipts_by : (totals : Option CardTotals) → IsNamed (receipts_of totals) name.Receipts
+receipts_by None = tt
+receipts_by (Some t) = refl
+
+receipts_named : (closing : Option Closing) → IsNamed (receipts_member closing) name.Receipts
+receipts_named None = tt
+receipts_named (Some c) = receipts_by c.totals
+
+stated_named : (closing : Option Closing) → IsNamed (stated_member closing) name.Stated
+stated_named None = tt
+stated_named (Some c) = count_named name.Stated c.stated
+
 -- ---- the objects
 
 abbrev names_of_summary : List Name
@@ -195,7 +270,7 @@ abbrev names_of_other : List Name
 names_of_other = name.Amount ∷ name.Cause ∷ name.Code ∷ name.Control ∷ name.Lines ∷ name.Name ∷ name.Order ∷ name.Outcome ∷ name.Words ∷ []
 
 abbrev names_of_close : List Name
-names_of_close = name.Cause ∷ name.Code ∷ name.Lines ∷ name.Order ∷ name.Outcome ∷ name.Words ∷ []
+names_of_close = name.Book ∷ name.Cause ∷ name.Code ∷ name.Differs ∷ name.ExplainedBy ∷ name.Lines ∷ name.Order ∷ name.Outcome ∷ name.Receipts ∷ name.Stated ∷ name.Words ∷ []
 
 abbrev names_of_order : List Name
 names_of_order = name.Cause ∷ name.Code ∷ name.Control ∷ name.Lines ∷ name.Name ∷ name.Order ∷ name.Outcome ∷ name.Words ∷ []
@@ -207,6 +282,6 @@ objects_read_back = (
   (λ books place row amount. read_named object_of.Payment (payment_members books place row amount) names_of_payment (refl, (count_named name.Approved _, (cause_named name.Cause _, (code_named row.outcome, (refl, (refl, (refl, (count_named name.Payment _, (receipt_named _, (cause_named name.ReversalUnclear _, (count_named name.ReversedBy _, (true_named name.TakenBack _, (count_named name.Trace _, (words_named row.outcome, tt)))))))))))))) refl),
   (λ books place row message. read_named object_of.Reversal (reversal_members books place row message) names_of_reversal (count_named name.Amount _, (cause_named name.Cause _, (code_named row.outcome, (refl, (refl, (refl, (count_named name.Payment _, (receipt_named message.receipt, (words_named row.outcome, tt))))))))) refl),
   (λ place row message. read_named object_of.Other (other_members place row message) names_of_other (count_named name.Amount _, (cause_named name.Cause _, (code_named row.outcome, (refl, (refl, (command_named message, (refl, (refl, (words_named row.outcome, tt))))))))) refl),
-  (λ place row. read_named object_of.Close (close_members place row) names_of_close (cause_named name.Cause _, (code_named row.outcome, (refl, (refl, (refl, (words_named row.outcome, tt)))))) refl),
+  (λ closing place row. read_named object_of.Close (close_members closing place row) names_of_close (book_named closing, (cause_named name.Cause _, (code_named row.outcome, (differs_named closing, (explained_named closing, (refl, (refl, (refl, (receipts_named closing, (stated_named closing, (words_named row.outcome, tt))))))))))) refl),
   (λ place row message. read_named object_of.Order (plain_members place row message) names_of_order (cause_named name.Cause _, (code_named row.outcome, (refl, (refl, (command_named message, (refl, (refl, (words_named row.outcome, tt)))))))) refl),
 )

@@ -27,9 +27,13 @@ use Rattle.zvt_report.specs.Judging.{DaySoFar, HasJudged}
 use Rattle.zvt_report.specs.Reported.{beginning_in, beginnings, happenings_with, reported, with_event}
 use Rattle.zvt_report.specs.Reports.{AnswersReport, Finds, JudgesAll, Judges, Reports, ReportsBy, SaysMore, StartsIn, hears, hears_by, wants_memory_by}
 use Rattle.zvt_report.specs.Said.{AreSaidBy, IsSaidBy}
+use Rattle.zvt_report.specs.Settling.{settled}
+use Rattle.zvt_report.specs.Statements.{States, stated}
 use Rattle.zvt_report.specs.declared.report.Report.{Report}
 use Rattle.zvt_report.specs.declared.reporter.Reporter.{Reporter}
 use Rattle.zvt_report.specs.declared.rows.OrderMessage.{OrderMessage}
+use Rattle.zvt_report.specs.declared.statements.Statement.{Statement}
+use Rattle.zvt_report.proofs.StatementLemmas.{starts_stated}
 
 -- ---- one event
 
@@ -54,16 +58,18 @@ says_none old new more none same =
 
 -- an event that is no order
 pub reports_by : (old new : Reporter) (event : At) (happened : List Happening) → ((book : List Entry) → happenings_with book event.trace_event ≡ happened) → named_by event.trace_event ≡ None → beginning_in event.trace_event ≡ []
-    → ReportsBy old event.line happened new → Reports old event new
-reports_by old new event happened same unnamed none (judged, named, messages) = (
+    → ReportsBy old event.line happened new → States old.hearing event new.hearing → Reports old event new
+reports_by old new event happened same unnamed none (judged, named, messages) states = (
   judges_by old.day new.day event happened same judged,
   named ∙ ap (named_after old.named) (sym unnamed),
   says_none old.messages.items new.messages.items (beginning_in event.trace_event) none messages,
+  states,
 )
 
 -- an event by which nothing happened
-pub reports_same : (old : Reporter) (event : At) → ((book : List Entry) → happenings_with book event.trace_event ≡ []) → named_by event.trace_event ≡ None → beginning_in event.trace_event ≡ [] → Reports old event old
-reports_same old event same unnamed none = reports_by old old event [] same unnamed none (judges_none old.day event.line, refl, refl)
+pub reports_same : (old : Reporter) (event : At) → ((book : List Entry) → happenings_with book event.trace_event ≡ []) → named_by event.trace_event ≡ None → beginning_in event.trace_event ≡ []
+    → States old.hearing event old.hearing → Reports old event old
+reports_same old event same unnamed none states = reports_by old old event [] same unnamed none (judges_none old.day event.line, refl, refl) states
 
 -- ---- all events
 
@@ -87,6 +93,11 @@ all_said (event ∷ events) old new messages said some =
     subst (λ (l : List Message). AreSaidBy l new.messages.items) (append_assoc messages (beginning_in event.trace_event) (beginnings events))
     (all_said events some.0 new (messages ++ beginning_in event.trace_event) (some.1.2 messages said) some.2)
 
+-- what was stated about the orders
+pub all_stated : (events : List At) (old new : Reporter) → HearsAll hears old events new → stated new.hearing [] ≡ stated old.hearing events
+all_stated [] old new same = ap (λ (s : Reporter). stated s.hearing []) same
+all_stated (event ∷ events) old new some = all_stated events some.0 new some.2 ∙ some.1.3 events
+
 -- one more message says this
 pub said_more : (messages : List Message) (m : Message) (old : List OrderMessage) (said : OrderMessage) → AreSaidBy messages old → IsSaidBy m said → AreSaidBy (messages ++ m ∷ []) (old ++ said ∷ [])
 said_more [] m [] said before is = (is, tt)
@@ -102,13 +113,16 @@ reported_all r scope trace tally report old new starts walked finds =
     let events = seen scope walked.0 in
     let all = all_seen hears scope walked.0 old new starts.1 walked.2 in
     let heard = all.0 in
-    let none : AreSaidBy [] old.listener.messages.items = subst (λ (l : List OrderMessage). AreSaidBy [] l) (sym starts.0.2) tt in (
+    let none : AreSaidBy [] old.listener.messages.items = subst (λ (l : List OrderMessage). AreSaidBy [] l) (sym starts.0.2) tt in
+    let statements = all_stated events old.listener new.listener heard ∙ starts_stated old.listener.hearing events starts.0.3 starts.0.4 in (
       walked.0,
       walked.1,
       subst (λ (t : Tally). Tallies t walked.0) (sym finds.tally) walked.3,
       record {
         currency = finds.currency ∙ currency_heard events old.listener new.listener starts.0.1 heard;
-        books = finds.books (reported events) (all_judged events old.listener new.listener (noted 0 Connected ∷ []) starts.0.0 heard);
+        books = finds.books (reported events) (all_judged events old.listener new.listener (noted 0 Connected ∷ []) starts.0.0 heard) ∙ ap (λ (l : List Statement). settled l (day_of (reported events))) statements;
+        statements = finds.statements ∙ statements;
+        closings = finds.closings;
         messages = subst (λ (l : List OrderMessage). AreSaidBy (beginnings events) l) (sym finds.messages) (all_said events old.listener new.listener [] none heard);
       },
       finds.passed ∙ all.1 ∙ ap (λ (n : ℕ). passed_after scope n walked.0) starts.2,

@@ -5,6 +5,12 @@ pub mod Laws
 pub mod Looks
 pub mod Naming
 pub mod Reported
+pub mod CardTotals
+pub mod Statements
+pub mod Settling
+pub mod Explaining
+pub mod Closings
+pub mod Differing
 pub mod Reports
 pub mod Said
 pub mod Places
@@ -13,6 +19,7 @@ pub mod Kinds
 pub mod Sums
 pub mod Written
 pub mod Members
+pub mod CloseObjects
 pub mod Objects
 pub mod Amounts
 pub mod Columns
@@ -25,6 +32,7 @@ pub mod Wrapping
 pub mod LookList
 pub mod PaymentTable
 pub mod OtherTable
+pub mod CloseTable
 pub mod TextReport
 pub mod Tones
 pub mod PageParts
@@ -32,3 +40,4 @@ pub mod PageLooks
 pub mod PageTables
 pub mod PageCards
 pub mod Page
+pub mod PageClosings

@@ -9,11 +9,14 @@ use Rattle.zvt_till.specs.declared.happenings.Sent.TheVariants.{Register, Pay, R
 use Rattle.zvt_till.specs.declared.outcomes.Cause.TheVariants.{Line, NoStatus}
 use Rattle.zvt_till.specs.declared.outcomes.Outcome.{Outcome}
 use Rattle.zvt_till.specs.declared.outcomes.Outcome.TheVariants.{Registered, Paid, Declined, Refused, Aborted, Unclear, Reversed, DayClosed}
+use Rattle.zvt_report.specs.Differing.{differs_at}
 use Rattle.zvt_report.specs.declared.cases.Case.{Case}
-use Rattle.zvt_report.specs.declared.cases.Case.TheVariants.{ApprovedNotCompleted, OtherAmount, PaymentUnclear, ReversalUnclear, TakenBackBefore, ReversalRefused, CloseUnclear, CloseRefused}
+use Rattle.zvt_report.specs.declared.cases.Case.TheVariants.{ApprovedNotCompleted, OtherAmount, PaymentUnclear, ReversalUnclear, TakenBackBefore, ReversalRefused, CloseUnclear, CloseRefused, CloseDiffers}
 use Rattle.zvt_report.specs.declared.cases.Look.{Look}
 use Rattle.zvt_report.specs.declared.cases.Weight.{Weight}
 use Rattle.zvt_report.specs.declared.cases.Weight.TheVariants.{Act, Check}
+use Rattle.zvt_report.specs.declared.closings.Closing.{Closing}
+use Rattle.zvt_report.specs.declared.explaining.Explained.TheVariants.{Nothing}
 use Rattle.zvt_report.specs.declared.rows.Approval.{Approval}
 use Rattle.zvt_report.specs.declared.rows.OrderRow.{OrderRow}
 
@@ -78,15 +81,16 @@ reversal_case book place decided (Unclear cause) = cond decided None (Some Rever
 reversal_case book place decided Reversed = None
 reversal_case book place decided DayClosed = None
 
-abbrev pub close_case : Outcome → Option Case
-close_case Registered = None
-close_case (Paid trace receipt) = None
-close_case (Declined code) = Some CloseRefused
-close_case (Refused code) = Some CloseRefused
-close_case (Aborted code) = Some CloseRefused
-close_case (Unclear cause) = Some CloseUnclear
-close_case Reversed = None
-close_case DayClosed = None
+-- an end of day, whose total differs from the book or not
+abbrev pub close_case : (differs : Bool) → Outcome → Option Case
+close_case differs Registered = None
+close_case differs (Paid trace receipt) = None
+close_case differs (Declined code) = Some CloseRefused
+close_case differs (Refused code) = Some CloseRefused
+close_case differs (Aborted code) = Some CloseRefused
+close_case differs (Unclear cause) = Some CloseUnclear
+close_case differs Reversed = None
+close_case differs DayClosed = cond differs (Some CloseDiffers) None
 
 abbrev pub unclear_case : (amount : ℕ) → Option Approval → Outcome → Option Case
 unclear_case amount approval Registered = None
@@ -99,13 +103,13 @@ unclear_case amount approval Reversed = None
 unclear_case amount approval DayClosed = None
 
 -- why to look at an order, in this book, before these later rows
-abbrev pub case_as : List Entry → (later : List OrderRow) → Option Approval → Outcome → Sent → Option Case
-case_as book later approval outcome (Register c) = None
-case_as book later approval outcome (Pay a) = unclear_case a approval outcome
-case_as book later approval outcome (Reverse e) = reversal_case book e (list_any (decides e) later) outcome
-case_as book later approval outcome CloseDay = close_case outcome
-case_as book later approval outcome Cancel = None
-case_as book later approval outcome Foreign = None
+abbrev pub case_as : List Entry → (differs : Bool) → (later : List OrderRow) → Option Approval → Outcome → Sent → Option Case
+case_as book differs later approval outcome (Register c) = None
+case_as book differs later approval outcome (Pay a) = unclear_case a approval outcome
+case_as book differs later approval outcome (Reverse e) = reversal_case book e (list_any (decides e) later) outcome
+case_as book differs later approval outcome CloseDay = close_case differs outcome
+case_as book differs later approval outcome Cancel = None
+case_as book differs later approval outcome Foreign = None
 
 -- the first later payment of the same amount that is booked or unclear; the first later row has this place
 abbrev pub paid_again : Sent → (place : ℕ) → (later : List OrderRow) → Option ℕ
@@ -116,9 +120,9 @@ paid_again CloseDay place later = None
 paid_again Cancel place later = None
 paid_again Foreign place later = None
 
-abbrev pub look_at : List Entry → (place : ℕ) → OrderRow → (later : List OrderRow) → Option Look
-look_at book place row later =
-    option_map (λ case. record { case = case; order = place; again = paid_again row.order (place + 1) later }) (case_as book later row.approval row.outcome row.order)
+abbrev pub look_at : List Entry → List (Option Closing) → (place : ℕ) → OrderRow → (later : List OrderRow) → Option Look
+look_at book closings place row later =
+    option_map (λ case. record { case = case; order = place; again = paid_again row.order (place + 1) later }) (case_as book (differs_at closings place) later row.approval row.outcome row.order)
 
 abbrev pub weight_of : Case → Weight
 weight_of ApprovedNotCompleted = Act
@@ -129,16 +133,17 @@ weight_of TakenBackBefore = Act
 weight_of ReversalRefused = Check
 weight_of CloseUnclear = Check
 weight_of CloseRefused = Check
+weight_of CloseDiffers = Check
 
 -- ---- all rows
 
-abbrev pub looks_from : List Entry → (place : ℕ) → List OrderRow → List Look
-looks_from book place [] = []
-looks_from book place (row ∷ later) = cons_option (look_at book place row later) (looks_from book (place + 1) later)
+abbrev pub looks_from : List Entry → List (Option Closing) → (place : ℕ) → List OrderRow → List Look
+looks_from book closings place [] = []
+looks_from book closings place (row ∷ later) = cons_option (look_at book closings place row later) (looks_from book closings (place + 1) later)
 
 -- in the order of the rows
-abbrev pub looks : List Entry → List OrderRow → List Look
-looks book rows = looks_from book 0 rows
+abbrev pub looks : List Entry → List (Option Closing) → List OrderRow → List Look
+looks book closings rows = looks_from book closings 0 rows
 
 -- ---- laws
 
@@ -160,6 +165,7 @@ is_of_payment TakenBackBefore = false
 is_of_payment ReversalRefused = false
 is_of_payment CloseUnclear = false
 is_of_payment CloseRefused = false
+is_of_payment CloseDiffers = false
 
 -- the places of these looks that are about a payment
 abbrev pub payments_looked_at : List Look → List ℕ
@@ -168,7 +174,7 @@ payments_looked_at (look ∷ more) = cond (is_of_payment look.case) (look.order 
 
 -- each unclear payment is looked at once, and no other payment is
 abbrev pub EachPaymentIsLookedAt : Type 0
-EachPaymentIsLookedAt = (book : List Entry) (rows : List OrderRow) → payments_looked_at (looks book rows) ≡ unclear_places 0 rows
+EachPaymentIsLookedAt = (book : List Entry) (closings : List (Option Closing)) (rows : List OrderRow) → payments_looked_at (looks book closings rows) ≡ unclear_places 0 rows
 
 abbrev pub is_open_by : (place : ℕ) → Sent → Outcome → Bool
 is_open_by place (Reverse e) (Unclear cause) = e == place
@@ -197,6 +203,7 @@ is_of_reversal TakenBackBefore = false
 is_of_reversal ReversalRefused = false
 is_of_reversal CloseUnclear = false
 is_of_reversal CloseRefused = false
+is_of_reversal CloseDiffers = false
 
 -- the places of these looks that are about an unclear reversal
 abbrev pub reversals_looked_at : List Look → List ℕ
@@ -205,7 +212,7 @@ reversals_looked_at (look ∷ more) = cond (is_of_reversal look.case) (look.orde
 
 -- each reversal that was left open is looked at once, and no other is called unclear
 abbrev pub EachReversalIsLookedAt : Type 0
-EachReversalIsLookedAt = (book : List Entry) (rows : List OrderRow) → reversals_looked_at (looks book rows) ≡ open_places 0 rows
+EachReversalIsLookedAt = (book : List Entry) (closings : List (Option Closing)) (rows : List OrderRow) → reversals_looked_at (looks book closings rows) ≡ open_places 0 rows
 
 -- ---- rows worked by hand
 
@@ -219,18 +226,23 @@ abbrev looked : Case → ℕ → Option ℕ → Look
 looked case order again = record { case = case; order = order; again = again }
 
 -- paid again after a lost line, with a decline between
-twice : looks [] (a_row (Pay 3499) (Unclear Line) (approved 3499) ∷ a_row (Pay 3499) (Declined 0x65) None ∷ a_row (Pay 3499) (Paid 21 None) (approved 3499) ∷ []) ≡ looked ApprovedNotCompleted 0 (Some 2) ∷ []
+twice : looks [] [] (a_row (Pay 3499) (Unclear Line) (approved 3499) ∷ a_row (Pay 3499) (Declined 0x65) None ∷ a_row (Pay 3499) (Paid 21 None) (approved 3499) ∷ []) ≡ looked ApprovedNotCompleted 0 (Some 2) ∷ []
 twice = refl
 
-a_tip : looks [] (a_row (Pay 5000) (Unclear NoStatus) (approved 5500) ∷ a_row (Pay 500) (Unclear Line) None ∷ []) ≡ looked OtherAmount 0 None ∷ looked PaymentUnclear 1 None ∷ []
+a_tip : looks [] [] (a_row (Pay 5000) (Unclear NoStatus) (approved 5500) ∷ a_row (Pay 500) (Unclear Line) None ∷ []) ≡ looked OtherAmount 0 None ∷ looked PaymentUnclear 1 None ∷ []
 a_tip = refl
 
 abbrev an_entry : Bool → Entry
 an_entry reversed = record { amount = 500; trace = 1; receipt = None; reversed = reversed; doubt = No }
 
 -- a second reversal decided what the first one left open
-decided_later : looks (an_entry true ∷ []) (a_row (Reverse 0) (Unclear Line) None ∷ a_row (Reverse 0) Reversed None ∷ a_row (Reverse 0) (Aborted 0xB4) None ∷ []) ≡ []
+decided_later : looks (an_entry true ∷ []) [] (a_row (Reverse 0) (Unclear Line) None ∷ a_row (Reverse 0) Reversed None ∷ a_row (Reverse 0) (Aborted 0xB4) None ∷ []) ≡ []
 decided_later = refl
 
-taken_back_before : looks (an_entry false ∷ []) (a_row (Reverse 0) (Unclear Line) None ∷ a_row (Reverse 0) (Refused 0xB4) None ∷ a_row CloseDay (Aborted 0x6C) None ∷ []) ≡ looked TakenBackBefore 1 None ∷ looked CloseRefused 2 None ∷ []
+taken_back_before : looks (an_entry false ∷ []) [] (a_row (Reverse 0) (Unclear Line) None ∷ a_row (Reverse 0) (Refused 0xB4) None ∷ a_row CloseDay (Aborted 0x6C) None ∷ []) ≡ looked TakenBackBefore 1 None ∷ looked CloseRefused 2 None ∷ []
 taken_back_before = refl
+
+-- a total of 3.00 after a payment of 5.00
+closed_differently : looks [] (None ∷ Some (record { stated = Some 300; totals = None; booked = 500; taken_back = 0; covered = Some 300; explained = Nothing }) ∷ []) (a_row (Pay 500) (Paid 17 None) None ∷ a_row CloseDay DayClosed None ∷ [])
+    ≡ looked CloseDiffers 1 None ∷ []
+closed_differently = refl

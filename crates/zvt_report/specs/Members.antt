@@ -1,9 +1,9 @@
 -- The members of the objects of a report.
-use Rattle.std.specs.Prelude.{◌≡◌, ℕ, Bool, true, List, [], ◌∷◌, ◌++◌, Option, Some, None, codes, unwrap_or, refl}
+use Rattle.std.specs.Prelude.{◌≡◌, ℕ, ◌+◌, ◌-◌, negsuc, nat_le, cond, Bool, true, List, [], ◌∷◌, ◌++◌, Option, Some, None, codes, unwrap_or, refl}
 use Rattle.std.specs.Fmt.{digits}
 use Rattle.hex.specs.Hex.{encode_with}
 use Rattle.json.specs.Print.{escape_byte}
-use Rattle.serde_json.specs.Data.{Data, string, boolean, array, object, no_items, item, Members, no_members, member}
+use Rattle.serde_json.specs.Data.{Data, string, boolean, number, negative, array, object, no_items, item, Members, no_members, member}
 use Rattle.serde_json.specs.Written.{comma_if, compact_text}
 use Rattle.zvt_json.specs.Strings.{count_value, byte_value, hex_value, line_text}
 use Rattle.zvt_text.specs.MessageTexts.{four_digits}
@@ -11,6 +11,8 @@ use Rattle.zvt_text.specs.Meanings.{command_name, meaning_of}
 use Rattle.zvt_till.specs.Names.{cause_name}
 use Rattle.zvt_till.specs.declared.outcomes.Cause.TheVariants.{NoStatus}
 use Rattle.zvt_report.specs.Words.{case_name, ending_name, weight_name}
+use Rattle.zvt_report.specs.declared.explaining.Explained.{Explained}
+use Rattle.zvt_report.specs.declared.explaining.Explained.TheVariants as explained
 use Rattle.zvt_report.specs.declared.members.Object.{Object}
 use Rattle.zvt_report.specs.declared.members.Object.TheVariants as object_of
 use Rattle.zvt_report.specs.declared.members.Name.{Name}
@@ -35,12 +37,15 @@ name_text name.Again = codes "again"
 name_text name.Amount = codes "amount"
 name_text name.Approved = codes "approved"
 name_text name.Bad = codes "bad"
+name_text name.Book = codes "book"
 name_text name.Booked = codes "booked"
 name_text name.Case = codes "case"
 name_text name.Cause = codes "cause"
 name_text name.Code = codes "code"
 name_text name.Control = codes "control"
 name_text name.Currency = codes "currency"
+name_text name.Differs = codes "differs"
+name_text name.ExplainedBy = codes "explained_by"
 name_text name.Lines = codes "lines"
 name_text name.Looks = codes "looks"
 name_text name.Messages = codes "messages"
@@ -51,10 +56,12 @@ name_text name.Others = codes "others"
 name_text name.Outcome = codes "outcome"
 name_text name.Payment = codes "payment"
 name_text name.Receipt = codes "receipt"
+name_text name.Receipts = codes "receipts"
 name_text name.ReversalUnclear = codes "reversal_unclear"
 name_text name.ReversalsUnclear = codes "reversals_unclear"
 name_text name.Reversed = codes "reversed"
 name_text name.ReversedBy = codes "reversed_by"
+name_text name.Stated = codes "stated"
 name_text name.TakenBack = codes "taken_back"
 name_text name.Total = codes "total"
 name_text name.Trace = codes "trace"
@@ -74,12 +81,34 @@ word_text (word.Command high low) = unwrap_or (command_name high low) []
 abbrev pub lines_value : (first last : ℕ) → Data
 lines_value first last = array (item (count_value first) (item (count_value last) no_items))
 
+-- a number less another one
+abbrev pub difference_value : (more less : ℕ) → Data
+difference_value more less = cond (nat_le less more) (count_value (more - less)) (number (negative (negsuc (less - more - 1))))
+
+abbrev pub receipts_value : (first last : List ℕ) → Data
+receipts_value first last = array (item (hex_value first) (item (hex_value last) no_items))
+
+-- the number of an order, counted from 1
+abbrev pub order_value : (order : ℕ) → Data
+order_value order = count_value (order + 1)
+
+abbrev pub orders_value : Explained → Data
+orders_value explained.Nothing = array no_items
+orders_value explained.Empty = array no_items
+orders_value (explained.One a) = array (item (order_value a) no_items)
+orders_value (explained.Two a b) = array (item (order_value a) (item (order_value b) no_items))
+orders_value (explained.Three a b c) = array (item (order_value a) (item (order_value b) (item (order_value c) no_items)))
+orders_value explained.Several = array no_items
+
 abbrev pub value_data : Value → Data
 value_data value.True = boolean true
 value_data (value.Count n) = count_value n
+value_data (value.Difference more less) = difference_value more less
 value_data (value.Lines first last) = lines_value first last
 value_data (value.Byte byte) = byte_value byte
 value_data (value.Bytes bytes) = hex_value bytes
+value_data (value.Receipts first last) = receipts_value first last
+value_data (value.Orders orders) = orders_value orders
 value_data (value.Currency currency) = string (four_digits currency)
 value_data (value.Word w) = string (word_text w)
 
@@ -117,6 +146,11 @@ no_first : object_text object_of.Order (None ∷ of name.Code (value.Byte 0x6C) 
     ≡ codes "{\"order\":{\"code\":\"6C\",\"control\":\"0631\",\"lines\":[4,10]}}\n"
 unfolding object_text digits escape_byte encode_with
 no_first = refl
+
+a_close : object_text object_of.Close (of name.Book (value.Difference 500 200) ∷ of name.Differs (value.Difference 300 800) ∷ of name.Receipts (value.Receipts (0x00 ∷ 0x05 ∷ []) (0x00 ∷ 0x15 ∷ [])) ∷ [])
+    ≡ codes "{\"close\":{\"book\":300,\"differs\":-500,\"receipts\":[\"0005\",\"0015\"]}}\n"
+unfolding object_text digits escape_byte encode_with
+a_close = refl
 
 no_member : object_text object_of.Close (None ∷ []) ≡ codes "{\"close\":{}}\n"
 unfolding object_text escape_byte

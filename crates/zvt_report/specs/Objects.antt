@@ -17,6 +17,8 @@ use Rattle.zvt_till.specs.declared.outcomes.Cause.TheVariants as cause
 use Rattle.zvt_till.specs.declared.outcomes.Outcome.{Outcome}
 use Rattle.zvt_till.specs.declared.outcomes.Outcome.TheVariants as outcome
 use Rattle.zvt_trace.specs.declared.fault.Tally.{Tally}
+use Rattle.zvt_report.specs.CloseObjects.{book_member, differs_member, explained_member, receipts_member, stated_member}
+use Rattle.zvt_report.specs.Differing.{closing_at}
 use Rattle.zvt_report.specs.Day.{DayValue}
 use Rattle.zvt_report.specs.Kinds.{kind_of}
 use Rattle.zvt_report.specs.Laws.{booked_total}
@@ -27,6 +29,7 @@ use Rattle.zvt_report.specs.Sums.{reversed_count, unclear_reversals, unclear_tot
 use Rattle.zvt_report.specs.Words.{ending_of}
 use Rattle.zvt_report.specs.declared.cases.Case.TheVariants as case_of
 use Rattle.zvt_report.specs.declared.cases.Look.{Look}
+use Rattle.zvt_report.specs.declared.closings.Closing.{Closing}
 use Rattle.zvt_report.specs.declared.kinds.OrderKind.{OrderKind}
 use Rattle.zvt_report.specs.declared.kinds.OrderKind.TheVariants as kind
 use Rattle.zvt_report.specs.declared.members.Member.{Member}
@@ -187,13 +190,18 @@ other_members place row message =
     ∷ words row.outcome
     ∷ []
 
-abbrev pub close_members : Place → OrderRow → List (Option Member)
-close_members place row =
-    maybe_cause name.Cause (cause_of row.outcome)
+abbrev pub close_members : Option Closing → Place → OrderRow → List (Option Member)
+close_members closing place row =
+    book_member closing
+    ∷ maybe_cause name.Cause (cause_of row.outcome)
     ∷ code row.outcome
+    ∷ differs_member closing
+    ∷ explained_member closing
     ∷ lines row
     ∷ count name.Order place.order
     ∷ ending row
+    ∷ receipts_member closing
+    ∷ stated_member closing
     ∷ words row.outcome
     ∷ []
 
@@ -210,18 +218,18 @@ plain_members place row message =
     ∷ []
 
 -- an order that is no payment
-abbrev pub order_line : OrderKind → DayValue → Place → OrderRow → OrderMessage → List ℕ
-order_line kind.Reversal books place row message = object_text object_of.Reversal (reversal_members books place row message)
-order_line kind.OtherMoney books place row message = object_text object_of.Other (other_members place row message)
-order_line kind.Close books place row message = object_text object_of.Close (close_members place row)
-order_line _ books place row message = object_text object_of.Order (plain_members place row message)
+abbrev pub order_line : OrderKind → DayValue → Place → OrderRow → OrderMessage → Option Closing → List ℕ
+order_line kind.Reversal books place row message closing = object_text object_of.Reversal (reversal_members books place row message)
+order_line kind.OtherMoney books place row message closing = object_text object_of.Other (other_members place row message)
+order_line kind.Close books place row message closing = object_text object_of.Close (close_members closing place row)
+order_line _ books place row message closing = object_text object_of.Order (plain_members place row message)
 
-abbrev pub row_line_as : Sent → DayValue → Place → OrderRow → OrderMessage → List ℕ
-row_line_as (sent.Pay amount) books place row message = object_text object_of.Payment (payment_members books place row amount)
-row_line_as other books place row message = order_line (kind_of other message.high message.low) books place row message
+abbrev pub row_line_as : Sent → DayValue → Place → OrderRow → OrderMessage → Option Closing → List ℕ
+row_line_as (sent.Pay amount) books place row message closing = object_text object_of.Payment (payment_members books place row amount)
+row_line_as other books place row message closing = order_line (kind_of other message.high message.low) books place row message closing
 
-abbrev pub row_line : DayValue → Place → OrderRow → OrderMessage → List ℕ
-row_line books place row message = row_line_as row.order books place row message
+abbrev pub row_line : DayValue → Place → OrderRow → OrderMessage → Option Closing → List ℕ
+row_line books place row message closing = row_line_as row.order books place row message closing
 
 -- ---- all rows
 
@@ -233,9 +241,10 @@ abbrev pub message_at : List OrderMessage → (place : ℕ) → OrderMessage
 message_at messages place = elim (slice_get messages place) [ None ↦ no_message | Some message ↦ message ]
 
 -- a line for each row, after these counts
-abbrev pub rows_json : DayValue → List OrderMessage → Counts → List OrderRow → List ℕ
-rows_json books messages c [] = []
-rows_json books messages c (row ∷ rows) = row_line books (place_after c row) row (message_at messages c.orders) ++ rows_json books messages (counted c row) rows
+abbrev pub rows_json : DayValue → List OrderMessage → List (Option Closing) → Counts → List OrderRow → List ℕ
+rows_json books messages closings c [] = []
+rows_json books messages closings c (row ∷ rows) =
+    row_line books (place_after c row) row (message_at messages c.orders) (closing_at closings c.orders) ++ rows_json books messages closings (counted c row) rows
 
 -- ---- looks
 
@@ -302,9 +311,9 @@ abbrev pub summary_line : Tally → (currency : Option ℕ) → DayValue → Lis
 summary_line tally currency books messages looks = object_text object_of.Summary (summary_members tally currency books messages looks)
 
 -- the summary, then the looks, then the orders
-abbrev pub report_json : Tally → (currency : Option ℕ) → DayValue → List OrderMessage → List Look → List ℕ
-report_json tally currency books messages looks =
-    summary_line tally currency books messages looks ++ looks_json books.orders looks ++ rows_json books messages no_counts books.orders
+abbrev pub report_json : Tally → (currency : Option ℕ) → DayValue → List OrderMessage → List (Option Closing) → List Look → List ℕ
+report_json tally currency books messages closings looks =
+    summary_line tally currency books messages looks ++ looks_json books.orders looks ++ rows_json books messages closings no_counts books.orders
 
 -- ---- rows worked by hand
 
@@ -322,33 +331,33 @@ a_day book orders = record { book = book; unclear = []; orders = orders }
 
 -- a payment that was taken back
 taken_back : let orders = a_row (sent.Pay 1234) 12 38 (outcome.Paid 17 (Some (0x00 ∷ 0x05 ∷ []))) None ∷ a_row (sent.Reverse 0) 40 52 outcome.Reversed None ∷ [] in
-    rows_json (a_day (an_entry 1234 true doubt.No ∷ []) orders) (a_message 0x01 (Some 1234) None ∷ a_message 0x30 None (Some (0x00 ∷ 0x05 ∷ [])) ∷ []) no_counts orders
+    rows_json (a_day (an_entry 1234 true doubt.No ∷ []) orders) (a_message 0x01 (Some 1234) None ∷ a_message 0x30 None (Some (0x00 ∷ 0x05 ∷ [])) ∷ []) [] no_counts orders
     ≡ codes "{\"payment\":{\"amount\":1234,\"lines\":[12,38],\"order\":1,\"outcome\":\"paid\",\"payment\":1,\"receipt\":\"0005\",\"reversed_by\":2,\"trace\":17}}\n{\"reversal\":{\"amount\":1234,\"lines\":[40,52],\"order\":2,\"outcome\":\"reversed\",\"payment\":1,\"receipt\":\"0005\"}}\n"
 unfolding object_text digits escape_byte encode_with
 taken_back = refl
 
 -- an unclear payment with an approval, and a payment whose reversal is unclear
 unclear_payment : let orders = a_row (sent.Pay 3499) 128 146 (outcome.Unclear cause.Line) (Some (record { line = 144; amount = 3499; trace = Some 20; receipt = None })) ∷ [] in
-    rows_json (a_day [] orders) [] no_counts orders
+    rows_json (a_day [] orders) [] [] no_counts orders
     ≡ codes "{\"payment\":{\"amount\":3499,\"approved\":3499,\"cause\":\"Line\",\"lines\":[128,146],\"order\":1,\"outcome\":\"unclear\",\"payment\":1,\"trace\":20}}\n"
 unfolding object_text digits escape_byte
 unclear_payment = refl
 
 unclear_reversal : let orders = a_row (sent.Pay 1234) 12 38 (outcome.Paid 17 None) None ∷ [] in
-    rows_json (a_day (an_entry 1234 false (doubt.Unclear cause.Line) ∷ []) orders) [] no_counts orders
+    rows_json (a_day (an_entry 1234 false (doubt.Unclear cause.Line) ∷ []) orders) [] [] no_counts orders
     ≡ codes "{\"payment\":{\"amount\":1234,\"lines\":[12,38],\"order\":1,\"outcome\":\"paid\",\"payment\":1,\"reversal_unclear\":\"Line\",\"trace\":17}}\n"
 unfolding object_text digits escape_byte
 unclear_reversal = refl
 
 taken_back_before : let orders = a_row (sent.Pay 1234) 12 38 (outcome.Paid 17 None) None ∷ [] in
-    rows_json (a_day (an_entry 1234 false doubt.TakenBack ∷ []) orders) [] no_counts orders
+    rows_json (a_day (an_entry 1234 false doubt.TakenBack ∷ []) orders) [] [] no_counts orders
     ≡ codes "{\"payment\":{\"amount\":1234,\"lines\":[12,38],\"order\":1,\"outcome\":\"paid\",\"payment\":1,\"taken_back\":true,\"trace\":17}}\n"
 unfolding object_text digits escape_byte
 taken_back_before = refl
 
 -- a refund, a reversal of a payment that is not in the trace, an end of day that was aborted, and a diagnosis
 other_orders : let orders = a_row sent.Foreign 2 6 outcome.DayClosed None ∷ a_row sent.Foreign 8 12 outcome.DayClosed None ∷ a_row sent.CloseDay 14 16 (outcome.Aborted 0x6C) None ∷ a_row sent.Foreign 18 20 outcome.DayClosed None ∷ [] in
-    rows_json (a_day [] orders) (a_message 0x31 (Some 500) None ∷ a_message 0x30 None (Some (0x00 ∷ 0x09 ∷ [])) ∷ a_message 0x50 None None ∷ a_message 0x70 None None ∷ []) no_counts orders
+    rows_json (a_day [] orders) (a_message 0x31 (Some 500) None ∷ a_message 0x30 None (Some (0x00 ∷ 0x09 ∷ [])) ∷ a_message 0x50 None None ∷ a_message 0x70 None None ∷ []) [] no_counts orders
     ≡ codes "{\"other\":{\"amount\":500,\"control\":\"0631\",\"lines\":[2,6],\"name\":\"refund\",\"order\":1,\"outcome\":\"completed\"}}\n{\"reversal\":{\"lines\":[8,12],\"order\":2,\"outcome\":\"completed\",\"receipt\":\"0009\"}}\n{\"close\":{\"code\":\"6C\",\"lines\":[14,16],\"order\":3,\"outcome\":\"aborted\",\"words\":\"abort by time-out or abort key\"}}\n{\"order\":{\"control\":\"0670\",\"lines\":[18,20],\"name\":\"diagnosis\",\"order\":4,\"outcome\":\"completed\"}}\n"
 unfolding object_text digits escape_byte encode_with command_name meaning_of
 other_orders = refl
@@ -368,7 +377,7 @@ a_summary = refl
 -- the summary comes first, then the look, then the orders
 a_report : let orders = a_row (sent.Register None) 2 4 outcome.Registered None ∷ a_row (sent.Pay 3499) 6 8 (outcome.Unclear cause.Line) None ∷ a_row (sent.Pay 3499) 10 12 (outcome.Paid 21 None) None ∷ [] in
     let book : List Entry = record { amount = 3499; trace = 21; receipt = None; reversed = false; doubt = doubt.No } ∷ [] in
-    report_json (record { messages = 24; bad = 0 }) (Some 978) (record { book = book; unclear = (3499, cause.Line) ∷ []; orders = orders }) (a_message 0x00 None None ∷ a_message 0x01 (Some 3499) None ∷ a_message 0x01 (Some 3499) None ∷ []) (looks book orders)
+    report_json (record { messages = 24; bad = 0 }) (Some 978) (record { book = book; unclear = (3499, cause.Line) ∷ []; orders = orders }) (a_message 0x00 None None ∷ a_message 0x01 (Some 3499) None ∷ a_message 0x01 (Some 3499) None ∷ []) [] (looks book [] orders)
     ≡ codes "{\"summary\":{\"bad\":0,\"booked\":1,\"currency\":\"0978\",\"looks\":1,\"messages\":24,\"net\":3499,\"others\":0,\"reversals_unclear\":0,\"reversed\":0,\"total\":3499,\"unclear\":1,\"unclear_amount\":3499}}\n{\"look\":{\"again\":3,\"case\":\"PaymentUnclear\",\"cause\":\"Line\",\"lines\":[6,8],\"order\":2,\"payment\":1,\"weight\":\"check\"}}\n{\"order\":{\"control\":\"0600\",\"lines\":[2,4],\"order\":1,\"outcome\":\"completed\"}}\n{\"payment\":{\"amount\":3499,\"cause\":\"Line\",\"lines\":[6,8],\"order\":2,\"outcome\":\"unclear\",\"payment\":1}}\n{\"payment\":{\"amount\":3499,\"lines\":[10,12],\"order\":3,\"outcome\":\"paid\",\"payment\":2,\"trace\":21}}\n"
 unfolding object_text digits escape_byte encode_with command_name
 a_report = refl

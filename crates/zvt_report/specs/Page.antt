@@ -8,11 +8,13 @@ use Rattle.zvt_trace.specs.declared.fault.Tally.{Tally}
 use Rattle.zvt_report.specs.Currencies.{decimals_of, money_of}
 use Rattle.zvt_report.specs.Day.{DayValue}
 use Rattle.zvt_report.specs.PageCards.{cards}
+use Rattle.zvt_report.specs.PageClosings.{closings_section}
 use Rattle.zvt_report.specs.PageLooks.{looks_section}
 use Rattle.zvt_report.specs.PageTables.{others_section, payments_section}
 use Rattle.zvt_report.specs.Summary.{unit_text}
 use Rattle.zvt_report.specs.TextReport.{footer}
 use Rattle.zvt_report.specs.declared.cases.Look.{Look}
+use Rattle.zvt_report.specs.declared.closings.Closing.{Closing}
 use Rattle.zvt_report.specs.declared.currencies.Money.{Money}
 use Rattle.zvt_report.specs.declared.rows.OrderMessage.{OrderMessage}
 
@@ -40,18 +42,19 @@ page_foot tally = element Footer [] (leaf P [] (footer tally))
 unfoldable pub skip_link : Html
 skip_link = element A ((Class, codes "skip") ∷ (Href, codes "#look") ∷ []) (text (codes "Skip to what needs a look"))
 
-unfoldable pub sections : (name : List ℕ) → Option Money → Tally → DayValue → List OrderMessage → List Look → Html
-sections name money tally books messages looks =
+unfoldable pub sections : (name : List ℕ) → Option Money → Tally → DayValue → List OrderMessage → List (Option Closing) → List Look → Html
+sections name money tally books messages closings looks =
     all (page_head name money ∷ cards (decimals_of money) books messages ∷ looks_section (decimals_of money) books looks ∷ payments_section (decimals_of money) books
-    ∷ others_section (decimals_of money) books messages ∷ page_foot tally ∷ [])
+    ∷ others_section (decimals_of money) books messages ∷ closings_section (decimals_of money) closings books.orders ∷ page_foot tally ∷ [])
 
 -- the body of the page
-unfoldable pub page_of : (name : List ℕ) → Option Money → Tally → DayValue → List OrderMessage → List Look → Html
-page_of name money tally books messages looks =
-    both skip_link (element Main ((Class, codes "page") ∷ []) (sections name money tally books messages looks))
+unfoldable pub page_of : (name : List ℕ) → Option Money → Tally → DayValue → List OrderMessage → List (Option Closing) → List Look → Html
+page_of name money tally books messages closings looks =
+    both skip_link (element Main ((Class, codes "page") ∷ []) (sections name money tally books messages closings looks))
 
-abbrev pub report_page : (name : List ℕ) → Tally → (currency : Option ℕ) → DayValue → List OrderMessage → List Look → List ℕ
-report_page name tally currency books messages looks = document (heading name) (page_of name (money_of currency) tally books messages looks)
+abbrev pub report_page : (name : List ℕ) → Tally → (currency : Option ℕ) → DayValue → List OrderMessage → List (Option Closing) → List Look → List ℕ
+report_page name tally currency books messages closings looks =
+    document (heading name) (page_of name (money_of currency) tally books messages closings looks)
 
 -- ---- a row worked by hand
 

@@ -8,6 +8,7 @@ use Rattle.zvt_report.specs.Day.{DayValue}
 use Rattle.zvt_report.specs.Members.{object_value}
 use Rattle.zvt_report.specs.Objects.{close_members, look_members, other_members, payment_members, plain_members, reversal_members, summary_members}
 use Rattle.zvt_report.specs.declared.cases.Look.{Look}
+use Rattle.zvt_report.specs.declared.closings.Closing.{Closing}
 use Rattle.zvt_report.specs.declared.members.Member.{Member}
 use Rattle.zvt_report.specs.declared.members.Object.{Object}
 use Rattle.zvt_report.specs.declared.members.Object.TheVariants as object_of
@@ -27,5 +28,5 @@ ObjectsReadBack =
     × ((books : DayValue) (place : Place) (row : OrderRow) (amount : ℕ) → ReadsBack object_of.Payment (payment_members books place row amount))
     × ((books : DayValue) (place : Place) (row : OrderRow) (message : OrderMessage) → ReadsBack object_of.Reversal (reversal_members books place row message))
     × ((place : Place) (row : OrderRow) (message : OrderMessage) → ReadsBack object_of.Other (other_members place row message))
-    × ((place : Place) (row : OrderRow) → ReadsBack object_of.Close (close_members place row))
+    × ((closing : Option Closing) (place : Place) (row : OrderRow) → ReadsBack object_of.Close (close_members closing place row))
     × ((place : Place) (row : OrderRow) (message : OrderMessage) → ReadsBack object_of.Order (plain_members place row message))

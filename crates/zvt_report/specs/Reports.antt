@@ -1,5 +1,5 @@
 -- What a reporter becomes by the events of a trace, and what a report answers.
-use Rattle.std.specs.Prelude.{◌≡◌, ℕ, List, [], ◌∷◌, ◌++◌, map, Result, Ok, Err}
+use Rattle.std.specs.Prelude.{◌≡◌, ℕ, List, [], ◌∷◌, ◌++◌, map, None, Result, Ok, Err}
 use Rattle.std.specs.Str.Lines.{lines}
 use Rattle.zvt_grammar.specs.Reading.{Reading}
 use Rattle.zvt_apdu.specs.Message.{Message}
@@ -18,10 +18,13 @@ use Rattle.zvt_audit.specs.Currencies.{agreed, currencies_of, named_after, named
 use Rattle.zvt_audit.specs.declared.by_control.ByControl.{ByControl}
 use Rattle.zvt_audit.specs.declared.currencies.NamedCurrency.TheVariants.{Absent}
 use Rattle.zvt_report.specs.Chapters.{Noted, noted}
+use Rattle.zvt_report.specs.Closings.{closings}
 use Rattle.zvt_report.specs.Day.{day_of}
 use Rattle.zvt_report.specs.Judging.{DaySoFar, HasJudged}
 use Rattle.zvt_report.specs.Reported.{beginning_in, beginnings, reported, with_event}
 use Rattle.zvt_report.specs.Said.{AreSaidBy}
+use Rattle.zvt_report.specs.Settling.{settled}
+use Rattle.zvt_report.specs.Statements.{States, stated, statements_of}
 use Rattle.zvt_report.specs.declared.report.Report.{Report}
 use Rattle.zvt_report.specs.declared.reporter.Reporter.{Reporter}
 use Rattle.zvt_report.specs.declared.rows.OrderMessage.{OrderMessage}
@@ -48,7 +51,7 @@ SaysMore old more new = (messages : List Message) → AreSaidBy messages old →
 abbrev pub Reports : Reporter → At → Reporter → Type 0
 Reports old event new =
     Judges old.day event new.day × (new.named ≡ named_after old.named (named_by event.trace_event))
-    × SaysMore old.messages.items (beginning_in event.trace_event) new.messages.items
+    × SaysMore old.messages.items (beginning_in event.trace_event) new.messages.items × States old.hearing event new.hearing
 
 -- ---- a reporter as a listener
 
@@ -67,7 +70,9 @@ wants_memory_by = FailsBy wants_memory
 
 -- the till is connected, and nothing else happened at it
 abbrev pub IsConnected : Reporter → Type 0
-IsConnected reporter = HasJudged (noted 0 Connected ∷ []) reporter.day × (reporter.named ≡ Absent) × (reporter.messages.items ≡ [])
+IsConnected reporter =
+    HasJudged (noted 0 Connected ∷ []) reporter.day × (reporter.named ≡ Absent) × (reporter.messages.items ≡ [])
+    × (reporter.hearing.statements.items ≡ []) × (reporter.hearing.current ≡ None)
 
 -- no message was refused yet
 abbrev pub StartsIn : Scope → ByControl Reporter → Type 0
@@ -78,7 +83,9 @@ pub record Finds (reporter : Reporter) (counted : Tally) (skipped : ℕ) (report
   pub tally : report.tally ≡ counted
   pub passed : report.passed ≡ skipped
   pub currency : report.currency ≡ agreed reporter.named
-  pub books : (notes : List Noted) → HasJudged notes reporter.day → report.books ≡ day_of notes
+  pub books : (notes : List Noted) → HasJudged notes reporter.day → report.books ≡ settled (stated reporter.hearing []) (day_of notes)
+  pub statements : report.statements.items ≡ stated reporter.hearing []
+  pub closings : report.closings.items ≡ closings report.books.book report.statements.items report.messages.items report.books.orders
   pub messages : report.messages.items ≡ reporter.messages.items
 
 -- ---- the answer
@@ -86,7 +93,9 @@ pub record Finds (reporter : Reporter) (counted : Tally) (skipped : ℕ) (report
 -- the report of what a till and its terminal did
 pub record IsReportOf (events : List At) (report : Report) : Type 0 where
   pub currency : report.currency ≡ one_currency (currencies_of events)
-  pub books : report.books ≡ day_of (reported events)
+  pub books : report.books ≡ settled (statements_of events) (day_of (reported events))
+  pub statements : report.statements.items ≡ statements_of events
+  pub closings : report.closings.items ≡ closings report.books.book report.statements.items report.messages.items report.books.orders
   pub messages : AreSaidBy (beginnings events) report.messages.items
 
 -- What a report answers for a trace, by that reading of lengths, and with what a refusal leaves unread.

@@ -11,7 +11,7 @@ use Rattle.zvt_report.specs.Amounts.{amount_text}
 use Rattle.zvt_report.specs.Objects.{approved_of}
 use Rattle.zvt_report.specs.Phrases.{amount_of, amount_or_dash, twice_part, approval_part, approved_receipt, entry_part, reason, again_part, paid_again_by, counted_part}
 use Rattle.zvt_report.specs.declared.cases.Case.{Case}
-use Rattle.zvt_report.specs.declared.cases.Case.TheVariants.{ApprovedNotCompleted, OtherAmount, PaymentUnclear, ReversalUnclear, TakenBackBefore, ReversalRefused, CloseUnclear, CloseRefused}
+use Rattle.zvt_report.specs.declared.cases.Case.TheVariants.{ApprovedNotCompleted, OtherAmount, PaymentUnclear, ReversalUnclear, TakenBackBefore, ReversalRefused, CloseUnclear, CloseRefused, CloseDiffers}
 use Rattle.zvt_report.specs.declared.currencies.Decimals.{Decimals}
 use Rattle.zvt_report.specs.declared.currencies.Decimals.TheVariants.{Two}
 use Rattle.zvt_report.specs.declared.rows.Approval.{Approval}
@@ -30,6 +30,7 @@ title decimals entry row again TakenBackBefore = amount_or_dash decimals (amount
 title decimals entry row again ReversalRefused = codes "Reversal of " ++ amount_or_dash decimals (amount_of entry row.order) ++ codes " not done"
 title decimals entry row again CloseUnclear = codes "End of day unclear"
 title decimals entry row again CloseRefused = codes "Day not closed"
+title decimals entry row again CloseDiffers = codes "End of day differs from the book"
 
 -- ---- what happened
 
@@ -74,6 +75,7 @@ account decimals entry row again TakenBackBefore = taken_back_account decimals (
 account decimals entry row again ReversalRefused = refused_account decimals (amount_of entry row.order) entry row.outcome
 account decimals entry row again CloseUnclear = close_account (codes "The end of day is unclear: ") row.outcome
 account decimals entry row again CloseRefused = close_account (codes "The terminal did not close the day: ") row.outcome
+account decimals entry row again CloseDiffers = codes "The total of the terminal is not the total of the book. The end of day below shows both."
 
 -- ---- what to do
 
@@ -106,6 +108,7 @@ fixed_advice TakenBackBefore = codes "Subtract the payment from the net total by
 fixed_advice ReversalRefused = codes "If the customer was promised the money, it has not been given back."
 fixed_advice CloseUnclear = codes "If the terminal printed no end-of-day receipt, start the end of day again."
 fixed_advice CloseRefused = codes "Start the end of day again."
+fixed_advice CloseDiffers = codes "Settle the unclear payments and reversals first. Then compare the payments with the terminal's receipts."
 
 -- what to do about an order in this case
 abbrev pub advice : Decimals → Option Entry → OrderRow → (again : Option OrderRow) → Case → List ℕ
@@ -117,6 +120,7 @@ advice decimals entry row again TakenBackBefore = fixed_advice TakenBackBefore
 advice decimals entry row again ReversalRefused = fixed_advice ReversalRefused
 advice decimals entry row again CloseUnclear = fixed_advice CloseUnclear
 advice decimals entry row again CloseRefused = fixed_advice CloseRefused
+advice decimals entry row again CloseDiffers = fixed_advice CloseDiffers
 
 -- ---- rows worked by hand
 

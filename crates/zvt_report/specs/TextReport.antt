@@ -3,6 +3,7 @@ use Rattle.std.specs.Prelude.{◌≡◌, ℕ, ◌==◌, cond, List, [], ◌∷�
 use Rattle.std.specs.Fmt.{digits}
 use Rattle.zvt_trace.specs.declared.fault.Tally.{Tally}
 use Rattle.zvt_report.specs.Amounts.{amount_column, count_text}
+use Rattle.zvt_report.specs.CloseTable.{closings_text}
 use Rattle.zvt_report.specs.Currencies.{decimals_of, money_of}
 use Rattle.zvt_report.specs.Day.{DayValue, no_orders}
 use Rattle.zvt_report.specs.LookList.{looks_text}
@@ -10,6 +11,7 @@ use Rattle.zvt_report.specs.OtherTable.{others_text}
 use Rattle.zvt_report.specs.PaymentTable.{payments_text}
 use Rattle.zvt_report.specs.Summary.{booked_line, minus, net_line, summary_text, taken_back_line, unclear_line, unit_text}
 use Rattle.zvt_report.specs.declared.cases.Look.{Look}
+use Rattle.zvt_report.specs.declared.closings.Closing.{Closing}
 use Rattle.zvt_report.specs.declared.currencies.Decimals.{Decimals}
 use Rattle.zvt_report.specs.declared.currencies.Money.{Money}
 use Rattle.zvt_report.specs.declared.rows.OrderMessage.{OrderMessage}
@@ -27,20 +29,21 @@ summary_part money books = summary_text money books ++ 10 ∷ []
 unfoldable pub looks_part : Decimals → DayValue → List Look → List ℕ
 looks_part decimals books looks = looks_text decimals books.book books.orders looks ++ 10 ∷ []
 
-unfoldable pub tables_part : Decimals → DayValue → List OrderMessage → List ℕ
-tables_part decimals books messages = payments_text decimals books.book books.orders ++ others_text decimals books.book messages books.orders ++ 10 ∷ []
+unfoldable pub tables_part : Decimals → DayValue → List OrderMessage → List (Option Closing) → List ℕ
+tables_part decimals books messages closings =
+    payments_text decimals books.book books.orders ++ others_text decimals books.book messages books.orders ++ closings_text decimals closings books.orders ++ 10 ∷ []
 
 -- the sections, an empty line between them
-abbrev pub report_in : Option Money → Tally → DayValue → List OrderMessage → List Look → List ℕ
-report_in money tally books messages looks =
-    summary_part money books ++ looks_part (decimals_of money) books looks ++ tables_part (decimals_of money) books messages ++ footer tally
+abbrev pub report_in : Option Money → Tally → DayValue → List OrderMessage → List (Option Closing) → List Look → List ℕ
+report_in money tally books messages closings looks =
+    summary_part money books ++ looks_part (decimals_of money) books looks ++ tables_part (decimals_of money) books messages closings ++ footer tally
 
-abbrev pub report_text : Tally → (currency : Option ℕ) → DayValue → List OrderMessage → List Look → List ℕ
-report_text tally currency books messages looks = report_in (money_of currency) tally books messages looks
+abbrev pub report_text : Tally → (currency : Option ℕ) → DayValue → List OrderMessage → List (Option Closing) → List Look → List ℕ
+report_text tally currency books messages closings looks = report_in (money_of currency) tally books messages closings looks
 
 -- ---- rows worked by hand
 
-an_empty_day : report_text (record { messages = 1; bad = 2 }) (Some 756) no_orders [] []
+an_empty_day : report_text (record { messages = 1; bad = 2 }) (Some 756) no_orders [] [] []
     ≡ codes "Net total              0.00 CHF\n" ++ codes "  booked               0.00  0 payments\n" ++ codes "  taken back           0.00  0 reversals\n"
     ++ codes "Unclear                0.00  0 payments, 0 reversals\n\n"
     ++ codes "Look at these: nothing\n\n" ++ codes "Payments: none\n\n" ++ codes "1 message, 2 streams refused or cut off.\n"

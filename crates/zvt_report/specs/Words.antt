@@ -5,7 +5,7 @@ use Rattle.zvt_till.specs.declared.happenings.Sent.TheVariants.{Register, Pay, R
 use Rattle.zvt_till.specs.declared.outcomes.Outcome.{Outcome}
 use Rattle.zvt_till.specs.declared.outcomes.Outcome.TheVariants as outcome
 use Rattle.zvt_report.specs.declared.cases.Case.{Case}
-use Rattle.zvt_report.specs.declared.cases.Case.TheVariants.{ApprovedNotCompleted, OtherAmount, PaymentUnclear, ReversalUnclear, TakenBackBefore, ReversalRefused, CloseUnclear, CloseRefused}
+use Rattle.zvt_report.specs.declared.cases.Case.TheVariants.{ApprovedNotCompleted, OtherAmount, PaymentUnclear, ReversalUnclear, TakenBackBefore, ReversalRefused, CloseUnclear, CloseRefused, CloseDiffers}
 use Rattle.zvt_report.specs.declared.cases.Weight.{Weight}
 use Rattle.zvt_report.specs.declared.cases.Weight.TheVariants.{Act, Check}
 use Rattle.zvt_report.specs.declared.endings.Ending.{Ending}
@@ -20,6 +20,7 @@ case_name TakenBackBefore = codes "TakenBackBefore"
 case_name ReversalRefused = codes "ReversalRefused"
 case_name CloseUnclear = codes "CloseUnclear"
 case_name CloseRefused = codes "CloseRefused"
+case_name CloseDiffers = codes "CloseDiffers"
 
 abbrev pub weight_name : Weight → List ℕ
 weight_name Act = codes "act"

@@ -22,18 +22,18 @@ use Rattle.zvt_report.specs.declared.written.ReportSummary.{ReportSummary}
 
 -- the text, the objects or the page of a report with these looks; only the page has the name of the file
 abbrev pub report_in : ReportForm → (name : List ℕ) → Report → List Look → List ℕ
-report_in Text name report found = report_text report.tally report.currency report.books report.messages.items found
-report_in Json name report found = report_json report.tally report.currency report.books report.messages.items found
-report_in Page name report found = report_page name report.tally report.currency report.books report.messages.items found
+report_in Text name report found = report_text report.tally report.currency report.books report.messages.items report.closings.items found
+report_in Json name report found = report_json report.tally report.currency report.books report.messages.items report.closings.items found
+report_in Page name report found = report_page name report.tally report.currency report.books report.messages.items report.closings.items found
 
 -- with the looks that its orders need
 abbrev pub written : ReportForm → (name : List ℕ) → Report → List ℕ
-written form name report = report_in form name report (looks report.books.book report.books.orders)
+written form name report = report_in form name report (looks report.books.book report.closings.items report.books.orders)
 
 -- ---- the summary
 
 abbrev pub summed_up : Report → ReportSummary
-summed_up report = record { tally = report.tally; acts = urgent_count (looks report.books.book report.books.orders); passed = report.passed }
+summed_up report = record { tally = report.tally; acts = urgent_count (looks report.books.book report.closings.items report.books.orders); passed = report.passed }
 
 -- ---- the answer
 

@@ -5,6 +5,8 @@ ghost use Rattle.zvt_report.specs.Looks.{case_as, close_case, decides, decides_b
 ghost use Rattle.zvt_report.specs.Looks.{looks, may_pay, paid_again, payment_case, refused_case, reversal_case};
 ghost use Rattle.zvt_report.specs.Looks.{unclear_case};
 
+use crate::closings::Closing;
+use crate::differing::differs_at;
 use crate::rows::{Approval, OrderRow};
 use std::alloc::{AllocError, Global};
 use zvt_bcd::Amount;
@@ -56,6 +58,8 @@ pub enum Case {
     CloseUnclear,
     /// The terminal did not close the day.
     CloseRefused,
+    /// The terminal closed the day with another total than the book has.
+    CloseDiffers,
 }
 
 impl Case {
@@ -76,6 +80,7 @@ impl Case {
             Case::ReversalRefused => "ReversalRefused",
             Case::CloseUnclear => "CloseUnclear",
             Case::CloseRefused => "CloseRefused",
+            Case::CloseDiffers => "CloseDiffers",
         }
     }
 
@@ -91,7 +96,8 @@ impl Case {
             Case::PaymentUnclear
             | Case::ReversalRefused
             | Case::CloseUnclear
-            | Case::CloseRefused => Weight::Check,
+            | Case::CloseRefused
+            | Case::CloseDiffers => Weight::Check,
         }
     }
 }
@@ -185,15 +191,16 @@ fn reversal_case(book: &[Entry], place: usize, decided: bool, outcome: &Outcome)
     }
 }
 
-/// Returns why to look at an end of day.
-fn close_case(outcome: &Outcome) -> Option<Case>
-    ensures { result ≡ close_case outcome.now }
+/// Returns why to look at an end of day. `differs` says whether the terminal's total differs from the book.
+fn close_case(differs: bool, outcome: &Outcome) -> Option<Case>
+    ensures { result ≡ close_case differs outcome.now }
 {
     match outcome {
         Outcome::Declined(_) | Outcome::Refused(_) | Outcome::Aborted(_) => {
             Some(Case::CloseRefused)
         }
         Outcome::Unclear(_) => Some(Case::CloseUnclear),
+        Outcome::DayClosed if differs => Some(Case::CloseDiffers),
         _ => None,
     }
 }
@@ -208,9 +215,10 @@ fn unclear_case(amount: Amount, approval: &Option<Approval>, outcome: &Outcome) 
     }
 }
 
-/// Returns why to look at an order, given the book and the later orders.
-fn case_of(book: &[Entry], row: &OrderRow, later: &[OrderRow]) -> Option<Case>
-    ensures { result ≡ case_as book.now later.now row.now.approval row.now.outcome row.now.order }
+/// Returns why to look at an order, given the book and the later orders. `differs` says whether the total of an end of
+/// day differs from the book.
+fn case_of(book: &[Entry], differs: bool, row: &OrderRow, later: &[OrderRow]) -> Option<Case>
+    ensures { result ≡ case_as book.now differs later.now row.now.approval row.now.outcome row.now.order }
 {
     match &row.order {
         Sent::Pay(amount) => unclear_case(*amount, &row.approval, &row.outcome),
@@ -218,13 +226,13 @@ fn case_of(book: &[Entry], row: &OrderRow, later: &[OrderRow]) -> Option<Case>
             let decided = is_decided(*place, later);
             reversal_case(book, *place, decided, &row.outcome)
         }
-        Sent::CloseDay => close_case(&row.outcome),
+        Sent::CloseDay => close_case(differs, &row.outcome),
         _ => None,
     }
 }
 
 /// Whether one of these orders is a reversal of the entry at this place that changes its mark or its doubt.
-fn is_decided(place: usize, rows: &[OrderRow]) -> bool
+pub(crate) fn is_decided(place: usize, rows: &[OrderRow]) -> bool
     ensures { result ≡ list_any (decides place) rows.now }
 {
     rows.iter().any(|row| decides(place, row))
@@ -251,26 +259,37 @@ fn paid_again(order: &Sent, place: usize, later: &[OrderRow]) -> Option<usize>
 }
 
 /// Returns why to look at the order at this place, if there is a reason.
-fn look_at(book: &[Entry], place: usize, row: &OrderRow, later: &[OrderRow]) -> Option<Look>
+fn look_at(
+    book: &[Entry],
+    closings: &[Option<Closing>],
+    place: usize,
+    row: &OrderRow,
+    later: &[OrderRow],
+) -> Option<Look>
     requires { place + length later.now + 1 < 2 ^ 64 }
-    ensures { result ≡ look_at book.now place row.now later.now }
+    ensures { result ≡ look_at book.now closings.now place row.now later.now }
 {
     Some(Look {
-        case: case_of(book, row, later)?,
+        case: case_of(book, differs_at(closings, place), row, later)?,
         order: place,
         again: paid_again(&row.order, place + 1, later),
     })
 }
 
 /// Returns the orders that a person should look at, in the order of their rows. Fails only if memory runs out.
-pub fn looks(alloc: Global, book: &[Entry], rows: &[OrderRow]) -> Result<Vec<Look>, AllocError>
-    ensures { IfOk result (λ found. found.items ≡ looks book.now rows.now) }
+pub fn looks(
+    alloc: Global,
+    book: &[Entry],
+    closings: &[Option<Closing>],
+    rows: &[OrderRow],
+) -> Result<Vec<Look>, AllocError>
+    ensures { IfOk result (λ found. found.items ≡ looks book.now closings.now rows.now) }
 {
     let mut found = Vec::new(alloc);
     let mut rest = rows;
     let mut place = 0;
     'rows: while let [row, later @ ..] = rest {
-        if let Some(look) = look_at(book, place, row, later) {
+        if let Some(look) = look_at(book, closings, place, row, later) {
             found.push(look)?;
         }
         rest = later;

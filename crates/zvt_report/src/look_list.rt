@@ -44,7 +44,7 @@ fn weight(text: &mut Text, weight: Weight) -> Result<(), AllocError>
 
 /// Writes the lines of an order, and the end of the line.
 #[tactic(auto, unfolding(crate::specs::LookList::lines_part))]
-fn lines_part(text: &mut Text, first: u64, last: u64) -> Result<(), AllocError>
+pub(crate) fn lines_part(text: &mut Text, first: u64, last: u64) -> Result<(), AllocError>
     ensures { OnOk result (text.new ≡ text.old ++ lines_part first last) }
 {
     text.word(b" (lines ")?;

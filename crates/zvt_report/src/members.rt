@@ -4,11 +4,13 @@ ghost use Rattle.serde_json.specs.Data.{string};
 ghost use Rattle.serde_json.specs.Written.{comma_if, compact_text, members_text};
 ghost use Rattle.zvt_json.specs.Strings.{hex_value};
 ghost use Rattle.zvt_text.specs.MessageTexts.{four_digits};
-ghost use Rattle.zvt_report.specs.Members.{lines_value, member_text, name_text, object_text, said, value_data};
-ghost use Rattle.zvt_report.specs.Members.{word_text};
+ghost use Rattle.zvt_report.specs.Members.{difference_value, lines_value, member_text, name_text, object_text};
+ghost use Rattle.zvt_report.specs.Members.{order_value, orders_value, receipts_value, said, value_data, word_text};
+ghost use Rattle.zvt_report.specs.declared.explaining.Explained.TheVariants as explained;
 
 use crate::cases::{Case, Weight};
 use crate::endings::Ending;
+use crate::explaining::Explained;
 use std::alloc::AllocError;
 use zvt_bcd::Currency;
 use zvt_text::{Text, command_name, meaning};
@@ -53,12 +55,15 @@ pub(crate) enum Name {
     Amount,
     Approved,
     Bad,
+    Book,
     Booked,
     Case,
     Cause,
     Code,
     Control,
     Currency,
+    Differs,
+    ExplainedBy,
     Lines,
     Looks,
     Messages,
@@ -69,10 +74,12 @@ pub(crate) enum Name {
     Outcome,
     Payment,
     Receipt,
+    Receipts,
     ReversalUnclear,
     ReversalsUnclear,
     Reversed,
     ReversedBy,
+    Stated,
     TakenBack,
     Total,
     Trace,
@@ -95,12 +102,15 @@ impl Name {
             Name::Amount => "amount",
             Name::Approved => "approved",
             Name::Bad => "bad",
+            Name::Book => "book",
             Name::Booked => "booked",
             Name::Case => "case",
             Name::Cause => "cause",
             Name::Code => "code",
             Name::Control => "control",
             Name::Currency => "currency",
+            Name::Differs => "differs",
+            Name::ExplainedBy => "explained_by",
             Name::Lines => "lines",
             Name::Looks => "looks",
             Name::Messages => "messages",
@@ -111,10 +121,12 @@ impl Name {
             Name::Outcome => "outcome",
             Name::Payment => "payment",
             Name::Receipt => "receipt",
+            Name::Receipts => "receipts",
             Name::ReversalUnclear => "reversal_unclear",
             Name::ReversalsUnclear => "reversals_unclear",
             Name::Reversed => "reversed",
             Name::ReversedBy => "reversed_by",
+            Name::Stated => "stated",
             Name::TakenBack => "taken_back",
             Name::Total => "total",
             Name::Trace => "trace",
@@ -164,12 +176,18 @@ pub(crate) enum Value {
     True,
     /// A number, or an amount in the smallest unit of the currency.
     Count(u128),
+    /// The first number less the second one, which may be greater.
+    Difference(u128, u128),
     /// The first and the last line of an order.
     Lines(u64, u64),
     /// A byte in hexadecimal.
     Byte(u8),
     /// Two bytes in hexadecimal.
     Bytes([u8; 2]),
+    /// The first and the last receipt number.
+    Receipts([u8; 2], [u8; 2]),
+    /// The numbers of these orders.
+    Orders(Explained),
     Currency(Currency),
     Word(Word),
 }
@@ -247,11 +265,89 @@ fn write_value(text: &mut Text, value: &Value) -> Result<(), AllocError>
     match value {
         Value::True => text.word(b"true"),
         Value::Count(number) => text.number(*number),
+        Value::Difference(more, less) => write_difference(text, *more, *less),
         Value::Lines(first, last) => write_lines(text, *first, *last),
         Value::Byte(byte) => write_bytes(text, &[*byte]),
         Value::Bytes(bytes) => write_bytes(text, bytes.as_slice()),
+        Value::Receipts(first, last) => write_receipts(text, first.as_slice(), last.as_slice()),
+        Value::Orders(orders) => write_orders(text, orders),
         Value::Currency(currency) => write_currency(text, *currency),
         Value::Word(word) => write_word(text, *word),
+    }
+}
+
+/// Writes the first number less the second one.
+fn write_difference(text: &mut Text, more: u128, less: u128) -> Result<(), AllocError>
+    ensures { OnOk result (text.new ≡ text.old ++ compact_text (difference_value more less)) }
+{
+    if less <= more {
+        text.number(more - less)
+    } else {
+        text.push(b'-')?;
+        text.number(less - more)
+    }
+}
+
+/// Writes two receipt numbers as an array.
+fn write_receipts(text: &mut Text, first: &[u8], last: &[u8]) -> Result<(), AllocError>
+    ensures { OnOk result (text.new ≡ text.old ++ compact_text (receipts_value first.now last.now)) }
+{
+    text.push(b'[')?;
+    write_bytes(text, first)?;
+    text.push(b',')?;
+    write_bytes(text, last)?;
+    text.push(b']')
+}
+
+/// Writes the number of the order with this index, counted from 1.
+fn write_order(text: &mut Text, order: usize) -> Result<(), AllocError>
+    ensures { OnOk result (text.new ≡ text.old ++ compact_text (order_value order)) }
+{
+    text.number(order as u128 + 1)
+}
+
+/// Writes the numbers of two orders as an array.
+fn write_pair(text: &mut Text, a: usize, b: usize) -> Result<(), AllocError>
+    ensures { OnOk result (text.new ≡ text.old ++ compact_text (orders_value (explained.Two a b))) }
+{
+    text.push(b'[')?;
+    write_order(text, a)?;
+    text.push(b',')?;
+    write_order(text, b)?;
+    text.push(b']')
+}
+
+/// Writes the numbers of three orders as an array.
+fn write_triple(text: &mut Text, a: usize, b: usize, c: usize) -> Result<(), AllocError>
+    ensures { OnOk result (text.new ≡ text.old ++ compact_text (orders_value (explained.Three a b c))) }
+{
+    text.push(b'[')?;
+    write_order(text, a)?;
+    text.push(b',')?;
+    write_order(text, b)?;
+    text.push(b',')?;
+    write_order(text, c)?;
+    text.push(b']')
+}
+
+/// Writes the number of one order as an array.
+fn write_single(text: &mut Text, a: usize) -> Result<(), AllocError>
+    ensures { OnOk result (text.new ≡ text.old ++ compact_text (orders_value (explained.One a))) }
+{
+    text.push(b'[')?;
+    write_order(text, a)?;
+    text.push(b']')
+}
+
+/// Writes the numbers of orders as an array.
+fn write_orders(text: &mut Text, orders: &Explained) -> Result<(), AllocError>
+    ensures { OnOk result (text.new ≡ text.old ++ compact_text (orders_value orders.now)) }
+{
+    match orders {
+        Explained::One(a) => write_single(text, *a),
+        Explained::Two(a, b) => write_pair(text, *a, *b),
+        Explained::Three(a, b, c) => write_triple(text, *a, *b, *c),
+        Explained::Nothing | Explained::Empty | Explained::Several => text.word(b"[]"),
     }
 }
 

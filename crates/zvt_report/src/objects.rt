@@ -9,9 +9,12 @@ ghost use Rattle.zvt_report.specs.declared.members.Object.TheVariants as object_
 
 use crate::books::DayBooks;
 use crate::cases::Look;
+use crate::close_object::close;
+use crate::closings::Closing;
+use crate::differing::closing_at;
 use crate::kinds::{OrderKind, kind_of};
 use crate::members::{Member, Name, Object, Value, Word, write_object};
-use crate::order_objects::{close, other, payment, plain, reversal};
+use crate::order_objects::{other, payment, plain, reversal};
 use crate::parts::{cause_of, count, lines, maybe_cause, maybe_count, maybe_currency, said_as};
 use crate::places::{Counts, Place, payments_in};
 use crate::rows::{OrderMessage, OrderRow};
@@ -30,13 +33,15 @@ pub(crate) fn write(
     currency: Option<Currency>,
     books: &DayBooks,
     messages: &[OrderMessage],
+    closings: &[Option<Closing>],
     looks: &[Look],
 ) -> Result<(), AllocError>
-    ensures { OnOk result (text.new ≡ text.old ++ report_json tally currency books.now messages.now looks.now) }
+    ensures { OnOk result (text.new ≡ text.old
+        ++ report_json tally currency books.now messages.now closings.now looks.now) }
 {
     summary(text, tally, currency, books, messages, looks)?;
     look_rows(text, books.orders.as_slice(), looks)?;
-    order_rows(text, books, messages)
+    order_rows(text, books, messages, closings)
 }
 
 /// Writes the object of the whole trace.
@@ -179,14 +184,17 @@ fn order_rows(
     text: &mut Text,
     books: &DayBooks,
     messages: &[OrderMessage],
+    closings: &[Option<Closing>],
 ) -> Result<(), AllocError>
-    ensures { OnOk result (text.new ≡ text.old ++ rows_json books.now messages.now no_counts books.now.orders) }
+    ensures { OnOk result (text.new ≡ text.old
+        ++ rows_json books.now messages.now closings.now no_counts books.now.orders) }
 {
     let mut counts = Counts::none();
     let mut rest = books.orders.as_slice();
     'rows: while let [row, later @ ..] = rest {
         let message = message_at(messages, counts.orders);
-        write_row(text, books, &counts.place(row), row, &message)?;
+        let closing = closing_at(closings, counts.orders);
+        write_row(text, books, &counts.place(row), row, &message, &closing)?;
         counts = counts.after(row);
         rest = later;
     }
@@ -200,14 +208,15 @@ fn write_row(
     place: &Place,
     row: &OrderRow,
     message: &OrderMessage,
+    closing: &Option<Closing>,
 ) -> Result<(), AllocError>
-    ensures { OnOk result (text.new ≡ text.old ++ row_line books.now place.now row.now message.now) }
+    ensures { OnOk result (text.new ≡ text.old ++ row_line books.now place.now row.now message.now closing.now) }
 {
     match &row.order {
         Sent::Pay(amount) => payment(text, books, place, row, *amount),
         order => {
             let kind = kind_of(order, message.high, message.low);
-            write_order(text, kind, books, place, row, message)
+            write_order(text, kind, books, place, row, message, closing)
         }
     }
 }
@@ -220,13 +229,15 @@ fn write_order(
     place: &Place,
     row: &OrderRow,
     message: &OrderMessage,
+    closing: &Option<Closing>,
 ) -> Result<(), AllocError>
-    ensures { OnOk result (text.new ≡ text.old ++ order_line kind books.now place.now row.now message.now) }
+    ensures { OnOk result (text.new ≡ text.old
+        ++ order_line kind books.now place.now row.now message.now closing.now) }
 {
     match kind {
         OrderKind::Reversal => reversal(text, books, place, row, message),
         OrderKind::OtherMoney => other(text, place, row, message),
-        OrderKind::Close => close(text, place, row),
+        OrderKind::Close => close(text, place, row, closing),
         OrderKind::Payment | OrderKind::Plain => plain(text, place, row, message),
     }
 }

@@ -1,7 +1,7 @@
 //! The JSON object of an order.
 ghost use Rattle.std.specs.Prelude.{◌≡◌, ◌++◌, OnOk};
 ghost use Rattle.zvt_report.specs.Members.{object_text};
-ghost use Rattle.zvt_report.specs.Objects.{close_members, other_members, payment_members, plain_members};
+ghost use Rattle.zvt_report.specs.Objects.{other_members, payment_members, plain_members};
 ghost use Rattle.zvt_report.specs.Objects.{reversal_members};
 ghost use Rattle.zvt_report.specs.declared.members.Object.TheVariants as object_of;
 
@@ -105,22 +105,6 @@ pub(crate) fn other(
         words(&row.outcome),
     ];
     write_object(text, Object::Other, &members)
-}
-
-/// Writes the object of an end of day.
-pub(crate) fn close(text: &mut Text, place: &Place, row: &OrderRow) -> Result<(), AllocError>
-    ensures { OnOk result (text.new ≡ text.old ++ object_text object_of.Close
-        (close_members place.now row.now)) }
-{
-    let members = [
-        maybe_cause(Name::Cause, cause_of(&row.outcome)),
-        code(&row.outcome),
-        lines(row),
-        count(Name::Order, place.order as u64),
-        ending(row),
-        words(&row.outcome),
-    ];
-    write_object(text, Object::Close, &members)
 }
 
 /// Writes the object of an order that moves no money.

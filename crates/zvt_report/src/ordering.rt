@@ -32,7 +32,7 @@ pub(crate) fn order_in(apdu: &ApduView<'_>) -> Option<TillOrder>
 }
 
 /// Returns the order that a till begins with this message, if any. An order to abort begins none.
-fn beginning(apdu: &ApduView<'_>) -> Option<Sent>
+pub(crate) fn beginning(apdu: &ApduView<'_>) -> Option<Sent>
     ensures { result ≡ beginning apdu.now }
 {
     begun(&Happening::Sent(ordered(apdu)?))

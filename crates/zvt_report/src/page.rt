@@ -7,7 +7,9 @@ ghost use Rattle.zvt_report.specs.Page.{skip_link, unit_words};
 use crate::books::DayBooks;
 use crate::cases::Look;
 use crate::currencies::{Money, decimals_of, money_of};
+use crate::closings::Closing;
 use crate::page_cards::cards;
+use crate::page_closings::closings_section;
 use crate::page_looks::looks_section;
 use crate::page_others::others_section;
 use crate::page_tables::payments_section;
@@ -102,10 +104,11 @@ fn sections(
     tally: Tally,
     books: &DayBooks,
     messages: &[OrderMessage],
+    closings: &[Option<Closing>],
     looks: &[Look],
 ) -> Result<(), AllocError>
     ensures { OnOk result (page.new ≡ page.old
-        ++ render (sections name.now money.now tally books.now messages.now looks.now)) }
+        ++ render (sections name.now money.now tally books.now messages.now closings.now looks.now)) }
 {
     let decimals = decimals_of(money);
     page_head(page, note, name, money)?;
@@ -113,6 +116,7 @@ fn sections(
     looks_section(page, note, decimals, books, looks)?;
     payments_section(page, note, decimals, books)?;
     others_section(page, note, decimals, books, messages)?;
+    closings_section(page, note, decimals, closings, books.orders.as_slice())?;
     page_foot(page, note, tally)
 }
 
@@ -126,14 +130,17 @@ fn page_of(
     tally: Tally,
     books: &DayBooks,
     messages: &[OrderMessage],
+    closings: &[Option<Closing>],
     looks: &[Look],
 ) -> Result<(), AllocError>
     ensures { OnOk result (page.new ≡ page.old
-        ++ render (page_of name.now money.now tally books.now messages.now looks.now)) }
+        ++ render (page_of name.now money.now tally books.now messages.now closings.now looks.now)) }
 {
     skip_link(page)?;
     start_with(page, Element::Main, Attribute::Class, b"page")?;
-    sections(page, note, name, money, tally, books, messages, looks)?;
+    sections(
+        page, note, name, money, tally, books, messages, closings, looks,
+    )?;
     end(page, Element::Main)
 }
 
@@ -146,14 +153,17 @@ pub(crate) fn write(
     currency: Option<Currency>,
     books: &DayBooks,
     messages: &[OrderMessage],
+    closings: &[Option<Closing>],
     looks: &[Look],
 ) -> Result<(), AllocError>
     ensures { OnOk result (page.new ≡ page.old
-        ++ report_page name.now tally currency books.now messages.now looks.now) }
+        ++ report_page name.now tally currency books.now messages.now closings.now looks.now) }
 {
     let mut note = Text::new(alloc);
     let money = money_of(currency);
     document_start(page, heading(name))?;
-    page_of(page, &mut note, name, &money, tally, books, messages, looks)?;
+    page_of(
+        page, &mut note, name, &money, tally, books, messages, closings, looks,
+    )?;
     document_end(page)
 }

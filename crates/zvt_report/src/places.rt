@@ -150,7 +150,7 @@ pub(crate) fn payment_of(place: usize, rows: &[OrderRow]) -> Option<usize>
 }
 
 /// Whether this order is a reversal that took back the entry at this place.
-fn takes_back(place: usize, row: &OrderRow) -> bool
+pub(crate) fn takes_back(place: usize, row: &OrderRow) -> bool
     ensures { result ≡ takes_back place row.now }
 {
     match (&row.order, &row.outcome) {

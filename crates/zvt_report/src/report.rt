@@ -5,9 +5,12 @@ ghost use Rattle.zvt_trace.specs.Written.{limit};
 ghost use Rattle.zvt_report.specs.Reports.{AnswersReport, StartsIn};
 
 use crate::books::DayBooks;
+use crate::closings::{Closing, closings};
 use crate::day::Day;
 use crate::reporter::Reporter;
 use crate::rows::OrderMessage;
+use crate::settling::settle;
+use crate::statements::{Hearing, Statement};
 use std::alloc::{AllocError, Global};
 use zvt_audit::{ByControl, NamedCurrency};
 use zvt_bcd::Currency;
@@ -24,6 +27,10 @@ pub struct Report {
     pub books: DayBooks,
     /// What the message of each order says: one for each row of `books.orders`.
     pub messages: Vec<OrderMessage>,
+    /// What the terminal's statuses say about each order: one for each row of `books.orders`.
+    pub statements: Vec<Statement>,
+    /// The ends of day that closed a day: one for each row of `books.orders`, if that order is one.
+    pub closings: Vec<Option<Closing>>,
     /// The number of refused messages that were passed over and known by their control bytes alone. It saturates.
     pub passed: u64,
 }
@@ -61,6 +68,7 @@ fn connected(alloc: Global, scope: Scope) -> Result<ByControl<Reporter>, AllocEr
             day,
             named: NamedCurrency::none(),
             messages: Vec::new(alloc),
+            hearing: Hearing::new(alloc),
         },
         scope,
         passed: 0,
@@ -76,12 +84,22 @@ impl Reporter {
         ensures { IfOk result (Finds self tally passed) }
     {
         let currency = self.named.agreed();
-        let books = self.day.finish()?;
+        let statements = self.hearing.finish()?;
+        let books = settle(self.alloc, statements.as_slice(), self.day.finish()?)?;
+        let closings = closings(
+            self.alloc,
+            books.book.as_slice(),
+            statements.as_slice(),
+            self.messages.as_slice(),
+            books.orders.as_slice(),
+        )?;
         Ok(Report {
             tally,
             currency,
             books,
             messages: self.messages,
+            statements,
+            closings,
             passed,
         })
     }

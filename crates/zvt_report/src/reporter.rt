@@ -6,8 +6,9 @@ ghost use Rattle.zvt_trace.specs.declared.direction.Direction.TheVariants.{FromT
 ghost use Rattle.zvt_report.specs.Reports.{Judges};
 
 use crate::day::Day;
-use crate::ordering::{TillOrder, add_message, order_in};
+use crate::ordering::{TillOrder, add_message, beginning, order_in};
 use crate::rows::OrderMessage;
+use crate::statements::Hearing;
 use std::alloc::{AllocError, Global};
 use zvt_apdu::ApduView;
 use zvt_audit::NamedCurrency;
@@ -21,6 +22,7 @@ pub(crate) struct Reporter {
     pub(crate) day: Day,
     pub(crate) named: NamedCurrency,
     pub(crate) messages: Vec<OrderMessage>,
+    pub(crate) hearing: Hearing,
 }
 
 impl Listener for Reporter {
@@ -55,6 +57,7 @@ impl Reporter {
     ghost use Rattle.zvt_trace.specs.TraceEvent.{on};
     ghost use Rattle.zvt_trace.specs.declared.direction.Direction.TheVariants.{FromTill, FromTerminal};
     ghost use Rattle.zvt_report.specs.Reports.{Reports, ReportsBy};
+    ghost use Rattle.zvt_report.specs.Statements.{Ends};
 
     /// Hears a message of the till.
     fn hear_till(&mut self, line: u64, apdu: &ApduView<'_>) -> Result<(), AllocError>
@@ -62,6 +65,7 @@ impl Reporter {
     {
         self.named.notice(apdu.currency());
         add_message(self.alloc, &mut self.messages, apdu)?;
+        self.hearing.take_order(beginning(apdu).is_some())?;
         judge(&mut self.day, line, apdu)
     }
 
@@ -69,20 +73,25 @@ impl Reporter {
     fn hear_terminal(&mut self, line: u64, apdu: &ApduView<'_>) -> Result<(), AllocError>
         ensures { OnOk result (Reports self.old (on line (trace_event.message FromTerminal apdu.now)) self.new) }
     {
+        self.hearing.take_answer(apdu)?;
         self.day.take(line, &Happening::Heard(heard_view(apdu)))
     }
 
     /// Records bytes that are not a message.
     fn malform(&mut self, line: u64) -> Result<(), AllocError>
-        ensures { OnOk result (ReportsBy self.old line (Malformed ∷ []) self.new) }
+        ensures judges { OnOk result (ReportsBy self.old line (Malformed ∷ []) self.new) }
+        ensures ends { OnOk result (Ends self.old.hearing self.new.hearing) }
     {
+        self.hearing.end()?;
         self.day.take(line, &Happening::Malformed)
     }
 
     /// Records the loss of the connection. The next one is up at once.
     fn lose(&mut self, line: u64) -> Result<(), AllocError>
-        ensures { OnOk result (ReportsBy self.old line (Lost ∷ Connected ∷ []) self.new) }
+        ensures judges { OnOk result (ReportsBy self.old line (Lost ∷ Connected ∷ []) self.new) }
+        ensures ends { OnOk result (Ends self.old.hearing self.new.hearing) }
     {
+        self.hearing.end()?;
         self.day.take(line, &Happening::Lost)?;
         self.day.take(line, &Happening::Connected)
     }

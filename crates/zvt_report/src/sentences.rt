@@ -46,6 +46,7 @@ pub(crate) fn title(
         Case::ReversalRefused => phrase(text, decimals, b"Reversal of ", asked, b" not done"),
         Case::CloseUnclear => text.word(b"End of day unclear"),
         Case::CloseRefused => text.word(b"Day not closed"),
+        Case::CloseDiffers => text.word(b"End of day differs from the book"),
     }
 }
 
@@ -201,6 +202,11 @@ pub(crate) fn account(
         Case::ReversalRefused => refused_account(text, decimals, asked, entry, outcome),
         Case::CloseUnclear => close_account(text, b"The end of day is unclear: ", outcome),
         Case::CloseRefused => close_account(text, b"The terminal did not close the day: ", outcome),
+        Case::CloseDiffers => {
+            text.word(
+                b"The total of the terminal is not the total of the book. The end of day below shows both.",
+            )
+        }
     }
 }
 
@@ -281,6 +287,9 @@ fn fixed_advice(case: Case) -> &'static [u8]
             b"If the terminal printed no end-of-day receipt, start the end of day again."
         }
         Case::CloseRefused => b"Start the end of day again.",
+        Case::CloseDiffers => {
+            b"Settle the unclear payments and reversals first. Then compare the payments with the terminal's receipts."
+        }
         Case::ApprovedNotCompleted | Case::OtherAmount | Case::PaymentUnclear => b"",
     }
 }

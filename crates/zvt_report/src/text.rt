@@ -6,6 +6,8 @@ ghost use Rattle.zvt_report.specs.TextReport.{tables_part};
 use crate::amounts::count;
 use crate::books::DayBooks;
 use crate::cases::Look;
+use crate::close_table::closings_text;
+use crate::closings::Closing;
 use crate::currencies::{Decimals, Money, decimals_of, money_of};
 use crate::look_list::looks_text;
 use crate::other_table::others_text;
@@ -72,13 +74,15 @@ fn tables_part(
     decimals: Decimals,
     books: &DayBooks,
     messages: &[OrderMessage],
+    closings: &[Option<Closing>],
 ) -> Result<(), AllocError>
-    ensures { OnOk result (text.new ≡ text.old ++ tables_part decimals books.now messages.now) }
+    ensures { OnOk result (text.new ≡ text.old ++ tables_part decimals books.now messages.now closings.now) }
 {
     let book = books.book.as_slice();
     let rows = books.orders.as_slice();
     payments_text(text, decimals, book, rows)?;
     others_text(text, note, decimals, book, messages, rows)?;
+    closings_text(text, decimals, closings, rows)?;
     text.push(b'\n')
 }
 
@@ -90,20 +94,21 @@ fn report_in(
     tally: Tally,
     books: &DayBooks,
     messages: &[OrderMessage],
+    closings: &[Option<Closing>],
     looks: &[Look],
 ) -> Result<(), AllocError>
     ensures { OnOk result (text.new ≡ text.old
-        ++ report_in money.now tally books.now messages.now looks.now) }
+        ++ report_in money.now tally books.now messages.now closings.now looks.now) }
 {
     let decimals = decimals_of(money);
     summary_part(text, money, books)?;
     looks_part(text, note, decimals, books, looks)?;
-    tables_part(text, note, decimals, books, messages)?;
+    tables_part(text, note, decimals, books, messages, closings)?;
     footer(text, tally)
 }
 
-/// Writes the report of a trace: what the day comes to, the orders that a person should look at, the payments, the
-/// reversals and other orders that move money, and how much of the trace was read. Fails only if memory runs out.
+/// Writes the report of a trace: what the day comes to, the orders that a person should look at, the tables of orders,
+/// the ends of day, and how much of the trace was read. Fails only if memory runs out.
 pub(crate) fn write(
     alloc: Global,
     text: &mut Text,
@@ -111,11 +116,15 @@ pub(crate) fn write(
     currency: Option<Currency>,
     books: &DayBooks,
     messages: &[OrderMessage],
+    closings: &[Option<Closing>],
     looks: &[Look],
 ) -> Result<(), AllocError>
-    ensures { OnOk result (text.new ≡ text.old ++ report_text tally currency books.now messages.now looks.now) }
+    ensures { OnOk result (text.new ≡ text.old
+        ++ report_text tally currency books.now messages.now closings.now looks.now) }
 {
     let mut note = Text::new(alloc);
     let money = money_of(currency);
-    report_in(text, &mut note, &money, tally, books, messages, looks)
+    report_in(
+        text, &mut note, &money, tally, books, messages, closings, looks,
+    )
 }

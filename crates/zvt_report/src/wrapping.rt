@@ -16,8 +16,8 @@ fn word_length(text: &[u8]) -> usize
     text.iter().take_while(|letter| **letter != b' ').count()
 }
 
-/// Writes the next letter of a sentence, before `later`, in a line with `free` columns left. Returns how many columns are
-/// left after it.
+/// Writes the next letter of a sentence, before `later`, in a line with `free` columns left. Returns how many columns
+/// are left after it.
 fn put(
     text: &mut Text,
     indent: usize,

@@ -83,7 +83,12 @@ fn write_found<W: Sink>(
     ensures write { result ≡ Err TraceFault.Write → W.failures writer.old < W.failures writer.new }
 {
     let books = &report.books;
-    let looks = looks(alloc, books.book.as_slice(), books.orders.as_slice())?;
+    let looks = looks(
+        alloc,
+        books.book.as_slice(),
+        report.closings.as_slice(),
+        books.orders.as_slice(),
+    )?;
     let text = text_of(alloc, form, name, report, looks.as_slice())?;
     writer.write_all(text.bytes())?;
     Ok(ReportSummary {
@@ -105,6 +110,7 @@ fn text_of(
 {
     let books = &report.books;
     let messages = report.messages.as_slice();
+    let closings = report.closings.as_slice();
     let mut text = Text::new(alloc);
     match form {
         ReportForm::Text => text::write(
@@ -114,6 +120,7 @@ fn text_of(
             report.currency,
             books,
             messages,
+            closings,
             looks,
         )?,
         ReportForm::Json => objects::write(
@@ -122,6 +129,7 @@ fn text_of(
             report.currency,
             books,
             messages,
+            closings,
             looks,
         )?,
         ReportForm::Page => page::write(
@@ -132,6 +140,7 @@ fn text_of(
             report.currency,
             books,
             messages,
+            closings,
             looks,
         )?,
     }

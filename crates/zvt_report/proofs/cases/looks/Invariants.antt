@@ -4,7 +4,7 @@ use Rattle.zvt_report.proofs.cases.looks.Given as goal
 
 abbrev pub invariant-rows : goal.invariant-rows
 invariant-rows l = record {
-  so_far : looks l.fn.book l.fn.rows ≡ l.found.items ++ looks_from l.fn.book l.place l.rest;
+  so_far : looks l.fn.book l.fn.closings l.fn.rows ≡ l.found.items ++ looks_from l.fn.book l.fn.closings l.place l.rest;
   left : l.place + length l.rest ≡ length l.fn.rows;
 }
 

@@ -5,7 +5,7 @@ use Rattle.zvt_report.proofs.objects.order_rows.Given as goal
 
 abbrev pub invariant-rows : goal.invariant-rows
 invariant-rows l = record {
-  so_far : l.text ++ rows_json l.fn.books l.fn.messages l.counts l.rest ≡ l.initial.text ++ rows_json l.fn.books l.fn.messages no_counts l.fn.books.orders;
+  so_far : l.text ++ rows_json l.fn.books l.fn.messages l.fn.closings l.counts l.rest ≡ l.initial.text ++ rows_json l.fn.books l.fn.messages l.fn.closings no_counts l.fn.books.orders;
   left : l.counts.orders + length l.rest ≡ length l.fn.books.orders;
   payments : l.counts.payments ≤ l.counts.orders;
   entries : l.counts.entries ≤ l.counts.orders;

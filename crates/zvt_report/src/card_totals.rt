@@ -1,0 +1,98 @@
+//! The totals by card of an end of day.
+ghost use Rattle.std.specs.Prelude.{◌≡◌, ◌+◌, ◌≤◌, true, length};
+ghost use Rattle.std.specs.List.{list_all};
+ghost use Rattle.std.specs.Option.{option_copied};
+ghost use Rattle.zvt_bcd.specs.Digits.{AreDigits, is_digit_pair};
+ghost use Rattle.zvt_report.specs.CardTotals.{group_at, groups_in, total_in, total_of, totals_in};
+
+use zvt_bcd::{is_digits, number};
+
+/// The number of bytes of the totals by card.
+const SIZE: usize = 53;
+
+/// The number of payments with a kind of card, and their sum.
+#[derive(Clone, Copy, Debug, PartialEq, Eq)]
+pub struct CardGroup {
+    pub count: u8,
+    pub sum: u64,
+}
+
+/// The totals by card: girocard, JCB, Mastercard, American Express, VISA, Diners, and all others.
+#[derive(Clone, Copy, Debug, PartialEq, Eq)]
+pub struct CardTotals {
+    /// The first receipt number.
+    pub first: [u8; 2],
+    /// The last receipt number.
+    pub last: [u8; 2],
+    pub groups: [CardGroup; 7],
+}
+
+/// Whether each byte is two digits.
+fn all_digits(bytes: &[u8]) -> bool
+    ensures value { result ≡ list_all is_digit_pair bytes.now }
+    ensures digits { result ≡ true → AreDigits bytes.now }
+{
+    is_digits(bytes)
+}
+
+/// Returns the number in at most six bytes, if each is two digits.
+fn total_of(bytes: &[u8]) -> Option<u64>
+    ensures { result ≡ total_of bytes.now }
+{
+    if bytes.len() <= 6 && all_digits(bytes) {
+        Some(number(bytes))
+    } else {
+        None
+    }
+}
+
+/// Returns the total in the content of BMP 04.
+pub(crate) fn total_in(content: Option<&[u8]>) -> Option<u64>
+    ensures { result ≡ total_in (option_copied content.entry) }
+{
+    total_of(content?)
+}
+
+/// Returns the group whose count has this index.
+fn group_at(content: &[u8], at: usize) -> Option<CardGroup>
+    requires { at + 7 ≤ length content.now }
+    ensures { result ≡ group_at content.now at }
+{
+    let sum = total_of(&content[at + 1..at + 7])?;
+    Some(CardGroup {
+        count: content[at],
+        sum,
+    })
+}
+
+/// Returns the groups after the two receipt numbers.
+fn groups_in(content: &[u8]) -> Option<[CardGroup; 7]>
+    requires { length content.now ≡ 53 }
+    ensures { result ≡ groups_in content.now }
+{
+    Some([
+        group_at(content, 4)?,
+        group_at(content, 11)?,
+        group_at(content, 18)?,
+        group_at(content, 25)?,
+        group_at(content, 32)?,
+        group_at(content, 39)?,
+        group_at(content, 46)?,
+    ])
+}
+
+/// Returns the totals by card in the content of BMP 60. Only contents of 53 bytes, whose sums are digits, are read.
+pub(crate) fn totals_in(content: Option<&[u8]>) -> Option<CardTotals>
+    ensures { result ≡ totals_in (option_copied content.entry) }
+{
+    let content = content?;
+    if content.len() != SIZE {
+        return None;
+    }
+    let groups = groups_in(content)?;
+    Some(CardTotals {
+        first: [content[0], content[1]],
+        last: [content[2], content[3]],
+        groups,
+    })
+}

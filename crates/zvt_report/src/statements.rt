@@ -1,0 +1,207 @@
+//! What the terminal's status informations say about an order.
+//!
+//! `day` judges the outcome of an order and its first approval. Everything else that a status says is kept here.
+ghost use Rattle.std.specs.Prelude.{◌≡◌};
+ghost use Rattle.std.specs.Option.{option_copied};
+ghost use Rattle.zvt_field.specs.Named.{content_of};
+ghost use Rattle.zvt_report.specs.Statements.{declines_by, stating};
+
+use crate::card_totals::{CardTotals, total_in, totals_in};
+use std::alloc::{AllocError, Global};
+use zvt_apdu::{ApduView, Kind};
+use zvt_field::FieldsView;
+use zvt_till::{Happening, Heard, ends, heard_view};
+
+/// The BMP of an amount.
+const AMOUNT: u8 = 0x04;
+
+/// The BMP of the totals by card.
+const TOTALS: u8 = 0x60;
+
+/// What the status informations of an order say.
+#[derive(Clone, Copy, Debug, PartialEq, Eq)]
+pub struct Statement {
+    /// Whether one of them declines the order.
+    pub declines: bool,
+    /// The total in BMP 04 of the last one, if it appears exactly once.
+    pub total: Option<u64>,
+    /// The totals by card in the last one, if it has them exactly once.
+    pub totals: Option<CardTotals>,
+}
+
+impl Statement {
+    ghost use Rattle.std.specs.Prelude.{◌≡◌};
+    ghost use Rattle.zvt_report.specs.Statements.{after_status, no_statement};
+
+    /// Starts before the first status.
+    pub(crate) fn none() -> Statement
+        ensures { result ≡ no_statement }
+    {
+        Statement {
+            declines: false,
+            total: None,
+            totals: None,
+        }
+    }
+
+    /// Returns the statement after a status with these fields.
+    fn after(&self, fields: &FieldsView<'_>) -> Statement
+        ensures { result ≡ after_status self.now fields.now }
+    {
+        Statement {
+            declines: self.declines || declines_by(fields),
+            total: total_in(content_of(fields, AMOUNT)),
+            totals: totals_in(content_of(fields, TOTALS)),
+        }
+    }
+}
+
+/// Whether a status with these fields declines its order.
+fn declines_by(fields: &FieldsView<'_>) -> bool
+    ensures { result ≡ declines_by fields.now }
+{
+    match fields.result() {
+        Some(code) => code != 0,
+        None => false,
+    }
+}
+
+/// Returns the bytes of the field with this BMP, if it appears exactly once and is not a container.
+fn content_of<'a>(fields: &FieldsView<'a>, bmp: u8) -> Option<&'a [u8]>
+    ensures { option_copied result ≡ content_of bmp fields.now }
+{
+    let field = fields.only(bmp)?;
+    match field.tree() {
+        Some(_) => None,
+        None => Some(field.content),
+    }
+}
+
+/// Returns the fields of a status information.
+fn stating<'a>(apdu: &ApduView<'a>) -> Option<FieldsView<'a>>
+    ensures { result ≡ stating apdu.now }
+{
+    match apdu.kind() {
+        Kind::Status => apdu.fields(),
+        _ => None,
+    }
+}
+
+/// The running order, as far as the terminal has answered it.
+#[derive(Clone, Copy, Debug, PartialEq, Eq)]
+pub(crate) struct Attention {
+    /// Whether the terminal has accepted the order.
+    pub(crate) accepted: bool,
+    pub(crate) statement: Statement,
+}
+
+impl Attention {
+    ghost use Rattle.std.specs.Prelude.{◌≡◌};
+    ghost use Rattle.zvt_report.specs.Statements.{attends, attention, stated_with};
+
+    /// Starts with an order that was just sent.
+    fn new() -> Attention
+        ensures { result ≡ attention }
+    {
+        Attention {
+            accepted: false,
+            statement: Statement::none(),
+        }
+    }
+
+    /// Returns the statement after this message of the terminal.
+    fn stated(&self, apdu: &ApduView<'_>) -> Statement
+        ensures { result ≡ stated_with self.now.statement (stating apdu.now) }
+    {
+        match stating(apdu) {
+            Some(fields) => self.statement.after(&fields),
+            None => self.statement,
+        }
+    }
+
+    /// Returns the attention after a message of the terminal that does not end the order.
+    fn after(&self, heard: &Heard, apdu: &ApduView<'_>) -> Attention
+        ensures { result ≡ attends self.now heard.now apdu.now }
+    {
+        Attention {
+            accepted: self.accepted || matches!(heard, Heard::Positive),
+            statement: self.stated(apdu),
+        }
+    }
+}
+
+/// Listens to the status informations of the orders of a trace.
+#[derive(Drop)]
+pub(crate) struct Hearing {
+    /// What was stated about each order that has ended.
+    pub(crate) statements: Vec<Statement>,
+    /// The order that has not ended yet.
+    pub(crate) current: Option<Attention>,
+}
+
+impl Hearing {
+    ghost use Rattle.std.specs.Prelude.{◌≡◌, ℕ, [], None, IfOk, OnOk};
+    ghost use Rattle.zvt_trace.specs.TraceEvent as trace_event;
+    ghost use Rattle.zvt_trace.specs.TraceEvent.{on};
+    ghost use Rattle.zvt_trace.specs.declared.direction.Direction.TheVariants.{FromTerminal};
+    ghost use Rattle.zvt_report.specs.Statements.{Begins, Ends, States, stated};
+
+    /// Starts before the first order.
+    pub(crate) fn new(alloc: Global) -> Hearing
+        ensures statements { result.statements.items ≡ [] }
+        ensures current { result.current ≡ None }
+    {
+        Hearing {
+            statements: Vec::new(alloc),
+            current: None,
+        }
+    }
+
+    /// Ends the running order.
+    pub(crate) fn end(&mut self) -> Result<(), AllocError>
+        ensures { OnOk result (Ends self.old self.new) }
+    {
+        if let Some(attention) = self.current {
+            self.statements.push(attention.statement)?;
+            self.current = None;
+        }
+        Ok(())
+    }
+
+    /// Hears a message of the till, which begins an order or not.
+    pub(crate) fn take_order(&mut self, begins: bool) -> Result<(), AllocError>
+        ensures { OnOk result (Begins begins self.old self.new) }
+    {
+        if begins {
+            self.end()?;
+            self.current = Some(Attention::new());
+        }
+        Ok(())
+    }
+
+    /// Hears a message of the terminal.
+    pub(crate) fn take_answer(&mut self, apdu: &ApduView<'_>) -> Result<(), AllocError>
+        ensures { OnOk result ((line : ℕ)
+            → States self.old (on line (trace_event.message FromTerminal apdu.now)) self.new) }
+    {
+        let Some(attention) = self.current else {
+            return Ok(());
+        };
+        let heard = heard_view(apdu);
+        if ends(attention.accepted, &Happening::Heard(heard)) {
+            self.end()
+        } else {
+            self.current = Some(attention.after(&heard, apdu));
+            Ok(())
+        }
+    }
+
+    /// Ends the running order, and returns what was stated about each order.
+    pub(crate) fn finish(self) -> Result<Vec<Statement>, AllocError>
+        ensures { IfOk result (λ found. found.items ≡ stated self []) }
+    {
+        let mut hearing = self;
+        hearing.end()?;
+        Ok(hearing.statements)
+    }
+}
