@@ -6,8 +6,8 @@ ghost use Rattle.zvt_report.specs.Page.{skip_link, unit_words};
 
 use crate::books::DayBooks;
 use crate::cases::Look;
-use crate::currencies::{Money, decimals_of, money_of};
 use crate::closings::Closing;
+use crate::currencies::{Money, decimals_of, money_of};
 use crate::page_cards::cards;
 use crate::page_closings::closings_section;
 use crate::page_looks::looks_section;

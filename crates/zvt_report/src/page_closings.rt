@@ -28,11 +28,7 @@ fn close_columns(page: &mut Text) -> Result<(), AllocError>
 }
 
 /// Writes a sum, if there is one.
-fn sum_or_nothing(
-    text: &mut Text,
-    decimals: Decimals,
-    sum: Option<u128>,
-) -> Result<(), AllocError>
+fn sum_or_nothing(text: &mut Text, decimals: Decimals, sum: Option<u128>) -> Result<(), AllocError>
     ensures { OnOk result (text.new ≡ text.old ++ amount_or_nothing decimals sum) }
 {
     match sum {
