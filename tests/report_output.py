@@ -15,6 +15,8 @@ import random
 import subprocess
 import sys
 
+import journal_dialogues
+import journal_model
 import json_model
 import random_traces
 import report_model
@@ -167,10 +169,25 @@ def cases():
 
 
 def stored():
-    """The texts of two days, as they are stored beside the traces."""
+    """The texts and the objects of two days, as they are stored beside the traces."""
     for trace in sorted((TOP / "tests/data/report").glob("*.trace")):
-        found = run(["report"], trace.read_bytes())
-        check(f"the text of {trace.name}", found, (found[0], trace.with_suffix(".txt").read_text(), ""))
+        for words, kind in (([], ".txt"), (["--json"], ".jsonl")):
+            found = run(["report", *words], trace.read_bytes())
+            check(f"{kind} of {trace.name}", found, (found[0], trace.with_suffix(kind).read_text(), ""))
+
+
+def book():
+    """A till's book is a trace too."""
+    kept = journal_dialogues.Dialogue()
+    kept.registered()
+    kept.paid(500, 1)
+    kept.paid(700, 2)
+    kept.reversing(1, 1)
+    kept.hear(journal_model.status(500, 3, 3, original=1))
+    kept.completed()
+    compared("a book", kept.file())
+    found = json.loads(run(["report", "--json"], kept.file())[1].splitlines()[0])["summary"]
+    check("the net total of a book", (found["booked"], found["reversed"], found["net"]), (2, 1, 700))
 
 
 def main():
@@ -183,6 +200,7 @@ def main():
     cases()
     explanations()
     stored()
+    book()
     print(f"{check.verdict}: {len(traces)} traces, {len(CASES)} cases, {check.count} comparisons")
     return check.status
 
