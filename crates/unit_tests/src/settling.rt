@@ -1,4 +1,5 @@
 //! A payment whose line broke, and the ask that settles it.
+use crate::assertions::assert_equal;
 use std::alloc::Global;
 use std::process::Abort;
 use std::test::Fail;
@@ -52,6 +53,11 @@ fn cut_off(rt: &impl Abort, alloc: Global) -> SettlingTill {
     till
 }
 
+/// What the first answer settled.
+fn first_settled(till: &SettlingTill) -> Option<Settlement> {
+    till.settled().first().copied()
+}
+
 #[test]
 fn a_new_approval_settles_it_as_paid(rt: HostRuntime) -> Result<(), Fail> {
     let mut till = cut_off(&rt, rt.alloc());
@@ -61,7 +67,9 @@ fn a_new_approval_settles_it_as_paid(rt: HostRuntime) -> Result<(), Fail> {
     completes(&mut till, approval(2, 2));
     assert!(rt; !till.is_asking());
     assert!(rt; !till.is_pending());
-    assert!(rt; matches!(till.settled(), [Settlement::Paid(0, _, Some([0, 2]))]));
+    let number = Trace::new(2).expect(&rt, "a trace number");
+    let paid = Settlement::Paid(0, number, Some([0, 2]));
+    assert_equal(&rt, &first_settled(&till), &Some(paid));
     assert!(rt; till.till().book().len() == 1);
     assert!(rt; till.till().unclear().len() == 1);
     Ok(())
@@ -72,7 +80,7 @@ fn the_answer_from_before_settles_it_as_not_paid(rt: HostRuntime) -> Result<(), 
     let mut till = cut_off(&rt, rt.alloc());
     assert!(rt; till.ask().is_ok());
     completes(&mut till, approval(1, 1));
-    assert!(rt; matches!(till.settled(), [Settlement::NotPaid(0)]));
+    assert_equal(&rt, &first_settled(&till), &Some(Settlement::NotPaid(0)));
     Ok(())
 }
 
