@@ -10,4 +10,4 @@ use Rattle.zvt_tool.proofs.trace_command.read_report.Goals as goal
 pub returns : goal.returns
 returns c =
     let rows = rows_of (found_of c.args.inner.now) in
-    IfOk-weaker c.on_traces.result _ _ (λ command is. (c.flag-3.result, c.flag-3.ensures, c.flag-2.result, c.flag-2.ensures, by_form rows (λ json. Report (report_form json c.flag-2.result) c.flag-3.result) c.flag.result c.flag-4.result _ _ command c.flag.ensures c.flag-4.ensures (ap (λ (f : ReportForm). Report f c.flag-3.result) c.report_form.ensures) c.lengths_by.ensures is)) c.on_traces.ensures
+    IfOk-weaker c.on_traces.result _ _ (λ command is. (c.flag-3.result, c.flag-3.ensures, (c.flag-2.result, c.flag-2.ensures, by_form rows (λ json. Report (report_form json c.flag-2.result) c.flag-3.result) c.flag.result c.flag-4.result _ _ command c.flag.ensures c.flag-4.ensures (ap (λ (f : ReportForm). Report f c.flag-3.result) c.report_form.ensures) c.lengths_by.ensures is))) c.on_traces.ensures
