@@ -70,7 +70,7 @@ pub fn start_both(
     text.push(b'>')
 }
 
-/// Writes the start tag of an element of this class. An empty class is none.
+/// Writes the start tag of an element of this class, or without a class if it is empty.
 pub fn start_in(text: &mut Text, element: Element, class: &[u8]) -> Result<(), AllocError>
     ensures { OnOk result (text.new ≡ text.old ++ start_tag element (class_of class.now)) }
 {

@@ -28,7 +28,7 @@ impl<S: MomentSource> MomentSource for Option<S> {
 /// A device for a trace that writes a time mark before each text, both in one write. So no mark stands alone if the
 /// program is ended between two writes.
 ///
-/// In contracts, the bytes written are those of the texts, without the marks. A text has no mark if its moment is not
+/// In contracts, the bytes written are the texts without the marks. A text has no mark if its moment is not
 /// known or memory runs out.
 #[derive(Drop)]
 pub struct Marking<W, S> {

@@ -268,7 +268,7 @@ fn three_at(line: &[u8], place: usize) -> u32
     u32::from(digit_at(line, place)) * 100 + u32::from(two_at(line, place + 1))
 }
 
-/// Returns the digit at this place, and 0 where there is none.
+/// Returns the digit at this place, or 0 if there is none.
 fn digit_at(line: &[u8], place: usize) -> u8
     ensures number { result ≡ digit_at line.now place }
     ensures few { result < 10 }

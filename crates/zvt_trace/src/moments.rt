@@ -111,7 +111,7 @@ fn add_bad(bad: &mut Vec<u64>, number: u64, line: &[u8]) -> Result<(), AllocErro
     Ok(())
 }
 
-/// Returns whether a line begins as a mark and is none.
+/// Returns whether a line begins like a mark but is not one.
 fn is_bad_mark(line: &[u8]) -> bool
     ensures { result ≡ is_bad_mark line.now }
 {
