@@ -119,7 +119,7 @@ closings book statements messages rows = closings_from book statements messages 
 -- ---- rows worked by hand
 
 abbrev a_row : Sent → Outcome → OrderRow
-a_row order outcome = record { order = order; first = 1; last = 2; outcome = outcome; approval = None }
+a_row order outcome = record { order = order; first = 1; last = 2; outcome = outcome; approval = None; time = None }
 
 abbrev an_entry : (amount : ℕ) → Entry
 an_entry amount = record { amount = amount; trace = 17; receipt = None; reversed = true; doubt = No }

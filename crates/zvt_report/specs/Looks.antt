@@ -217,7 +217,7 @@ EachReversalIsLookedAt = (book : List Entry) (closings : List (Option Closing)) 
 -- ---- rows worked by hand
 
 abbrev a_row : Sent → Outcome → Option Approval → OrderRow
-a_row order outcome approval = record { order = order; first = 1; last = 2; outcome = outcome; approval = approval }
+a_row order outcome approval = record { order = order; first = 1; last = 2; outcome = outcome; approval = approval; time = None }
 
 abbrev approved : ℕ → Option Approval
 approved amount = Some (record { line = 2; amount = amount; trace = Some 20; receipt = None })

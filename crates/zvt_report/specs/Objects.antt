@@ -318,7 +318,7 @@ report_json tally currency books messages closings looks =
 -- ---- rows worked by hand
 
 abbrev a_row : Sent → ℕ → ℕ → Outcome → Option Approval → OrderRow
-a_row order first last outcome approval = record { order = order; first = first; last = last; outcome = outcome; approval = approval }
+a_row order first last outcome approval = record { order = order; first = first; last = last; outcome = outcome; approval = approval; time = None }
 
 abbrev a_message : ℕ → Option ℕ → Option (List ℕ) → OrderMessage
 a_message low amount receipt = record { high = 0x06; low = low; amount = amount; receipt = receipt }

@@ -132,7 +132,7 @@ others_section decimals books messages = cond (has_rows messages 0 books.orders)
 -- ---- a row worked by hand
 
 abbrev a_payment : OrderRow
-a_payment = record { order = Pay 1234; first = 12; last = 38; outcome = Paid 17 (Some (0 ∷ 5 ∷ [])); approval = None }
+a_payment = record { order = Pay 1234; first = 12; last = 38; outcome = Paid 17 (Some (0 ∷ 5 ∷ [])); approval = None; time = None }
 
 a_row : render (payment_row Two 1 None a_payment 1234)
     ≡ codes "<tr><td class=\"i n\">1</td><td class=\"n am\">12.34</td><td class=\"ids\">000017</td><td class=\"rc\">0005</td><td class=\"oc\"><span class=\"dot c-ok\">paid</span></td><td class=\"ln\">12-38</td></tr>"

@@ -113,9 +113,9 @@ an_entry = record { amount = 1234; trace = 17; receipt = Some (0 ∷ 5 ∷ []); 
 
 abbrev some_rows : List OrderRow
 some_rows =
-    record { order = Pay 1234; first = 12; last = 38; outcome = outcome.Paid 17 (Some (0 ∷ 5 ∷ [])); approval = None }
-    ∷ record { order = CloseDay; first = 60; last = 66; outcome = outcome.DayClosed; approval = None }
-    ∷ record { order = Pay 3499; first = 128; last = 146; outcome = outcome.Unclear Line; approval = None }
+    record { order = Pay 1234; first = 12; last = 38; outcome = outcome.Paid 17 (Some (0 ∷ 5 ∷ [])); approval = None; time = None }
+    ∷ record { order = CloseDay; first = 60; last = 66; outcome = outcome.DayClosed; approval = None; time = None }
+    ∷ record { order = Pay 3499; first = 128; last = 146; outcome = outcome.Unclear Line; approval = None; time = None }
     ∷ []
 
 two_payments :

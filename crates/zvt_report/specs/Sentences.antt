@@ -128,10 +128,10 @@ abbrev an_approval : Approval
 an_approval = record { line = 144; amount = 3499; trace = Some 20; receipt = Some (0 ∷ 8 ∷ []) }
 
 abbrev a_payment : OrderRow
-a_payment = record { order = Pay 3499; first = 128; last = 146; outcome = Unclear Line; approval = Some an_approval }
+a_payment = record { order = Pay 3499; first = 128; last = 146; outcome = Unclear Line; approval = Some an_approval; time = None }
 
 abbrev a_later_one : OrderRow
-a_later_one = record { order = Pay 3499; first = 156; last = 182; outcome = Paid 21 (Some (0 ∷ 9 ∷ [])); approval = None }
+a_later_one = record { order = Pay 3499; first = 156; last = 182; outcome = Paid 21 (Some (0 ∷ 9 ∷ [])); approval = None; time = None }
 
 a_title : title Two None a_payment (Some a_later_one) ApprovedNotCompleted ≡ codes "34.99 may have been charged twice"
 unfolding amount_or_dash amount_text digits twice_part

@@ -32,6 +32,7 @@ settled_row statements place row =
       last = row.last;
       outcome = settled_outcome row.order row.outcome (declined_at statements place);
       approval = row.approval;
+      time = row.time;
     }
 
 -- the first row has this place
@@ -46,7 +47,7 @@ settled statements day = record { book = day.book; unclear = day.unclear; orders
 -- ---- rows worked by hand
 
 abbrev a_row : Sent → Cause → OrderRow
-a_row order cause = record { order = order; first = 1; last = 2; outcome = Unclear cause; approval = None }
+a_row order cause = record { order = order; first = 1; last = 2; outcome = Unclear cause; approval = None; time = None }
 
 abbrev a_statement : Bool → Statement
 a_statement declines = record { declines = declines; total = Some 500; totals = None }
@@ -54,5 +55,5 @@ a_statement declines = record { declines = declines; total = Some 500; totals = 
 -- without a result code, and without a connection
 one_closed : settled_from (a_statement false ∷ a_statement false ∷ a_statement true ∷ a_statement false ∷ []) 0
     (a_row CloseDay Conflict ∷ a_row CloseDay Line ∷ a_row CloseDay Conflict ∷ a_row (Pay 500) Conflict ∷ [])
-    ≡ record { order = CloseDay; first = 1; last = 2; outcome = DayClosed; approval = None } ∷ a_row CloseDay Line ∷ a_row CloseDay Conflict ∷ a_row (Pay 500) Conflict ∷ []
+    ≡ record { order = CloseDay; first = 1; last = 2; outcome = DayClosed; approval = None; time = None } ∷ a_row CloseDay Line ∷ a_row CloseDay Conflict ∷ a_row (Pay 500) Conflict ∷ []
 one_closed = refl

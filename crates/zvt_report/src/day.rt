@@ -123,6 +123,7 @@ impl OpenOrder {
             last,
             outcome,
             approval: self.approval,
+            time: None,
         }
     }
 }

@@ -1,6 +1,7 @@
 //! The rows of a report.
 use zvt_bcd::{Amount, Trace};
 use zvt_till::{Outcome, Sent};
+use zvt_trace::Moment;
 
 /// What a status information with result 00 and exactly one amount states.
 #[derive(Clone, Copy, Debug, PartialEq, Eq)]
@@ -26,6 +27,8 @@ pub struct OrderRow {
     pub outcome: Outcome,
     /// The first approval that the terminal stated before the end.
     pub approval: Option<Approval>,
+    /// The moment of the first line, if the trace has a time mark for it.
+    pub time: Option<Moment>,
 }
 
 /// What the message of an order says beside the order itself.

@@ -51,6 +51,7 @@ fn settled_row(statements: &[Statement], place: usize, row: &OrderRow) -> OrderR
         last: row.last,
         outcome: settled_outcome(&row.order, &row.outcome, declined_at(statements, place)),
         approval: row.approval,
+        time: row.time,
     }
 }
 
