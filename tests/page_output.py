@@ -110,6 +110,7 @@ def agrees(name, trace, page):
     payments = [one for one in rows(page) if "i n" in one]
     wanted = [(str(one["payment"]), f"{one['trace']:06}" if "trace" in one else "", one.get("receipt", ""), f"{one['lines'][0]}-{one['lines'][1]}") for one in (each["payment"] for each in objects if "payment" in each)]
     check(f"the payments of {name}", [(one["i n"], one["ids"], one["rc"], one["ln"]) for one in payments], wanted)
+    check(f"the times of {name}", [one.get("tm", "") for one in payments], [each["payment"].get("time", "")[11:19] for each in objects if "payment" in each])
     looks = [one for one in objects if "look" in one]
     check(f"the cases of {name}", sorted(page.texts("span", "sev")), sorted(one["look"]["weight"].capitalize() for one in looks))
     said = [f"{title} ({lines}) {account} -> {advice}" for title, lines, account, advice in zip(page.texts("h3"), page.texts("span", "at"), page.texts("p", "why"), page.texts("p", "do"))]
@@ -117,7 +118,9 @@ def agrees(name, trace, page):
     figures = page.texts("dd")
     summary = [re.search(rf"{words} (\S+)", text)[1] for words in ("Net total", "booked", "taken back", "Unclear")]
     check(f"the figures of {name}", figures[:8:2], summary)
-    check(f"the footer of {name}", text.endswith(page.texts("footer")[0].strip()), True)
+    check(f"the footer of {name}", text.endswith(" ".join(page.texts("footer")[0].split())), True)
+    if "time_from" in objects[0]["summary"]:
+        check(f"the hours of {name}", text.startswith(page.texts("p", "meta")[0]), True)
 
 
 def of(name, trace):

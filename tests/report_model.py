@@ -5,7 +5,9 @@ look at the program's code.
 `Report` goes over the bytes of a trace with the reader of `json_model.py` and judges each order of the till. With files as
 arguments it writes the JSON of each.
 """
+import datetime
 import itertools
+import re
 import sys
 
 import json_model
@@ -60,6 +62,52 @@ def explained(differs, items):
         return None
     sets = [one for size in (1, 2, 3) for one in itertools.combinations(items, size) if sum(amount for _, amount in one) == differs]
     return [number for number, _ in sets[0]] if len(sets) == 1 else None
+
+
+MARK = re.compile(rb"#@ (\d{4}-\d\d-\d\dT\d\d:\d\d:\d\d)(?:\.(\d{1,9}))?Z")
+
+
+def moment_of(line):
+    """The second and the nanosecond of a time mark, or None."""
+    found = MARK.fullmatch(line)
+    try:
+        # The calendar of Python has no year 0, which is a leap year like 2000.
+        text = found[1].decode()
+        second = datetime.datetime.fromisoformat("2000" + text[4:] if text.startswith("0000") else text)
+        return (text, int((found[2] or b"").ljust(9, b"0"))) if second else None
+    except (TypeError, ValueError):
+        return None
+
+
+class Times:
+    """The times of a trace's lines, the lines of bad marks, and the first line at which the clock goes back."""
+
+    def __init__(self, trace):
+        self.at, self.bad, self.back, mark, before = {}, [], None, None, None
+        *whole, last = trace.split(b"\n")
+        for number, line in enumerate([*(line.removesuffix(b"\r") for line in whole), last], 1):
+            if line.startswith(b"#@") and moment_of(line) is None:
+                self.bad.append(number)
+            if line.startswith(b"#") or not line:
+                mark = moment_of(line) or mark
+                continue
+            if mark:
+                if self.back is None and before and mark < before:
+                    self.back = number
+                self.at[number] = before = mark
+            mark = None
+
+    def text(self, number):
+        """The time of a line, as JSON writes it."""
+        if number not in self.at:
+            return None
+        second, nano = self.at[number]
+        return f"{second}.{nano:09d}"[:-6 if nano % 1_000_000 == 0 else None] + "Z"
+
+    def members(self):
+        lines = list(self.at)
+        return {"time_from": self.text(lines[0]) if lines else None, "time_to": self.text(lines[-1]) if lines else None,
+                "times_back": self.back, "times_bad": len(self.bad) or None}
 
 
 class Order:
@@ -141,6 +189,7 @@ class Order:
 class Report(Audit):
     def __init__(self, trace, loose=False, strict=False):
         self.orders, self.running, self.book, self.in_force = [], None, [], None
+        self.times = Times(trace)
         super().__init__(trace, loose, not strict)
 
     def sent(self, message):
@@ -248,9 +297,9 @@ class Report(Audit):
         for case, at, again in self.looks():
             order = self.orders[at]
             yield {"look": said(again=None if again is None else again + 1, case=case, cause=self.ending(order).get("cause"),
-                                lines=[order.first, order.last], order=at + 1, payment=self.number_of(order), weight="check" if case in CHECKS else "act")}
+                                lines=[order.first, order.last], order=at + 1, payment=self.number_of(order), time=self.times.text(order.first), weight="check" if case in CHECKS else "act")}
         for number, order in enumerate(self.orders, 1):
-            yield {order.kind: said(**getattr(self, f"{order.kind}_members")(order), **self.ending(order), lines=[order.first, order.last], order=number)}
+            yield {order.kind: said(**getattr(self, f"{order.kind}_members")(order), **self.ending(order), lines=[order.first, order.last], order=number, time=self.times.text(order.first))}
 
     def summary(self):
         open_amounts = [order.amount for order in self.orders if order.kind == "payment" and order.outcome[0] == "unclear"]
@@ -258,7 +307,7 @@ class Report(Audit):
                     messages=self.messages, net=sum(entry["amount"] for entry in self.book if not entry["reversed"]),
                     others=sum(order.kind == "other" for order in self.orders), unclear=len(open_amounts), unclear_amount=sum(open_amounts),
                     reversals_unclear=sum(entry["doubt"] not in (None, ALREADY_REVERSED) for entry in self.book),
-                    reversed=sum(entry["reversed"] for entry in self.book), total=sum(entry["amount"] for entry in self.book))
+                    reversed=sum(entry["reversed"] for entry in self.book), total=sum(entry["amount"] for entry in self.book), **self.times.members())
 
     def number_of(self, order):
         payments = [one for one in self.orders if one.kind == "payment"]

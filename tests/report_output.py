@@ -25,7 +25,7 @@ from common import EXAMPLES, TOP, Checks, program
 from journal_model import ABORT, ACK, AUTHORISATION, COMPLETION, END_OF_DAY, REGISTRATION, REVERSAL, STATUS, digits, message
 
 PROGRAM = program(sys.argv[1:])
-SEED, DIALOGUES, HOSTILE = 20261130, 800, 200
+SEED, DIALOGUES, MARKED, HOSTILE = 20261130, 600, 200, 200
 FORMS = ([], ["--strict"], ["--loose"])
 check = Checks()
 
@@ -88,6 +88,40 @@ def compared(name, trace):
         check(f"{name} {words} --check", run(["report", "--check", *words], trace)[0], 1 if acts else status)
         audited = json.loads(run(["audit", "--json", *(["--open"] if "--strict" not in words else []), *(word for word in words if word == "--loose")], trace)[1].splitlines()[-1])
         check(f"the total of {name} {words}", said[0]["summary"]["total"], audited["total"])
+
+
+# ---- times
+
+MARKS = ("#@ 2026-11-28T07:0{}:12.040Z", "#@ 2026-11-28T07:0{}:12Z", "#@ 2026-11-28T07:0{}:12.000000001Z", "#@ 2026-02-30T07:0{}:12Z", "#@ 2028-02-29T07:0{}:12Z",
+         "#@2026-11-28T07:0{}:12Z", "#@ 2026-11-28T07:0{}:12.Z", "#@ 2026-11-28T07:0{}:12+01:00", "#@ 0000-01-01T00:0{}:00Z", "# {}", "")
+
+
+def marked(chance, trace):
+    """A trace with time marks, good ones and bad ones, and a clock that goes back now and then."""
+    lines = []
+    for at, line in enumerate(trace.split(b"\n")):
+        while chance.random() < 0.4:
+            lines.append(chance.choice(MARKS).format((at // 9 + (chance.random() < 0.03)) % 10).encode() + chance.choice((b"", b"", b"", b"\r", b" ")))
+        lines.append(line)
+    return b"\n".join(lines)
+
+
+def times():
+    """The times of a trace, in two zones, and what is wrong with its marks."""
+    payment = [f"{sign} {one.hex()}" for sign, one in paid(500, 1)]
+    trace = "\n".join(["#@ 2026-12-31T23:30:00.5Z", *payment[:1], "#@ 2026-12-31T23:29:59Z", "#@ 2026-12-31T25:00:00Z", *payment[1:], ""]).encode()
+    for words, span, time in (([], "2026-12-31 23:30:00 to 23:29:59 UTC", "23:30:00"), (["--zone", "+01:00"], "2027-01-01 00:30:00 to 00:29:59 UTC+01:00", "00:30:00"),
+                              (["--zone", "-14:00"], "2026-12-31 09:30:00 to 09:29:59 UTC-14:00", "09:30:00"),
+                              (["--zone", "+00:30"], "2027-01-01 00:00:00 to 2026-12-31 23:59:59 UTC+00:30", "00:00:00")):
+        lines = run(["report", *words], trace)[1].splitlines()
+        check(f"the hours with {words}", lines[0], span)
+        row = next(line for line in lines if line.startswith("   1  "))
+        check(f"the time of a payment with {words}", row.split()[1], time)
+        check(f"what is wrong with the marks with {words}", lines[-2:], ["The clock of the time marks goes back at line 5.", "1 time mark cannot be read: see line 4."])
+    for zone in ("1:00", "+14:01", "+01:60", "+0100", "UTC", ""):
+        found = run(["report", "--zone", zone], trace)
+        check(f"the zone '{zone}'", (found[0], found[1], "expected +HH:MM" in found[2]), (2, "", True))
+    check("a zone for objects", run(["report", "--json", "--zone", "+01:00"], trace)[:2], (2, ""))
 
 
 # ---- a trace for each case, and one that just misses it
@@ -194,9 +228,11 @@ def main():
     traces = {path.name: path.read_bytes() for folder in (EXAMPLES, EXAMPLES / "messages", TOP / "tests/data/report", TOP / "tests/data/real") for path in sorted(folder.glob("*.trace"))}
     chance = random.Random(SEED)
     traces.update({f"dialogue {at}": Day(random.Random(chance.random())).text() for at in range(DIALOGUES)})
+    traces.update({f"marked dialogue {at}": marked(chance, Day(random.Random(chance.random())).text()) for at in range(MARKED)})
     traces.update({f"hostile trace {at}": random_traces.trace(random.Random(chance.random()), padded=at % 2, hostile=True) for at in range(HOSTILE)})
     with concurrent.futures.ThreadPoolExecutor(4) as pool:
         list(pool.map(lambda one: compared(*one), traces.items()))
+    times()
     cases()
     explanations()
     stored()

@@ -15,7 +15,7 @@ use zvt_tool::label::Label;
 use zvt_tool::on_trace::{follow_work, work_on_trace};
 use zvt_tool::options::form_by;
 use zvt_tool::statuses::{DEVICE, DONE, MEMORY, WORDS};
-use zvt_tool::trace_command::{TraceCommand, TraceWork, codepage_named};
+use zvt_tool::trace_command::{TraceCommand, TraceWork, codepage_named, zone_named};
 use zvt_trace::{TraceFault, read_trace};
 
 /// A trace of a command: its file, or `-` for standard input, and whether it is one of several.
@@ -100,7 +100,7 @@ impl Ended {
 /// Runs the command on the trace in each of its files, or on standard input if no file is named. Returns the highest
 /// exit status.
 pub fn work_on(rt: &HostRuntime, command: &TraceCommand<'_>) -> io::Result<u8> {
-    if !takes_codepage(rt, command)? || !takes_page(rt, command)? {
+    if !takes_codepage(rt, command)? || !takes_page(rt, command)? || !takes_zone(rt, command)? {
         return Ok(WORDS);
     }
     match command.files.as_slice() {
@@ -155,6 +155,30 @@ fn takes_page(rt: &HostRuntime, command: &TraceCommand<'_>) -> io::Result<bool> 
     }
     if command.files.len() > 1 {
         report(rt, "'--html' takes one FILE: write a page for each")?;
+        return Ok(false);
+    }
+    Ok(true)
+}
+
+/// Returns whether the command can show times in its zone, if it has one, and reports if it cannot.
+fn takes_zone(rt: &HostRuntime, command: &TraceCommand<'_>) -> io::Result<bool> {
+    let Some(text) = command.zone else {
+        return Ok(true);
+    };
+    if zone_named(text).is_none() {
+        report_invalid(
+            rt,
+            "zone",
+            text,
+            "expected +HH:MM or -HH:MM, at most 14 hours, e.g. +01:00",
+        )?;
+        return Ok(false);
+    }
+    if command.is_json() {
+        report(
+            rt,
+            "'--zone' does not go with '--json', which has times in UTC",
+        )?;
         return Ok(false);
     }
     Ok(true)

@@ -19,3 +19,4 @@ pub mod ReadLemmas
 pub mod PlaceLemmas
 pub mod WrittenLemmas
 pub mod WrappingLemmas
+pub mod TimeLemmas

@@ -28,6 +28,11 @@ use Rattle.zvt_report.specs.Reported.{beginning_in, beginnings, happenings_with,
 use Rattle.zvt_report.specs.Reports.{AnswersReport, Finds, JudgesAll, Judges, Reports, ReportsBy, SaysMore, StartsIn, hears, hears_by, wants_memory_by}
 use Rattle.zvt_report.specs.Said.{AreSaidBy, IsSaidBy}
 use Rattle.zvt_report.specs.Settling.{settled}
+use Rattle.zvt_report.specs.Times.{timed_day, times_in}
+use Rattle.zvt_report.specs.declared.zones.Zone.{Zone}
+use Rattle.zvt_trace.specs.Moments.{bad_marks_of, times_of}
+use Rattle.zvt_trace.specs.declared.moments.Moments.{Moments}
+use Rattle.zvt_trace.specs.declared.moments.Timed.{Timed}
 use Rattle.zvt_report.specs.Statements.{States, stated}
 use Rattle.zvt_report.specs.declared.report.Report.{Report}
 use Rattle.zvt_report.specs.declared.reporter.Reporter.{Reporter}
@@ -107,9 +112,10 @@ said_more (first ∷ messages) m (other ∷ old) said before is = (before.0, sai
 
 -- ---- the answer
 
-pub reported_all : (r : Reading) (scope : Scope) (trace : List ℕ) (tally : Tally) (report : Report) (old new : ByControl Reporter)
-    → StartsIn scope old → AnswersWalk r hears_by wants_memory_by scope (lines trace) old new (Ok tally) → Finds new.listener tally new.passed report → AnswersReport r scope trace (Ok report)
-reported_all r scope trace tally report old new starts walked finds =
+pub reported_all : (zone : Zone) (moments : Moments) (r : Reading) (scope : Scope) (trace : List ℕ) (tally : Tally) (report : Report) (old new : ByControl Reporter)
+    → moments.times.items ≡ times_of (lines trace) → moments.bad.items ≡ bad_marks_of (lines trace) → StartsIn scope old → AnswersWalk r hears_by wants_memory_by scope (lines trace) old new (Ok tally) → Finds new.listener tally new.passed zone moments report
+    → AnswersReport zone r scope trace (Ok report)
+reported_all zone moments r scope trace tally report old new times bad starts walked finds =
     let events = seen scope walked.0 in
     let all = all_seen hears scope walked.0 old new starts.1 walked.2 in
     let heard = all.0 in
@@ -120,7 +126,8 @@ reported_all r scope trace tally report old new starts walked finds =
       subst (λ (t : Tally). Tallies t walked.0) (sym finds.tally) walked.3,
       record {
         currency = finds.currency ∙ currency_heard events old.listener new.listener starts.0.1 heard;
-        books = finds.books (reported events) (all_judged events old.listener new.listener (noted 0 Connected ∷ []) starts.0.0 heard) ∙ ap (λ (l : List Statement). settled l (day_of (reported events))) statements;
+        books = finds.books (reported events) (all_judged events old.listener new.listener (noted 0 Connected ∷ []) starts.0.0 heard) ∙ ap₂ (λ (t : List Timed) (l : List Statement). timed_day zone t (settled l (day_of (reported events)))) times statements;
+        times = finds.times ∙ ap₂ (times_in zone) times bad;
         statements = finds.statements ∙ statements;
         closings = finds.closings;
         messages = subst (λ (l : List OrderMessage). AreSaidBy (beginnings events) l) (sym finds.messages) (all_said events old.listener new.listener [] none heard);
@@ -139,10 +146,10 @@ no_write {r = r} {scope = scope} lines old new failed = by failed.stops
     by (inl (is, so_far, same)) = differ is
     by (inr (event, so_far, left)) = differ left
 
-pub walk_failed : (r : Reading) (scope : Scope) (trace : List ℕ) (fault : TraceFault) (old new : ByControl Reporter)
-    → AnswersWalk r hears_by wants_memory_by scope (lines trace) old new (Err fault) → AnswersReport r scope trace (Err fault)
-walk_failed r scope trace (Trace number what) old new walked = (walked.0, walked.1)
-walk_failed r scope trace Memory old new walked = tt
-walk_failed r scope trace Write old new walked = absurd (no_write (lines trace) old new walked)
-walk_failed r scope trace TooLong old new never = absurd never
-walk_failed r scope trace Read old new never = absurd never
+pub walk_failed : (zone : Zone) (r : Reading) (scope : Scope) (trace : List ℕ) (fault : TraceFault) (old new : ByControl Reporter)
+    → AnswersWalk r hears_by wants_memory_by scope (lines trace) old new (Err fault) → AnswersReport zone r scope trace (Err fault)
+walk_failed zone r scope trace (Trace number what) old new walked = (walked.0, walked.1)
+walk_failed zone r scope trace Memory old new walked = tt
+walk_failed zone r scope trace Write old new walked = absurd (no_write (lines trace) old new walked)
+walk_failed zone r scope trace TooLong old new never = absurd never
+walk_failed zone r scope trace Read old new never = absurd never

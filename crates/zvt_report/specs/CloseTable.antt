@@ -6,6 +6,7 @@ use Rattle.zvt_till.specs.declared.happenings.Sent.TheVariants.{CloseDay}
 use Rattle.zvt_till.specs.declared.outcomes.Outcome.TheVariants.{DayClosed}
 use Rattle.zvt_report.specs.Amounts.{amount_column}
 use Rattle.zvt_report.specs.Differing.{closing_at}
+use Rattle.zvt_report.specs.Times.{time_first}
 use Rattle.zvt_report.specs.LookList.{lines_part}
 use Rattle.zvt_report.specs.declared.card_totals.CardTotals.{CardTotals}
 use Rattle.zvt_report.specs.declared.closings.Closing.{Closing}
@@ -60,7 +61,7 @@ explained_line rows Several = []
 
 unfoldable pub closing_text : Decimals → (all : List OrderRow) → OrderRow → Closing → List ℕ
 closing_text decimals all row closing =
-    codes "\nEnd of day" ++ lines_part row.first row.last ++ terminal_line decimals closing.totals closing.stated
+    codes "\nEnd of day" ++ lines_part row ++ terminal_line decimals closing.totals closing.stated
     ++ book_line decimals closing.booked closing.taken_back ++ differs_line decimals closing.booked closing.covered ++ explained_line all closing.explained
 
 unfoldable pub closing_if : Decimals → (all : List OrderRow) → OrderRow → Option Closing → List ℕ
@@ -94,10 +95,10 @@ a_closing booked taken_back =
 differs : closings_text Cents (Some (a_closing 15713 1500) ∷ []) (a_close ∷ [])
     ≡ codes "\nEnd of day (lines 346-366)\n" ++ codes "  terminal           172.12  receipts 0005 to 0015\n"
     ++ codes "  book               142.13\n" ++ codes "  differs             29.99\n" ++ codes "  explained by the orders of lines 346 and 0\n"
-unfolding amount_column book_line closing_if closing_text difference_column differs_line digits encode_with lines_part receipts_part terminal_line
+unfolding amount_column book_line closing_if closing_text difference_column differs_line digits encode_with lines_part receipts_part terminal_line time_first
 differs = refl
 
 agrees : closings_text Cents (None ∷ Some (record (a_closing 17212 0) { explained = Nothing }) ∷ []) (a_close ∷ a_close ∷ [])
     ≡ codes "\nEnd of day (lines 346-366)\n" ++ codes "  terminal           172.12  receipts 0005 to 0015\n" ++ codes "  book               172.12\n"
-unfolding amount_column book_line closing_if closing_text difference_column differs_line digits encode_with lines_part receipts_part terminal_line
+unfolding amount_column book_line closing_if closing_text difference_column differs_line digits encode_with lines_part receipts_part terminal_line time_first
 agrees = refl

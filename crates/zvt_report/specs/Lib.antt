@@ -41,3 +41,6 @@ pub mod PageTables
 pub mod PageCards
 pub mod Page
 pub mod PageClosings
+pub mod TimeMembers
+pub mod Times
+pub mod Zones

@@ -17,6 +17,8 @@ use Rattle.zvt_report.specs.Wrapping.{wrapped}
 use Rattle.zvt_report.specs.declared.cases.Case.{Case}
 use Rattle.zvt_report.specs.declared.cases.Case.TheVariants.{ApprovedNotCompleted, CloseUnclear}
 use Rattle.zvt_report.specs.declared.cases.Look.{Look}
+use Rattle.zvt_report.specs.Times.{time_first}
+use Rattle.zvt_trace.specs.Marks.{moment}
 use Rattle.zvt_report.specs.declared.cases.Weight.{Weight}
 use Rattle.zvt_report.specs.declared.cases.Weight.TheVariants.{Act, Check}
 use Rattle.zvt_report.specs.declared.currencies.Decimals.{Decimals}
@@ -38,13 +40,14 @@ unfoldable pub weight_text : Weight → List ℕ
 weight_text Act = codes "ACT    "
 weight_text Check = codes "CHECK  "
 
-unfoldable pub lines_part : (first last : ℕ) → List ℕ
-lines_part first last = codes " (lines " ++ decimal first ++ 45 ∷ decimal last ++ codes ")\n"
+-- the time and the lines of an order
+unfoldable pub lines_part : OrderRow → List ℕ
+lines_part row = codes " (" ++ time_first row.time ++ codes "lines " ++ decimal row.first ++ 45 ∷ decimal row.last ++ codes ")\n"
 
 -- an empty line, and the line with the title
 unfoldable pub look_head : Decimals → (number : ℕ) → Option Entry → OrderRow → (again : Option OrderRow) → Case → List ℕ
 look_head decimals number entry row again case =
-    10 ∷ right_aligned 2 (decimal number) ++ codes ". " ++ weight_text (weight_of case) ++ title decimals entry row again case ++ lines_part row.first row.last
+    10 ∷ right_aligned 2 (decimal number) ++ codes ". " ++ weight_text (weight_of case) ++ title decimals entry row again case ++ lines_part row
 
 unfoldable pub account_lines : List ℕ → List ℕ
 account_lines sentence = codes "    " ++ wrapped 4 sentence ++ 10 ∷ []
@@ -100,7 +103,7 @@ a_payment amount first =
     record { order = Pay amount; first = first; last = first + 8; outcome = Unclear Line; approval = Some (record { line = first + 6; amount = amount; trace = Some 20; receipt = Some (0 ∷ 8 ∷ []) }); time = None }
 
 abbrev an_end : OrderRow
-an_end = record { order = CloseDay; first = 10; last = 16; outcome = Unclear Line; approval = None; time = None }
+an_end = record { order = CloseDay; first = 10; last = 16; outcome = Unclear Line; approval = None; time = Some (moment 2026 11 28 18 30 1 0) }
 
 -- the end of day is the first order, and not urgent
 urgent_first :
@@ -111,9 +114,9 @@ urgent_first :
     ++ codes "    the payment is unclear: the connection was lost.\n"
     ++ codes "    -> The customer has probably been charged. Look for receipt 0008 in the\n"
     ++ codes "       terminal's journal before you charge again.\n\n"
-    ++ codes " 2. CHECK  End of day unclear (lines 10-16)\n"
+    ++ codes " 2. CHECK  End of day unclear (18:30:01, lines 10-16)\n"
     ++ codes "    The end of day is unclear: the connection was lost.\n"
     ++ codes "    -> If the terminal printed no end-of-day receipt, start the end of day\n"
     ++ codes "       again.\n"
-unfolding account_lines advice_lines again_part amount_or_dash amount_text approval_part approved_receipt digits encode_with lines_part listed_looks look_head look_of look_text reason twice_part weight_text wrapped
+unfolding account_lines advice_lines again_part amount_or_dash amount_text approval_part approved_receipt digits encode_with lines_part listed_looks look_head look_of look_text reason time_first twice_part weight_text wrapped
 urgent_first = refl

@@ -8,6 +8,7 @@ use Rattle.serde_json.specs.Written.{comma_if, compact_text}
 use Rattle.zvt_json.specs.Strings.{count_value, byte_value, hex_value, line_text}
 use Rattle.zvt_text.specs.MessageTexts.{four_digits}
 use Rattle.zvt_text.specs.Meanings.{command_name, meaning_of}
+use Rattle.zvt_trace.specs.Marks.{moment_text}
 use Rattle.zvt_till.specs.Names.{cause_name}
 use Rattle.zvt_till.specs.declared.outcomes.Cause.TheVariants.{NoStatus}
 use Rattle.zvt_report.specs.Words.{case_name, ending_name, weight_name}
@@ -63,6 +64,11 @@ name_text name.Reversed = codes "reversed"
 name_text name.ReversedBy = codes "reversed_by"
 name_text name.Stated = codes "stated"
 name_text name.TakenBack = codes "taken_back"
+name_text name.Time = codes "time"
+name_text name.TimeFrom = codes "time_from"
+name_text name.TimeTo = codes "time_to"
+name_text name.TimesBack = codes "times_back"
+name_text name.TimesBad = codes "times_bad"
 name_text name.Total = codes "total"
 name_text name.Trace = codes "trace"
 name_text name.Unclear = codes "unclear"
@@ -110,6 +116,7 @@ value_data (value.Bytes bytes) = hex_value bytes
 value_data (value.Receipts first last) = receipts_value first last
 value_data (value.Orders orders) = orders_value orders
 value_data (value.Currency currency) = string (four_digits currency)
+value_data (value.Moment moment) = string (moment_text moment)
 value_data (value.Word w) = string (word_text w)
 
 -- the members that have a value

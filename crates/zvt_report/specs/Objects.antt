@@ -16,6 +16,7 @@ use Rattle.zvt_till.specs.declared.outcomes.Cause.{Cause}
 use Rattle.zvt_till.specs.declared.outcomes.Cause.TheVariants as cause
 use Rattle.zvt_till.specs.declared.outcomes.Outcome.{Outcome}
 use Rattle.zvt_till.specs.declared.outcomes.Outcome.TheVariants as outcome
+use Rattle.zvt_trace.specs.Marks.{moment}
 use Rattle.zvt_trace.specs.declared.fault.Tally.{Tally}
 use Rattle.zvt_report.specs.CloseObjects.{book_member, differs_member, explained_member, receipts_member, stated_member}
 use Rattle.zvt_report.specs.Differing.{closing_at}
@@ -26,6 +27,8 @@ use Rattle.zvt_report.specs.Looks.{looks, weight_of}
 use Rattle.zvt_report.specs.Members.{object_text}
 use Rattle.zvt_report.specs.Places.{counted, no_counts, payment_of, payments_in, place_after, reversed_by}
 use Rattle.zvt_report.specs.Sums.{reversed_count, unclear_reversals, unclear_total}
+use Rattle.zvt_report.specs.TimeMembers.{back_member, bad_member, from_member, maybe_time, to_member}
+use Rattle.zvt_report.specs.Times.{no_times}
 use Rattle.zvt_report.specs.Words.{ending_of}
 use Rattle.zvt_report.specs.declared.cases.Case.TheVariants as case_of
 use Rattle.zvt_report.specs.declared.cases.Look.{Look}
@@ -44,6 +47,7 @@ use Rattle.zvt_report.specs.declared.places.Place.{Place}
 use Rattle.zvt_report.specs.declared.rows.Approval.{Approval}
 use Rattle.zvt_report.specs.declared.rows.OrderMessage.{OrderMessage}
 use Rattle.zvt_report.specs.declared.rows.OrderRow.{OrderRow}
+use Rattle.zvt_report.specs.declared.times.Times.{Times}
 
 -- ---- what a row has to say
 
@@ -158,6 +162,7 @@ payment_members books place row amount =
     ∷ maybe_cause name.ReversalUnclear (unclear_at books.book place.entry)
     ∷ maybe_count name.ReversedBy (reversed_at place.entry books.orders)
     ∷ true_if name.TakenBack (taken_back_at books.book place.entry)
+    ∷ maybe_time row.time
     ∷ maybe_count name.Trace (trace_by row.outcome row.approval)
     ∷ words row.outcome
     ∷ []
@@ -173,6 +178,7 @@ reversal_members books place row message =
     ∷ ending row
     ∷ maybe_count name.Payment (payment_for place.entry books.orders)
     ∷ maybe_receipt message.receipt
+    ∷ maybe_time row.time
     ∷ words row.outcome
     ∷ []
 
@@ -187,6 +193,7 @@ other_members place row message =
     ∷ command message
     ∷ count name.Order place.order
     ∷ ending row
+    ∷ maybe_time row.time
     ∷ words row.outcome
     ∷ []
 
@@ -202,6 +209,7 @@ close_members closing place row =
     ∷ ending row
     ∷ receipts_member closing
     ∷ stated_member closing
+    ∷ maybe_time row.time
     ∷ words row.outcome
     ∷ []
 
@@ -214,6 +222,7 @@ plain_members place row message =
     ∷ command message
     ∷ count name.Order place.order
     ∷ ending row
+    ∷ maybe_time row.time
     ∷ words row.outcome
     ∷ []
 
@@ -265,6 +274,7 @@ look_members rows look row =
     ∷ lines row
     ∷ count name.Order (look.order + 1)
     ∷ maybe_count name.Payment (payment_at look.order rows row.order)
+    ∷ maybe_time row.time
     ∷ said_as name.Weight (value.Word (word.Weight (weight_of look.case)))
     ∷ []
 
@@ -291,8 +301,8 @@ others_from messages place (row ∷ rows) =
 abbrev pub maybe_currency : Option ℕ → Option Member
 maybe_currency currency = option_map (λ (c : ℕ). record { name = name.Currency; value = value.Currency c }) currency
 
-abbrev pub summary_members : Tally → (currency : Option ℕ) → DayValue → List OrderMessage → List Look → List (Option Member)
-summary_members tally currency books messages looks =
+abbrev pub summary_members : Tally → (currency : Option ℕ) → Times → DayValue → List OrderMessage → List Look → List (Option Member)
+summary_members tally currency times books messages looks =
     count name.Bad tally.bad
     ∷ count name.Booked (length books.book)
     ∷ maybe_currency currency
@@ -302,18 +312,22 @@ summary_members tally currency books messages looks =
     ∷ count name.Others (others_from messages 0 books.orders)
     ∷ count name.ReversalsUnclear (unclear_reversals books.book)
     ∷ count name.Reversed (reversed_count books.book)
+    ∷ from_member times.span
+    ∷ to_member times.span
+    ∷ back_member times.went_back
+    ∷ bad_member times.bad times.first_bad
     ∷ count name.Total (booked_total books.book)
     ∷ count name.Unclear (length books.unclear)
     ∷ count name.UnclearAmount (unclear_total books.unclear)
     ∷ []
 
-abbrev pub summary_line : Tally → (currency : Option ℕ) → DayValue → List OrderMessage → List Look → List ℕ
-summary_line tally currency books messages looks = object_text object_of.Summary (summary_members tally currency books messages looks)
+abbrev pub summary_line : Tally → (currency : Option ℕ) → Times → DayValue → List OrderMessage → List Look → List ℕ
+summary_line tally currency times books messages looks = object_text object_of.Summary (summary_members tally currency times books messages looks)
 
 -- the summary, then the looks, then the orders
-abbrev pub report_json : Tally → (currency : Option ℕ) → DayValue → List OrderMessage → List (Option Closing) → List Look → List ℕ
-report_json tally currency books messages closings looks =
-    summary_line tally currency books messages looks ++ looks_json books.orders looks ++ rows_json books messages closings no_counts books.orders
+abbrev pub report_json : Tally → (currency : Option ℕ) → Times → DayValue → List OrderMessage → List (Option Closing) → List Look → List ℕ
+report_json tally currency times books messages closings looks =
+    summary_line tally currency times books messages looks ++ looks_json books.orders looks ++ rows_json books messages closings no_counts books.orders
 
 -- ---- rows worked by hand
 
@@ -369,15 +383,20 @@ paid_twice : let orders = a_row (sent.Register None) 2 4 outcome.Registered None
 unfolding object_text digits escape_byte
 paid_twice = refl
 
-a_summary : summary_line (record { messages = 12; bad = 0 }) (Some 978) (record { book = an_entry 1234 true doubt.No ∷ an_entry 500 false doubt.No ∷ []; unclear = (700, cause.Line) ∷ []; orders = [] }) [] []
+a_summary : summary_line (record { messages = 12; bad = 0 }) (Some 978) no_times (record { book = an_entry 1234 true doubt.No ∷ an_entry 500 false doubt.No ∷ []; unclear = (700, cause.Line) ∷ []; orders = [] }) [] []
     ≡ codes "{\"summary\":{\"bad\":0,\"booked\":2,\"currency\":\"0978\",\"looks\":0,\"messages\":12,\"net\":500,\"others\":0,\"reversals_unclear\":0,\"reversed\":1,\"total\":1734,\"unclear\":1,\"unclear_amount\":700}}\n"
 unfolding object_text digits escape_byte
 a_summary = refl
 
+-- a time of day, and where a trace ends
+a_time : object_text object_of.Order (maybe_time (Some (moment 2026 11 28 8 14 3 250_000_000)) ∷ []) ≡ codes "{\"order\":{\"time\":\"2026-11-28T08:14:03.250Z\"}}\n"
+unfolding object_text escape_byte
+a_time = refl
+
 -- the summary comes first, then the look, then the orders
 a_report : let orders = a_row (sent.Register None) 2 4 outcome.Registered None ∷ a_row (sent.Pay 3499) 6 8 (outcome.Unclear cause.Line) None ∷ a_row (sent.Pay 3499) 10 12 (outcome.Paid 21 None) None ∷ [] in
     let book : List Entry = record { amount = 3499; trace = 21; receipt = None; reversed = false; doubt = doubt.No } ∷ [] in
-    report_json (record { messages = 24; bad = 0 }) (Some 978) (record { book = book; unclear = (3499, cause.Line) ∷ []; orders = orders }) (a_message 0x00 None None ∷ a_message 0x01 (Some 3499) None ∷ a_message 0x01 (Some 3499) None ∷ []) [] (looks book [] orders)
+    report_json (record { messages = 24; bad = 0 }) (Some 978) no_times (record { book = book; unclear = (3499, cause.Line) ∷ []; orders = orders }) (a_message 0x00 None None ∷ a_message 0x01 (Some 3499) None ∷ a_message 0x01 (Some 3499) None ∷ []) [] (looks book [] orders)
     ≡ codes "{\"summary\":{\"bad\":0,\"booked\":1,\"currency\":\"0978\",\"looks\":1,\"messages\":24,\"net\":3499,\"others\":0,\"reversals_unclear\":0,\"reversed\":0,\"total\":3499,\"unclear\":1,\"unclear_amount\":3499}}\n{\"look\":{\"again\":3,\"case\":\"PaymentUnclear\",\"cause\":\"Line\",\"lines\":[6,8],\"order\":2,\"payment\":1,\"weight\":\"check\"}}\n{\"order\":{\"control\":\"0600\",\"lines\":[2,4],\"order\":1,\"outcome\":\"completed\"}}\n{\"payment\":{\"amount\":3499,\"cause\":\"Line\",\"lines\":[6,8],\"order\":2,\"outcome\":\"unclear\",\"payment\":1}}\n{\"payment\":{\"amount\":3499,\"lines\":[10,12],\"order\":3,\"outcome\":\"paid\",\"payment\":2,\"trace\":21}}\n"
 unfolding object_text digits escape_byte encode_with command_name
 a_report = refl

@@ -17,6 +17,8 @@ use Rattle.zvt_report.specs.Places.{counted, no_counts, place_after}
 use Rattle.zvt_report.specs.declared.currencies.Decimals.{Decimals}
 use Rattle.zvt_report.specs.declared.currencies.Decimals.TheVariants.{Two}
 use Rattle.zvt_report.specs.declared.kinds.OrderKind.{OrderKind}
+use Rattle.zvt_report.specs.Times.{time_column}
+use Rattle.zvt_trace.specs.Marks.{moment}
 use Rattle.zvt_report.specs.declared.kinds.OrderKind.TheVariants.{Reversal, OtherMoney}
 use Rattle.zvt_report.specs.declared.places.Counts.{Counts}
 use Rattle.zvt_report.specs.declared.places.Place.{Place}
@@ -42,7 +44,7 @@ unfoldable pub money_name : (high low : ℕ) → List ℕ
 money_name high low = named (command_name high low)
 
 unfoldable pub order_columns : Decimals → (amount : Option ℕ) → (receipt : Option (List ℕ)) → OrderRow → List ℕ
-order_columns decimals amount receipt row = amount_or_blank decimals amount ++ codes "  " ++ receipt_column receipt ++ lines_column row.first row.last
+order_columns decimals amount receipt row = time_column row.time ++ amount_or_blank decimals amount ++ codes "  " ++ receipt_column receipt ++ lines_column row.first row.last
 
 unfoldable pub order_end : OrderRow → List ℕ
 order_end row = codes ", " ++ outcome_text row.order row.outcome ++ 10 ∷ []
@@ -70,7 +72,7 @@ others_from decimals book messages c (row ∷ rows) =
     ++ others_from decimals book messages (counted c row) rows
 
 unfoldable pub others_heading : Decimals → List ℕ
-others_heading decimals = codes "\nReversals and other orders that move money\n      Amount" ++ fraction_blanks decimals ++ codes "  Receipt    Lines          Order\n"
+others_heading decimals = codes "\nReversals and other orders that move money\n  Time          Amount" ++ fraction_blanks decimals ++ codes "  Receipt    Lines          Order\n"
 
 -- the rows under the heading, if there are any
 abbrev pub headed : Decimals → List ℕ → List ℕ
@@ -98,13 +100,13 @@ two_orders :
     others_text Two (an_entry ∷ []) (a_registration ∷ a_refund ∷ a_reversal ∷ [])
     (record { order = Register None; first = 4; last = 10; outcome = Registered; approval = None; time = None }
     ∷ record { order = Foreign; first = 184; last = 202; outcome = DayClosed; approval = None; time = None }
-    ∷ record { order = Reverse 0; first = 288; last = 302; outcome = Reversed; approval = None; time = None }
+    ∷ record { order = Reverse 0; first = 288; last = 302; outcome = Reversed; approval = None; time = Some (moment 2026 11 28 16 41 12 0) }
     ∷ [])
     ≡ codes "\nReversals and other orders that move money\n"
-    ++ codes "      Amount     Receipt    Lines          Order\n"
-    ++ codes "           5.00  -            184-202      refund, completed\n"
-    ++ codes "          15.00  0013         288-302      reversal, reversed\n"
-unfolding amount_column amount_or_blank command_name digits encode_with explained fraction_blanks lines_column money_name order_columns order_end order_row others_heading outcome_text receipt_column reversal_name
+    ++ codes "  Time          Amount     Receipt    Lines          Order\n"
+    ++ codes "  -                  5.00  -            184-202      refund, completed\n"
+    ++ codes "  16:41:12          15.00  0013         288-302      reversal, reversed\n"
+unfolding amount_column amount_or_blank command_name digits encode_with explained fraction_blanks lines_column money_name order_columns order_end order_row others_heading outcome_text receipt_column reversal_name time_column
 two_orders = refl
 
 no_order : others_text Two [] [] [] ≡ []

@@ -1,7 +1,7 @@
 -- The report of a trace as a page.
 use Rattle.std.specs.Prelude.{◌≡◌, ℕ, List, [], ◌∷◌, ◌++◌, codes, Option, Some, None, refl}
 use Rattle.zvt_page.specs.Document.{document}
-use Rattle.zvt_page.specs.Html.{Html, element, text, leaf, all, both, attribute_text, end_tag, escaped, render, start_tag}
+use Rattle.zvt_page.specs.Html.{Html, nothing, element, text, leaf, all, both, attribute_text, end_tag, escaped, render, start_tag}
 use Rattle.zvt_page.specs.declared.elements.Attribute.TheVariants.{Class, Href}
 use Rattle.zvt_page.specs.declared.elements.Element.TheVariants.{A, Footer, H1, Header, Main, P}
 use Rattle.zvt_trace.specs.declared.fault.Tally.{Tally}
@@ -12,6 +12,8 @@ use Rattle.zvt_report.specs.PageClosings.{closings_section}
 use Rattle.zvt_report.specs.PageLooks.{looks_section}
 use Rattle.zvt_report.specs.PageTables.{others_section, payments_section}
 use Rattle.zvt_report.specs.Summary.{unit_text}
+use Rattle.zvt_report.specs.Times.{clock_notes, no_times, span_words}
+use Rattle.zvt_report.specs.declared.times.Times.{Times}
 use Rattle.zvt_report.specs.TextReport.{footer}
 use Rattle.zvt_report.specs.declared.cases.Look.{Look}
 use Rattle.zvt_report.specs.declared.closings.Closing.{Closing}
@@ -31,33 +33,37 @@ unit_words (Some money) = codes "Amounts in"
 abbrev pub amounts_in : Option Money → List ℕ
 amounts_in money = unit_words money ++ unit_text money
 
-unfoldable pub page_head : (name : List ℕ) → Option Money → Html
-page_head name money = element Header [] (all (leaf H1 [] (heading name) ∷ leaf P (codes "meta") (amounts_in money) ∷ []))
+-- the day and the hours, if there are times
+abbrev pub hours_part : Times → Html
+hours_part times = elim times.span [ None ↦ nothing | Some between ↦ leaf P (codes "meta") (span_words times.zone between.0 between.1) ]
 
--- how much of the trace was read
-unfoldable pub page_foot : Tally → Html
-page_foot tally = element Footer [] (leaf P [] (footer tally))
+unfoldable pub page_head : (name : List ℕ) → Option Money → Times → Html
+page_head name money times = element Header [] (all (leaf H1 [] (heading name) ∷ hours_part times ∷ leaf P (codes "meta") (amounts_in money) ∷ []))
+
+-- how much of the trace was read, and what is wrong with its times
+unfoldable pub page_foot : Tally → Times → Html
+page_foot tally times = element Footer [] (leaf P [] (footer tally ++ clock_notes times))
 
 -- for readers without a mouse
 unfoldable pub skip_link : Html
 skip_link = element A ((Class, codes "skip") ∷ (Href, codes "#look") ∷ []) (text (codes "Skip to what needs a look"))
 
-unfoldable pub sections : (name : List ℕ) → Option Money → Tally → DayValue → List OrderMessage → List (Option Closing) → List Look → Html
-sections name money tally books messages closings looks =
-    all (page_head name money ∷ cards (decimals_of money) books messages ∷ looks_section (decimals_of money) books looks ∷ payments_section (decimals_of money) books
-    ∷ others_section (decimals_of money) books messages ∷ closings_section (decimals_of money) closings books.orders ∷ page_foot tally ∷ [])
+unfoldable pub sections : (name : List ℕ) → Option Money → Tally → Times → DayValue → List OrderMessage → List (Option Closing) → List Look → Html
+sections name money tally times books messages closings looks =
+    all (page_head name money times ∷ cards (decimals_of money) books messages ∷ looks_section (decimals_of money) books looks ∷ payments_section (decimals_of money) books
+    ∷ others_section (decimals_of money) books messages ∷ closings_section (decimals_of money) closings books.orders ∷ page_foot tally times ∷ [])
 
 -- the body of the page
-unfoldable pub page_of : (name : List ℕ) → Option Money → Tally → DayValue → List OrderMessage → List (Option Closing) → List Look → Html
-page_of name money tally books messages closings looks =
-    both skip_link (element Main ((Class, codes "page") ∷ []) (sections name money tally books messages closings looks))
+unfoldable pub page_of : (name : List ℕ) → Option Money → Tally → Times → DayValue → List OrderMessage → List (Option Closing) → List Look → Html
+page_of name money tally times books messages closings looks =
+    both skip_link (element Main ((Class, codes "page") ∷ []) (sections name money tally times books messages closings looks))
 
-abbrev pub report_page : (name : List ℕ) → Tally → (currency : Option ℕ) → DayValue → List OrderMessage → List (Option Closing) → List Look → List ℕ
-report_page name tally currency books messages closings looks =
-    document (heading name) (page_of name (money_of currency) tally books messages closings looks)
+abbrev pub report_page : (name : List ℕ) → Tally → (currency : Option ℕ) → Times → DayValue → List OrderMessage → List (Option Closing) → List Look → List ℕ
+report_page name tally currency times books messages closings looks =
+    document (heading name) (page_of name (money_of currency) tally times books messages closings looks)
 
 -- ---- a row worked by hand
 
-a_head : render (page_head (codes "<b>.trace") (money_of (Some 978))) ≡ codes "<header><h1>&lt;b&gt;.trace</h1><p class=\"meta\">Amounts in EUR</p></header>"
+a_head : render (page_head (codes "<b>.trace") (money_of (Some 978)) no_times) ≡ codes "<header><h1>&lt;b&gt;.trace</h1><p class=\"meta\">Amounts in EUR</p></header>"
 unfolding attribute_text end_tag escaped page_head start_tag unit_text
 a_head = refl

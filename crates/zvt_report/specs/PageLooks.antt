@@ -13,6 +13,8 @@ use Rattle.zvt_report.specs.LookList.{entry_of, is_listed, row_at}
 use Rattle.zvt_report.specs.Looks.{weight_of}
 use Rattle.zvt_report.specs.PageParts.{from_to}
 use Rattle.zvt_report.specs.Phrases.{reason}
+use Rattle.zvt_report.specs.Times.{time_first}
+use Rattle.zvt_trace.specs.Marks.{moment}
 use Rattle.zvt_report.specs.Sentences.{account, advice, title}
 use Rattle.zvt_report.specs.declared.cases.Case.{Case}
 use Rattle.zvt_report.specs.declared.cases.Case.TheVariants.{CloseUnclear}
@@ -35,8 +37,8 @@ weight_word Check = codes "Check"
 unfoldable pub title_part : Decimals → Option Entry → OrderRow → (again : Option OrderRow) → Case → Html
 title_part decimals entry row again case = leaf H3 [] (title decimals entry row again case)
 
-unfoldable pub lines_part : (first last : ℕ) → Html
-lines_part first last = leaf Span (codes "at") (codes "lines " ++ from_to first last)
+unfoldable pub lines_part : OrderRow → Html
+lines_part row = leaf Span (codes "at") (time_first row.time ++ codes "lines " ++ from_to row.first row.last)
 
 unfoldable pub account_part : Decimals → Option Entry → OrderRow → (again : Option OrderRow) → Case → Html
 account_part decimals entry row again case = leaf P (codes "why") (account decimals entry row again case)
@@ -48,7 +50,7 @@ advice_part decimals entry row again case = leaf P (codes "do") (advice decimals
 unfoldable pub item : Decimals → Option Entry → OrderRow → (again : Option OrderRow) → Case → Html
 item decimals entry row again case =
     element Li ((Class, weight_class (weight_of case)) ∷ [])
-    (all (leaf Span (codes "sev") (weight_word (weight_of case)) ∷ title_part decimals entry row again case ∷ lines_part row.first row.last
+    (all (leaf Span (codes "sev") (weight_word (weight_of case)) ∷ title_part decimals entry row again case ∷ lines_part row
     ∷ account_part decimals entry row again case ∷ advice_part decimals entry row again case ∷ []))
 
 unfoldable pub item_of : Decimals → List Entry → List OrderRow → Look → Html
@@ -78,11 +80,11 @@ looks_section decimals books looks = both look_heading (items_or_none decimals b
 -- ---- a row worked by hand
 
 abbrev an_end : OrderRow
-an_end = record { order = CloseDay; first = 10; last = 16; outcome = Unclear Line; approval = None; time = None }
+an_end = record { order = CloseDay; first = 10; last = 16; outcome = Unclear Line; approval = None; time = Some (moment 2026 11 28 18 30 1 0) }
 
 an_item : render (item Two None an_end None CloseUnclear)
-    ≡ codes "<li class=\"check\"><span class=\"sev\">Check</span><h3>End of day unclear</h3><span class=\"at\">lines 10-16</span>"
+    ≡ codes "<li class=\"check\"><span class=\"sev\">Check</span><h3>End of day unclear</h3><span class=\"at\">18:30:01, lines 10-16</span>"
     ++ codes "<p class=\"why\">The end of day is unclear: the connection was lost.</p>"
     ++ codes "<p class=\"do\">If the terminal printed no end-of-day receipt, start the end of day again.</p></li>"
-unfolding account_part advice_part attribute_text digits end_tag escaped item lines_part reason start_tag title_part
+unfolding account_part advice_part attribute_text digits end_tag escaped item lines_part reason start_tag time_first title_part
 an_item = refl

@@ -1,8 +1,8 @@
 -- The cells of the tables of a page.
-use Rattle.std.specs.Prelude.{ℕ, List, [], ◌∷◌, ◌++◌, codes, Option, Some, None}
+use Rattle.std.specs.Prelude.{ℕ, Bool, cond, List, [], ◌∷◌, ◌++◌, codes, Option, Some, None}
 use Rattle.std.specs.Fmt.{decimal}
 use Rattle.hex.specs.Hex.{encode_upper}
-use Rattle.zvt_page.specs.Html.{Html, element, text, leaf}
+use Rattle.zvt_page.specs.Html.{Html, nothing, element, text, leaf}
 use Rattle.zvt_page.specs.declared.elements.Attribute.TheVariants.{Class, Scope}
 use Rattle.zvt_page.specs.declared.elements.Element.TheVariants.{Span, Td, Th}
 use Rattle.zvt_report.specs.Amounts.{amount_text}
@@ -10,10 +10,23 @@ use Rattle.zvt_report.specs.Tones.{tone_class}
 use Rattle.zvt_report.specs.declared.currencies.Decimals.{Decimals}
 use Rattle.zvt_report.specs.declared.tones.Tone.{Tone}
 use Rattle.zvt_text.specs.Numbers.{zero_padded}
+use Rattle.zvt_trace.specs.Marks.{clock_text}
+use Rattle.zvt_trace.specs.declared.moment.Moment.{Moment}
 
 -- the heading of a column
 unfoldable pub column : (class title : List ℕ) → Html
 column class title = element Th ((Class, class) ∷ (Scope, codes "col") ∷ []) (text title)
+
+-- the column of times, if the table has one
+unfoldable pub time_heading : (timed : Bool) → Html
+time_heading timed = cond timed (column (codes "tm") (codes "Time")) nothing
+
+abbrev pub clock_or_nothing : Option Moment → List ℕ
+clock_or_nothing None = []
+clock_or_nothing (Some time) = clock_text time
+
+unfoldable pub time_cell : (timed : Bool) → Option Moment → Html
+time_cell timed time = cond timed (leaf Td (codes "tm") (clock_or_nothing time)) nothing
 
 -- an amount; an empty cell if there is none
 abbrev pub amount_or_nothing : Decimals → Option ℕ → List ℕ

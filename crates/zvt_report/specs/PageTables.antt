@@ -7,6 +7,7 @@ use Rattle.zvt_page.specs.Html.{Html, nothing, both, element, class_of, leaf, al
 use Rattle.zvt_page.specs.declared.elements.Attribute.TheVariants.{Class}
 use Rattle.zvt_page.specs.declared.elements.Element.TheVariants.{H2, P, Table, Tbody, Td, Thead, Tr}
 use Rattle.zvt_till.specs.declared.entries.Entry.{Entry}
+use Rattle.zvt_trace.specs.Marks.{moment}
 use Rattle.zvt_till.specs.declared.happenings.Sent.{Sent}
 use Rattle.zvt_till.specs.declared.happenings.Sent.TheVariants.{Pay}
 use Rattle.zvt_till.specs.declared.outcomes.Outcome.TheVariants.{Paid}
@@ -15,9 +16,10 @@ use Rattle.zvt_report.specs.Day.{DayValue}
 use Rattle.zvt_report.specs.Kinds.{kind_of}
 use Rattle.zvt_report.specs.Objects.{amount_at, approved_of, entry_at, message_at, receipt_by, trace_by}
 use Rattle.zvt_report.specs.OtherTable.{money_name, reversal_name}
-use Rattle.zvt_report.specs.PageParts.{amount_cell, column, lines_cell, outcome_cell, receipt_cell, trace_cell}
+use Rattle.zvt_report.specs.PageParts.{amount_cell, column, lines_cell, outcome_cell, receipt_cell, time_cell, time_heading, trace_cell}
 use Rattle.zvt_report.specs.PaymentTable.{explained, outcome_text, payment_text}
 use Rattle.zvt_report.specs.Places.{counted, no_counts, payments_in, place_after}
+use Rattle.zvt_report.specs.Times.{have_times}
 use Rattle.zvt_report.specs.Tones.{outcome_tone, payment_tone, row_class}
 use Rattle.zvt_report.specs.declared.currencies.Decimals.{Decimals}
 use Rattle.zvt_report.specs.declared.currencies.Decimals.TheVariants.{Two}
@@ -34,9 +36,9 @@ table head body = element Table ((Class, codes "t") ∷ []) (both (element Thead
 
 -- ---- payments
 
-unfoldable pub payment_columns : Html
-payment_columns =
-    all (column (codes "i n") (codes "#") ∷ column (codes "n am") (codes "Amount") ∷ column (codes "ids") (codes "Trace") ∷ column (codes "rc") (codes "Receipt")
+unfoldable pub payment_columns : (timed : Bool) → Html
+payment_columns timed =
+    all (column (codes "i n") (codes "#") ∷ time_heading timed ∷ column (codes "n am") (codes "Amount") ∷ column (codes "ids") (codes "Trace") ∷ column (codes "rc") (codes "Receipt")
     ∷ column (codes "oc") (codes "Outcome") ∷ column (codes "ln") (codes "Lines") ∷ [])
 
 unfoldable pub number_cell : (number : ℕ) → Html
@@ -46,23 +48,23 @@ number_cell number = leaf Td (codes "i n") (decimal number)
 unfoldable pub payment_end : Option Entry → OrderRow → Html
 payment_end entry row = outcome_cell (payment_tone entry row.outcome) (payment_text entry row)
 
-unfoldable pub payment_row : Decimals → (number : ℕ) → Option Entry → OrderRow → (amount : ℕ) → Html
-payment_row decimals number entry row amount =
+unfoldable pub payment_row : (timed : Bool) → Decimals → (number : ℕ) → Option Entry → OrderRow → (amount : ℕ) → Html
+payment_row timed decimals number entry row amount =
     element Tr (class_of (row_class (payment_tone entry row.outcome)))
-    (all (number_cell number ∷ amount_cell decimals (Some amount) ∷ trace_cell (trace_by row.outcome row.approval) ∷ receipt_cell (receipt_by row.outcome row.approval)
+    (all (number_cell number ∷ time_cell timed row.time ∷ amount_cell decimals (Some amount) ∷ trace_cell (trace_by row.outcome row.approval) ∷ receipt_cell (receipt_by row.outcome row.approval)
     ∷ payment_end entry row ∷ lines_cell row.first row.last ∷ []))
 
 -- the row of an order, if it is a payment
-unfoldable pub payment_of : Decimals → List Entry → Place → OrderRow → Sent → Html
-payment_of decimals book place row (Pay amount) = payment_row decimals (unwrap_or place.payment 0) (entry_at book place.entry) row amount
-payment_of decimals book place row _ = nothing
+unfoldable pub payment_of : (timed : Bool) → Decimals → List Entry → Place → OrderRow → Sent → Html
+payment_of timed decimals book place row (Pay amount) = payment_row timed decimals (unwrap_or place.payment 0) (entry_at book place.entry) row amount
+payment_of timed decimals book place row _ = nothing
 
-abbrev pub payment_rows : Decimals → List Entry → Counts → List OrderRow → Html
-payment_rows decimals book c [] = nothing
-payment_rows decimals book c (row ∷ rows) = both (payment_of decimals book (place_after c row) row row.order) (payment_rows decimals book (counted c row) rows)
+abbrev pub payment_rows : (timed : Bool) → Decimals → List Entry → Counts → List OrderRow → Html
+payment_rows timed decimals book c [] = nothing
+payment_rows timed decimals book c (row ∷ rows) = both (payment_of timed decimals book (place_after c row) row row.order) (payment_rows timed decimals book (counted c row) rows)
 
 unfoldable pub payments_table : Decimals → List Entry → List OrderRow → Html
-payments_table decimals book rows = table payment_columns (payment_rows decimals book no_counts rows)
+payments_table decimals book rows = table (payment_columns (have_times rows)) (payment_rows (have_times rows) decimals book no_counts rows)
 
 abbrev pub payments_or_none : Decimals → List Entry → List OrderRow → Html
 payments_or_none decimals book rows =
@@ -73,40 +75,40 @@ payments_section decimals books = both (leaf H2 [] (codes "Payments")) (payments
 
 -- ---- reversals and other orders
 
-unfoldable pub other_columns : Html
-other_columns =
-    all (column (codes "n am") (codes "Amount") ∷ column (codes "cd") (codes "Order") ∷ column (codes "rc") (codes "Receipt")
+unfoldable pub other_columns : (timed : Bool) → Html
+other_columns timed =
+    all (time_heading timed ∷ column (codes "n am") (codes "Amount") ∷ column (codes "cd") (codes "Order") ∷ column (codes "rc") (codes "Receipt")
     ∷ column (codes "oc") (codes "Outcome") ∷ column (codes "ln") (codes "Lines") ∷ [])
 
 -- how another order ended
 unfoldable pub other_end : OrderRow → Html
 other_end row = outcome_cell (outcome_tone row.outcome) (outcome_text row.order row.outcome)
 
-unfoldable pub other_row : Decimals → (amount : Option ℕ) → (receipt : Option (List ℕ)) → (name : List ℕ) → OrderRow → Html
-other_row decimals amount receipt name row =
+unfoldable pub other_row : (timed : Bool) → Decimals → (amount : Option ℕ) → (receipt : Option (List ℕ)) → (name : List ℕ) → OrderRow → Html
+other_row timed decimals amount receipt name row =
     element Tr (class_of (row_class (outcome_tone row.outcome)))
-    (all (amount_cell decimals amount ∷ leaf Td (codes "cd") name ∷ receipt_cell receipt ∷ other_end row ∷ lines_cell row.first row.last ∷ []))
+    (all (time_cell timed row.time ∷ amount_cell decimals amount ∷ leaf Td (codes "cd") name ∷ receipt_cell receipt ∷ other_end row ∷ lines_cell row.first row.last ∷ []))
 
 -- If the payment of a reversal is not in the trace, the amount is the one that the message names.
-abbrev pub reversal_row : Decimals → List Entry → Place → OrderRow → OrderMessage → Html
-reversal_row decimals book place row message = other_row decimals (option_or (amount_at book place.entry) message.amount) message.receipt (reversal_name row.order) row
+abbrev pub reversal_row : (timed : Bool) → Decimals → List Entry → Place → OrderRow → OrderMessage → Html
+reversal_row timed decimals book place row message = other_row timed decimals (option_or (amount_at book place.entry) message.amount) message.receipt (reversal_name row.order) row
 
-abbrev pub money_row : Decimals → OrderRow → OrderMessage → Html
-money_row decimals row message = other_row decimals (option_or message.amount (approved_of row)) message.receipt (money_name message.high message.low) row
+abbrev pub money_row : (timed : Bool) → Decimals → OrderRow → OrderMessage → Html
+money_row timed decimals row message = other_row timed decimals (option_or message.amount (approved_of row)) message.receipt (money_name message.high message.low) row
 
 -- the row of an order, if it moves money and is no payment
-unfoldable pub other_of : OrderKind → Decimals → List Entry → Place → OrderRow → OrderMessage → Html
-other_of Reversal decimals book place row message = reversal_row decimals book place row message
-other_of OtherMoney decimals book place row message = money_row decimals row message
-other_of _ decimals book place row message = nothing
+unfoldable pub other_of : (timed : Bool) → OrderKind → Decimals → List Entry → Place → OrderRow → OrderMessage → Html
+other_of timed Reversal decimals book place row message = reversal_row timed decimals book place row message
+other_of timed OtherMoney decimals book place row message = money_row timed decimals row message
+other_of timed _ decimals book place row message = nothing
 
 abbrev pub kind_at : List OrderMessage → (place : ℕ) → OrderRow → OrderKind
 kind_at messages place row = kind_of row.order (message_at messages place).high (message_at messages place).low
 
-abbrev pub other_rows : Decimals → List Entry → List OrderMessage → Counts → List OrderRow → Html
-other_rows decimals book messages c [] = nothing
-other_rows decimals book messages c (row ∷ rows) =
-    both (other_of (kind_at messages c.orders row) decimals book (place_after c row) row (message_at messages c.orders)) (other_rows decimals book messages (counted c row) rows)
+abbrev pub other_rows : (timed : Bool) → Decimals → List Entry → List OrderMessage → Counts → List OrderRow → Html
+other_rows timed decimals book messages c [] = nothing
+other_rows timed decimals book messages c (row ∷ rows) =
+    both (other_of timed (kind_at messages c.orders row) decimals book (place_after c row) row (message_at messages c.orders)) (other_rows timed decimals book messages (counted c row) rows)
 
 abbrev pub is_listed : OrderKind → Bool
 is_listed Reversal = true
@@ -119,7 +121,7 @@ has_rows messages place [] = false
 has_rows messages place (row ∷ rows) = is_listed (kind_at messages place row) || has_rows messages (place + 1) rows
 
 unfoldable pub others_table : Decimals → List Entry → List OrderMessage → List OrderRow → Html
-others_table decimals book messages rows = table other_columns (other_rows decimals book messages no_counts rows)
+others_table decimals book messages rows = table (other_columns (have_times rows)) (other_rows (have_times rows) decimals book messages no_counts rows)
 
 -- the table under its heading
 unfoldable pub headed_table : Decimals → List Entry → List OrderMessage → List OrderRow → Html
@@ -132,9 +134,9 @@ others_section decimals books messages = cond (has_rows messages 0 books.orders)
 -- ---- a row worked by hand
 
 abbrev a_payment : OrderRow
-a_payment = record { order = Pay 1234; first = 12; last = 38; outcome = Paid 17 (Some (0 ∷ 5 ∷ [])); approval = None; time = None }
+a_payment = record { order = Pay 1234; first = 12; last = 38; outcome = Paid 17 (Some (0 ∷ 5 ∷ [])); approval = None; time = Some (moment 2026 11 28 8 14 3 0) }
 
-a_row : render (payment_row Two 1 None a_payment 1234)
-    ≡ codes "<tr><td class=\"i n\">1</td><td class=\"n am\">12.34</td><td class=\"ids\">000017</td><td class=\"rc\">0005</td><td class=\"oc\"><span class=\"dot c-ok\">paid</span></td><td class=\"ln\">12-38</td></tr>"
-unfolding amount_cell amount_text attribute_text digits encode_with end_tag escaped explained lines_cell number_cell outcome_cell outcome_text payment_end payment_row payment_text receipt_cell start_tag trace_cell
+a_row : render (payment_row true Two 1 None a_payment 1234)
+    ≡ codes "<tr><td class=\"i n\">1</td><td class=\"tm\">08:14:03</td><td class=\"n am\">12.34</td><td class=\"ids\">000017</td><td class=\"rc\">0005</td><td class=\"oc\"><span class=\"dot c-ok\">paid</span></td><td class=\"ln\">12-38</td></tr>"
+unfolding amount_cell amount_text attribute_text digits encode_with end_tag escaped explained lines_cell number_cell outcome_cell outcome_text payment_end payment_row payment_text receipt_cell start_tag time_cell trace_cell
 a_row = refl

@@ -13,6 +13,8 @@ use Rattle.zvt_trace.specs.declared.fault.TraceFault.{TraceFault}
 use Rattle.zvt_trace.specs.declared.fault.TraceFault.TheVariants.{Memory, Read, TooLong, Trace, Write}
 use Rattle.zvt_trace.specs.declared.listener.ListenerError.TheVariants as failure
 use Rattle.zvt_trace.specs.declared.listener.Scope.{Scope}
+use Rattle.zvt_trace.specs.declared.moments.Moments.{Moments}
+use Rattle.zvt_trace.specs.Moments.{times_of}
 use Rattle.zvt_audit.specs.ByControl.{FailsBy, HearsBy, passed_after, seen}
 use Rattle.zvt_audit.specs.Currencies.{agreed, currencies_of, named_after, named_by, one_currency}
 use Rattle.zvt_audit.specs.declared.by_control.ByControl.{ByControl}
@@ -25,9 +27,11 @@ use Rattle.zvt_report.specs.Reported.{beginning_in, beginnings, reported, with_e
 use Rattle.zvt_report.specs.Said.{AreSaidBy}
 use Rattle.zvt_report.specs.Settling.{settled}
 use Rattle.zvt_report.specs.Statements.{States, stated, statements_of}
+use Rattle.zvt_report.specs.Times.{timed_day, times_by, times_in}
 use Rattle.zvt_report.specs.declared.report.Report.{Report}
 use Rattle.zvt_report.specs.declared.reporter.Reporter.{Reporter}
 use Rattle.zvt_report.specs.declared.rows.OrderMessage.{OrderMessage}
+use Rattle.zvt_report.specs.declared.zones.Zone.{Zone}
 
 -- ---- one event
 
@@ -78,33 +82,35 @@ IsConnected reporter =
 abbrev pub StartsIn : Scope → ByControl Reporter → Type 0
 StartsIn scope by = IsConnected by.listener × (by.scope ≡ scope) × (by.passed ≡ 0)
 
--- what a reporter finds at the end of its trace
-pub record Finds (reporter : Reporter) (counted : Tally) (skipped : ℕ) (report : Report) : Type 0 where
+-- what a reporter finds at the end of a trace with these moments
+pub record Finds (reporter : Reporter) (counted : Tally) (skipped : ℕ) (zone : Zone) (moments : Moments) (report : Report) : Type 0 where
   pub tally : report.tally ≡ counted
   pub passed : report.passed ≡ skipped
   pub currency : report.currency ≡ agreed reporter.named
-  pub books : (notes : List Noted) → HasJudged notes reporter.day → report.books ≡ settled (stated reporter.hearing []) (day_of notes)
+  pub books : (notes : List Noted) → HasJudged notes reporter.day → report.books ≡ timed_day zone moments.times.items (settled (stated reporter.hearing []) (day_of notes))
+  pub times : report.times ≡ times_in zone moments.times.items moments.bad.items
   pub statements : report.statements.items ≡ stated reporter.hearing []
   pub closings : report.closings.items ≡ closings report.books.book report.statements.items report.messages.items report.books.orders
   pub messages : report.messages.items ≡ reporter.messages.items
 
 -- ---- the answer
 
--- the report of what a till and its terminal did
-pub record IsReportOf (events : List At) (report : Report) : Type 0 where
+-- the report of what a till and its terminal did, with the times of the trace's lines on the clock of a zone
+pub record IsReportOf (zone : Zone) (trace : List (List ℕ)) (events : List At) (report : Report) : Type 0 where
   pub currency : report.currency ≡ one_currency (currencies_of events)
-  pub books : report.books ≡ settled (statements_of events) (day_of (reported events))
+  pub books : report.books ≡ timed_day zone (times_of trace) (settled (statements_of events) (day_of (reported events)))
+  pub times : report.times ≡ times_by zone trace
   pub statements : report.statements.items ≡ statements_of events
   pub closings : report.closings.items ≡ closings report.books.book report.statements.items report.messages.items report.books.orders
   pub messages : AreSaidBy (beginnings events) report.messages.items
 
 -- What a report answers for a trace, by that reading of lengths, and with what a refusal leaves unread.
-abbrev pub AnswersReport : Reading → Scope → (trace : List ℕ) → Result Report TraceFault → Type 0
-AnswersReport r scope trace (Ok report) =
-    (events : List At) × WholeTrace r scope (lines trace) events × Tallies report.tally events × IsReportOf (seen scope events) report
+abbrev pub AnswersReport : Zone → Reading → Scope → (trace : List ℕ) → Result Report TraceFault → Type 0
+AnswersReport zone r scope trace (Ok report) =
+    (events : List At) × WholeTrace r scope (lines trace) events × Tallies report.tally events × IsReportOf zone (lines trace) (seen scope events) report
     × (report.passed ≡ passed_after scope 0 events)
-AnswersReport r scope trace (Err (Trace number what)) = (events : List At) × BrokenTrace r scope (lines trace) number what events
-AnswersReport r scope trace (Err Memory) = Unit {0}
-AnswersReport r scope trace (Err Write) = ⊥
-AnswersReport r scope trace (Err TooLong) = ⊥
-AnswersReport r scope trace (Err Read) = ⊥
+AnswersReport zone r scope trace (Err (Trace number what)) = (events : List At) × BrokenTrace r scope (lines trace) number what events
+AnswersReport zone r scope trace (Err Memory) = Unit {0}
+AnswersReport zone r scope trace (Err Write) = ⊥
+AnswersReport zone r scope trace (Err TooLong) = ⊥
+AnswersReport zone r scope trace (Err Read) = ⊥

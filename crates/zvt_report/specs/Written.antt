@@ -17,14 +17,22 @@ use Rattle.zvt_report.specs.declared.form.ReportForm.{ReportForm}
 use Rattle.zvt_report.specs.declared.form.ReportForm.TheVariants.{Text, Json, Page}
 use Rattle.zvt_report.specs.declared.report.Report.{Report}
 use Rattle.zvt_report.specs.declared.written.ReportSummary.{ReportSummary}
+use Rattle.zvt_report.specs.declared.zones.Zone.{Zone}
+use Rattle.zvt_report.specs.Zones.{utc}
 
 -- ---- the text
 
+-- objects have their times in UTC
+abbrev pub zone_for : ReportForm → Zone → Zone
+zone_for Text zone = zone
+zone_for Json zone = utc
+zone_for Page zone = zone
+
 -- the text, the objects or the page of a report with these looks; only the page has the name of the file
 abbrev pub report_in : ReportForm → (name : List ℕ) → Report → List Look → List ℕ
-report_in Text name report found = report_text report.tally report.currency report.books report.messages.items report.closings.items found
-report_in Json name report found = report_json report.tally report.currency report.books report.messages.items report.closings.items found
-report_in Page name report found = report_page name report.tally report.currency report.books report.messages.items report.closings.items found
+report_in Text name report found = report_text report.tally report.currency report.times report.books report.messages.items report.closings.items found
+report_in Json name report found = report_json report.tally report.currency report.times report.books report.messages.items report.closings.items found
+report_in Page name report found = report_page name report.tally report.currency report.times report.books report.messages.items report.closings.items found
 
 -- with the looks that its orders need
 abbrev pub written : ReportForm → (name : List ℕ) → Report → List ℕ
@@ -48,19 +56,19 @@ AnswersFound form name report old new (Err Read) = ⊥
 
 -- What a report answers that is written in this form, by that reading of lengths, and with what a refusal leaves unread. If it
 -- fails, nothing is written, but of a write that failed a prefix of the text.
-abbrev pub AnswersWritten : Reading → Scope → ReportForm → (name : List ℕ) → (trace : List ℕ) → (old new : Option (List ℕ)) → Result ReportSummary TraceFault → Type 0
-AnswersWritten r scope form name trace old new (Ok summary) = (report : Report) × AnswersReport r scope trace (Ok report) × Appends old new (written form name report) × (summary ≡ summed_up report)
-AnswersWritten r scope form name trace old new (Err (Trace number what)) = AnswersReport r scope trace (Err (Trace number what)) × Keeps old new
-AnswersWritten r scope form name trace old new (Err Memory) = Keeps old new
-AnswersWritten r scope form name trace old new (Err Write) = (report : Report) × AnswersReport r scope trace (Ok report) × AppendsPrefix old new (written form name report)
-AnswersWritten r scope form name trace old new (Err TooLong) = ⊥
-AnswersWritten r scope form name trace old new (Err Read) = ⊥
+abbrev pub AnswersWritten : Reading → Scope → ReportForm → Zone → (name : List ℕ) → (trace : List ℕ) → (old new : Option (List ℕ)) → Result ReportSummary TraceFault → Type 0
+AnswersWritten r scope form zone name trace old new (Ok summary) = (report : Report) × AnswersReport (zone_for form zone) r scope trace (Ok report) × Appends old new (written form name report) × (summary ≡ summed_up report)
+AnswersWritten r scope form zone name trace old new (Err (Trace number what)) = AnswersReport (zone_for form zone) r scope trace (Err (Trace number what)) × Keeps old new
+AnswersWritten r scope form zone name trace old new (Err Memory) = Keeps old new
+AnswersWritten r scope form zone name trace old new (Err Write) = (report : Report) × AnswersReport (zone_for form zone) r scope trace (Ok report) × AppendsPrefix old new (written form name report)
+AnswersWritten r scope form zone name trace old new (Err TooLong) = ⊥
+AnswersWritten r scope form zone name trace old new (Err Read) = ⊥
 
 -- The same for a trace that is read first, and may be too long.
-abbrev pub AnswersReadWritten : Reading → Scope → ReportForm → (name : List ℕ) → (trace : List ℕ) → (old new : Option (List ℕ)) → Result ReportSummary TraceFault → Type 0
-AnswersReadWritten r scope form name trace old new (Ok summary) = (length trace ≤ limit) × AnswersWritten r scope form name trace old new (Ok summary)
-AnswersReadWritten r scope form name trace old new (Err (Trace number what)) = (length trace ≤ limit) × AnswersWritten r scope form name trace old new (Err (Trace number what))
-AnswersReadWritten r scope form name trace old new (Err Write) = (length trace ≤ limit) × AnswersWritten r scope form name trace old new (Err Write)
-AnswersReadWritten r scope form name trace old new (Err TooLong) = (limit < length trace) × Keeps old new
-AnswersReadWritten r scope form name trace old new (Err Read) = Keeps old new
-AnswersReadWritten r scope form name trace old new (Err Memory) = Keeps old new
+abbrev pub AnswersReadWritten : Reading → Scope → ReportForm → Zone → (name : List ℕ) → (trace : List ℕ) → (old new : Option (List ℕ)) → Result ReportSummary TraceFault → Type 0
+AnswersReadWritten r scope form zone name trace old new (Ok summary) = (length trace ≤ limit) × AnswersWritten r scope form zone name trace old new (Ok summary)
+AnswersReadWritten r scope form zone name trace old new (Err (Trace number what)) = (length trace ≤ limit) × AnswersWritten r scope form zone name trace old new (Err (Trace number what))
+AnswersReadWritten r scope form zone name trace old new (Err Write) = (length trace ≤ limit) × AnswersWritten r scope form zone name trace old new (Err Write)
+AnswersReadWritten r scope form zone name trace old new (Err TooLong) = (limit < length trace) × Keeps old new
+AnswersReadWritten r scope form zone name trace old new (Err Read) = Keeps old new
+AnswersReadWritten r scope form zone name trace old new (Err Memory) = Keeps old new

@@ -13,6 +13,7 @@ use crate::members::{Member, Name, Object, Value, write_object};
 use crate::parts::{cause_of, code, count, ending, lines, maybe_cause, said_as, words};
 use crate::places::Place;
 use crate::rows::OrderRow;
+use crate::time_members::maybe_time;
 use std::alloc::AllocError;
 use zvt_text::Text;
 
@@ -131,6 +132,7 @@ pub(crate) fn close(
         ending(row),
         receipts_member(closing),
         stated_member(closing),
+        maybe_time(&row.time),
         words(&row.outcome),
     ];
     write_object(text, Object::Close, &members)

@@ -183,7 +183,7 @@ fn closing_text(
     ensures { OnOk result (text.new ≡ text.old ++ closing_text decimals all.now row.now closing.now) }
 {
     text.word(b"\nEnd of day")?;
-    lines_part(text, row.first, row.last)?;
+    lines_part(text, row)?;
     terminal_line(text, decimals, &closing.totals, closing.stated)?;
     book_line(text, decimals, closing.booked, closing.taken_back)?;
     differs_line(text, decimals, closing.booked, closing.covered)?;

@@ -9,6 +9,7 @@ use crate::columns::right;
 use crate::currencies::Decimals;
 use crate::rows::OrderRow;
 use crate::sentences::{account, advice, title};
+use crate::times::time_first;
 use crate::wrapping::wrapped;
 use std::alloc::AllocError;
 use zvt_text::Text;
@@ -42,15 +43,17 @@ fn weight(text: &mut Text, weight: Weight) -> Result<(), AllocError>
     }
 }
 
-/// Writes the lines of an order, and the end of the line.
+/// Writes the time and the lines of an order, and the end of the line.
 #[tactic(auto, unfolding(crate::specs::LookList::lines_part))]
-pub(crate) fn lines_part(text: &mut Text, first: u64, last: u64) -> Result<(), AllocError>
-    ensures { OnOk result (text.new ≡ text.old ++ lines_part first last) }
+pub(crate) fn lines_part(text: &mut Text, row: &OrderRow) -> Result<(), AllocError>
+    ensures { OnOk result (text.new ≡ text.old ++ lines_part row.now) }
 {
-    text.word(b" (lines ")?;
-    text.number(first)?;
+    text.word(b" (")?;
+    time_first(text, &row.time)?;
+    text.word(b"lines ")?;
+    text.number(row.first)?;
     text.push(b'-')?;
-    text.number(last)?;
+    text.number(row.last)?;
     text.word(b")\n")
 }
 
@@ -72,7 +75,7 @@ fn look_head(
     text.word(b". ")?;
     weight(text, case.weight())?;
     title(text, decimals, entry, row, again, case)?;
-    lines_part(text, row.first, row.last)
+    lines_part(text, row)
 }
 
 /// Writes what happened to an order.

@@ -4,6 +4,7 @@ ghost use Rattle.serde_json.specs.Data.{string};
 ghost use Rattle.serde_json.specs.Written.{comma_if, compact_text, members_text};
 ghost use Rattle.zvt_json.specs.Strings.{hex_value};
 ghost use Rattle.zvt_text.specs.MessageTexts.{four_digits};
+ghost use Rattle.zvt_trace.specs.Marks.{moment_text};
 ghost use Rattle.zvt_report.specs.Members.{difference_value, lines_value, member_text, name_text, object_text};
 ghost use Rattle.zvt_report.specs.Members.{order_value, orders_value, receipts_value, said, value_data, word_text};
 ghost use Rattle.zvt_report.specs.declared.explaining.Explained.TheVariants as explained;
@@ -15,6 +16,7 @@ use std::alloc::AllocError;
 use zvt_bcd::Currency;
 use zvt_text::{Text, command_name, meaning};
 use zvt_till::Cause;
+use zvt_trace::Moment;
 
 /// The object of a line.
 #[derive(Clone, Copy, Debug, PartialEq, Eq)]
@@ -81,6 +83,11 @@ pub(crate) enum Name {
     ReversedBy,
     Stated,
     TakenBack,
+    Time,
+    TimeFrom,
+    TimeTo,
+    TimesBack,
+    TimesBad,
     Total,
     Trace,
     Unclear,
@@ -128,6 +135,11 @@ impl Name {
             Name::ReversedBy => "reversed_by",
             Name::Stated => "stated",
             Name::TakenBack => "taken_back",
+            Name::Time => "time",
+            Name::TimeFrom => "time_from",
+            Name::TimeTo => "time_to",
+            Name::TimesBack => "times_back",
+            Name::TimesBad => "times_bad",
             Name::Total => "total",
             Name::Trace => "trace",
             Name::Unclear => "unclear",
@@ -189,6 +201,7 @@ pub(crate) enum Value {
     /// The numbers of these orders.
     Orders(Explained),
     Currency(Currency),
+    Moment(Moment),
     Word(Word),
 }
 
@@ -272,6 +285,7 @@ fn write_value(text: &mut Text, value: &Value) -> Result<(), AllocError>
         Value::Receipts(first, last) => write_receipts(text, first.as_slice(), last.as_slice()),
         Value::Orders(orders) => write_orders(text, orders),
         Value::Currency(currency) => write_currency(text, *currency),
+        Value::Moment(moment) => write_moment(text, moment),
         Value::Word(word) => write_word(text, *word),
     }
 }
@@ -377,6 +391,15 @@ fn write_currency(text: &mut Text, currency: Currency) -> Result<(), AllocError>
 {
     text.push(b'"')?;
     zvt_text::currency_digits(text, currency)?;
+    text.push(b'"')
+}
+
+/// Writes a moment between quotation marks.
+fn write_moment(text: &mut Text, moment: &Moment) -> Result<(), AllocError>
+    ensures { OnOk result (text.new ≡ text.old ++ compact_text (string (moment_text moment.now))) }
+{
+    text.push(b'"')?;
+    text.word(moment.text().as_slice())?;
     text.push(b'"')
 }
 

@@ -19,6 +19,8 @@ use crate::parts::{cause_of, count, lines, maybe_cause, maybe_count, maybe_curre
 use crate::places::{Counts, Place, payments_in};
 use crate::rows::{OrderMessage, OrderRow};
 use crate::sums::{booked_total, net_total, reversed_count, unclear_reversals, unclear_total};
+use crate::time_members::{back_member, bad_member, from_member, maybe_time, to_member};
+use crate::times::Times;
 use std::alloc::AllocError;
 use zvt_bcd::Currency;
 use zvt_text::Text;
@@ -31,15 +33,16 @@ pub(crate) fn write(
     text: &mut Text,
     tally: Tally,
     currency: Option<Currency>,
+    times: &Times,
     books: &DayBooks,
     messages: &[OrderMessage],
     closings: &[Option<Closing>],
     looks: &[Look],
 ) -> Result<(), AllocError>
     ensures { OnOk result (text.new ≡ text.old
-        ++ report_json tally currency books.now messages.now closings.now looks.now) }
+        ++ report_json tally currency times.now books.now messages.now closings.now looks.now) }
 {
-    summary(text, tally, currency, books, messages, looks)?;
+    summary(text, tally, currency, times, books, messages, looks)?;
     look_rows(text, books.orders.as_slice(), looks)?;
     order_rows(text, books, messages, closings)
 }
@@ -49,11 +52,13 @@ fn summary(
     text: &mut Text,
     tally: Tally,
     currency: Option<Currency>,
+    times: &Times,
     books: &DayBooks,
     messages: &[OrderMessage],
     looks: &[Look],
 ) -> Result<(), AllocError>
-    ensures { OnOk result (text.new ≡ text.old ++ summary_line tally currency books.now messages.now looks.now) }
+    ensures { OnOk result (text.new ≡ text.old
+        ++ summary_line tally currency times.now books.now messages.now looks.now) }
 {
     let book = books.book.as_slice();
     let unclear = books.unclear.as_slice();
@@ -70,6 +75,10 @@ fn summary(
         ),
         count(Name::ReversalsUnclear, unclear_reversals(book) as u64),
         count(Name::Reversed, reversed_count(book) as u64),
+        from_member(&times.span),
+        to_member(&times.span),
+        back_member(times.went_back),
+        bad_member(times.bad, times.first_bad),
         said_as(Name::Total, Value::Count(booked_total(book))),
         count(Name::Unclear, unclear.len() as u64),
         said_as(Name::UnclearAmount, Value::Count(unclear_total(unclear))),
@@ -156,6 +165,7 @@ fn write_look(
         lines(row),
         count(Name::Order, look.order as u64 + 1),
         maybe_count(Name::Payment, payment_at(look.order, rows, &row.order)),
+        maybe_time(&row.time),
         said_as(Name::Weight, Value::Word(Word::Weight(look.case.weight()))),
     ];
     write_object(text, Object::Look, &members)

@@ -14,6 +14,7 @@ use crate::parts::{
 };
 use crate::places::Place;
 use crate::rows::{OrderMessage, OrderRow};
+use crate::time_members::maybe_time;
 use std::alloc::AllocError;
 use zvt_bcd::Amount;
 use zvt_text::Text;
@@ -47,6 +48,7 @@ pub(crate) fn payment(
             reversed_at(entry, books.orders.as_slice()),
         ),
         true_if(Name::TakenBack, taken_back_at(book, entry)),
+        maybe_time(&row.time),
         maybe_trace(trace_by(&row.outcome, &row.approval)),
         words(&row.outcome),
     ];
@@ -77,6 +79,7 @@ pub(crate) fn reversal(
             payment_for(place.entry, books.orders.as_slice()),
         ),
         maybe_receipt(message.receipt),
+        maybe_time(&row.time),
         words(&row.outcome),
     ];
     write_object(text, Object::Reversal, &members)
@@ -102,6 +105,7 @@ pub(crate) fn other(
         command(message),
         count(Name::Order, place.order as u64),
         ending(row),
+        maybe_time(&row.time),
         words(&row.outcome),
     ];
     write_object(text, Object::Other, &members)
@@ -125,6 +129,7 @@ pub(crate) fn plain(
         command(message),
         count(Name::Order, place.order as u64),
         ending(row),
+        maybe_time(&row.time),
         words(&row.outcome),
     ];
     write_object(text, Object::Order, &members)

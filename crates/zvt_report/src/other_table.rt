@@ -14,6 +14,7 @@ use crate::parts::{amount_at, approved_of};
 use crate::payment_table::{fraction_blanks, lines_column, outcome_text, receipt_column};
 use crate::places::{Counts, Place};
 use crate::rows::{OrderMessage, OrderRow};
+use crate::times::time_column;
 use std::alloc::AllocError;
 use zvt_bcd::Amount;
 use zvt_text::{Text, command_name};
@@ -66,7 +67,7 @@ pub(crate) fn money_name(text: &mut Text, high: u8, low: u8) -> Result<(), Alloc
     named(text, command_name(high, low))
 }
 
-/// Writes the amount, the receipt number and the lines of an order.
+/// Writes the time, the amount, the receipt number and the lines of an order.
 #[tactic(auto, unfolding(crate::specs::OtherTable::order_columns))]
 fn order_columns(
     text: &mut Text,
@@ -77,6 +78,7 @@ fn order_columns(
 ) -> Result<(), AllocError>
     ensures { OnOk result (text.new ≡ text.old ++ order_columns decimals amount.now receipt.now row.now) }
 {
+    time_column(text, &row.time)?;
     amount_or_blank(text, decimals, amount)?;
     text.word(b"  ")?;
     receipt_column(text, receipt)?;
@@ -182,7 +184,7 @@ fn others_from(
 fn others_heading(text: &mut Text, decimals: Decimals) -> Result<(), AllocError>
     ensures { OnOk result (text.new ≡ text.old ++ others_heading decimals) }
 {
-    text.word(b"\nReversals and other orders that move money\n      Amount")?;
+    text.word(b"\nReversals and other orders that move money\n  Time          Amount")?;
     fraction_blanks(text, decimals)?;
     text.word(b"  Receipt    Lines          Order\n")
 }

@@ -1,8 +1,8 @@
 //! Writes the report of a trace as a page.
 ghost use Rattle.std.specs.Prelude.{◌≡◌, ◌++◌, OnOk};
 ghost use Rattle.zvt_page.specs.Html.{render};
-ghost use Rattle.zvt_report.specs.Page.{amounts_in, heading, page_foot, page_head, page_of, report_page, sections};
-ghost use Rattle.zvt_report.specs.Page.{skip_link, unit_words};
+ghost use Rattle.zvt_report.specs.Page.{amounts_in, heading, hours_part, page_foot, page_head, page_of, report_page};
+ghost use Rattle.zvt_report.specs.Page.{sections, skip_link, unit_words};
 
 use crate::books::DayBooks;
 use crate::cases::Look;
@@ -16,6 +16,7 @@ use crate::page_tables::payments_section;
 use crate::rows::OrderMessage;
 use crate::summary::unit;
 use crate::text::footer;
+use crate::times::{Times, clock_notes, span_words};
 use std::alloc::{AllocError, Global};
 use zvt_bcd::Currency;
 use zvt_page::{
@@ -54,18 +55,34 @@ fn amounts_in(text: &mut Text, money: &Option<Money>) -> Result<(), AllocError>
     unit(text, money)
 }
 
-/// Writes the name of the file, and in which currency the amounts are.
+/// Writes the day and the hours of a trace, if it has times.
+fn hours_part(page: &mut Text, note: &mut Text, times: &Times) -> Result<(), AllocError>
+    ensures { OnOk result (page.new ≡ page.old ++ render (hours_part times.now)) }
+{
+    match &times.span {
+        Some((from, to)) => {
+            note.clear();
+            span_words(note, times.zone, from, to)?;
+            leaf(page, Element::P, b"meta", note.bytes())
+        }
+        None => Ok(()),
+    }
+}
+
+/// Writes the name of the file, its day and hours, and in which currency the amounts are.
 #[tactic(auto, unfolding(crate::specs::Page::page_head))]
 fn page_head(
     page: &mut Text,
     note: &mut Text,
     name: &[u8],
     money: &Option<Money>,
+    times: &Times,
 ) -> Result<(), AllocError>
-    ensures { OnOk result (page.new ≡ page.old ++ render (page_head name.now money.now)) }
+    ensures { OnOk result (page.new ≡ page.old ++ render (page_head name.now money.now times.now)) }
 {
     start(page, Element::Header)?;
     leaf(page, Element::H1, b"", heading(name))?;
+    hours_part(page, note, times)?;
     note.clear();
     amounts_in(note, money)?;
     leaf(page, Element::P, b"meta", note.bytes())?;
@@ -74,12 +91,18 @@ fn page_head(
 
 /// Writes how much of the trace was read.
 #[tactic(auto, unfolding(crate::specs::Page::page_foot))]
-fn page_foot(page: &mut Text, note: &mut Text, tally: Tally) -> Result<(), AllocError>
-    ensures { OnOk result (page.new ≡ page.old ++ render (page_foot tally)) }
+fn page_foot(
+    page: &mut Text,
+    note: &mut Text,
+    tally: Tally,
+    times: &Times,
+) -> Result<(), AllocError>
+    ensures { OnOk result (page.new ≡ page.old ++ render (page_foot tally times.now)) }
 {
     start(page, Element::Footer)?;
     note.clear();
     footer(note, tally)?;
+    clock_notes(note, times)?;
     leaf(page, Element::P, b"", note.bytes())?;
     end(page, Element::Footer)
 }
@@ -102,22 +125,23 @@ fn sections(
     name: &[u8],
     money: &Option<Money>,
     tally: Tally,
+    times: &Times,
     books: &DayBooks,
     messages: &[OrderMessage],
     closings: &[Option<Closing>],
     looks: &[Look],
 ) -> Result<(), AllocError>
     ensures { OnOk result (page.new ≡ page.old
-        ++ render (sections name.now money.now tally books.now messages.now closings.now looks.now)) }
+        ++ render (sections name.now money.now tally times.now books.now messages.now closings.now looks.now)) }
 {
     let decimals = decimals_of(money);
-    page_head(page, note, name, money)?;
+    page_head(page, note, name, money, times)?;
     cards(page, note, decimals, books, messages)?;
     looks_section(page, note, decimals, books, looks)?;
     payments_section(page, note, decimals, books)?;
     others_section(page, note, decimals, books, messages)?;
     closings_section(page, note, decimals, closings, books.orders.as_slice())?;
-    page_foot(page, note, tally)
+    page_foot(page, note, tally, times)
 }
 
 /// Writes the body of a page. The texts are put together in `note`, whose own text is lost.
@@ -128,18 +152,19 @@ fn page_of(
     name: &[u8],
     money: &Option<Money>,
     tally: Tally,
+    times: &Times,
     books: &DayBooks,
     messages: &[OrderMessage],
     closings: &[Option<Closing>],
     looks: &[Look],
 ) -> Result<(), AllocError>
     ensures { OnOk result (page.new ≡ page.old
-        ++ render (page_of name.now money.now tally books.now messages.now closings.now looks.now)) }
+        ++ render (page_of name.now money.now tally times.now books.now messages.now closings.now looks.now)) }
 {
     skip_link(page)?;
     start_with(page, Element::Main, Attribute::Class, b"page")?;
     sections(
-        page, note, name, money, tally, books, messages, closings, looks,
+        page, note, name, money, tally, times, books, messages, closings, looks,
     )?;
     end(page, Element::Main)
 }
@@ -151,19 +176,20 @@ pub(crate) fn write(
     name: &[u8],
     tally: Tally,
     currency: Option<Currency>,
+    times: &Times,
     books: &DayBooks,
     messages: &[OrderMessage],
     closings: &[Option<Closing>],
     looks: &[Look],
 ) -> Result<(), AllocError>
     ensures { OnOk result (page.new ≡ page.old
-        ++ report_page name.now tally currency books.now messages.now closings.now looks.now) }
+        ++ report_page name.now tally currency times.now books.now messages.now closings.now looks.now) }
 {
     let mut note = Text::new(alloc);
     let money = money_of(currency);
     document_start(page, heading(name))?;
     page_of(
-        page, &mut note, name, &money, tally, books, messages, closings, looks,
+        page, &mut note, name, &money, tally, times, books, messages, closings, looks,
     )?;
     document_end(page)
 }

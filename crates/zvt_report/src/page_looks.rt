@@ -12,6 +12,7 @@ use crate::look_list::{entry_of, is_listed, row_at};
 use crate::page_parts::from_to;
 use crate::rows::OrderRow;
 use crate::sentences::{account, advice, title};
+use crate::times::time_first;
 use std::alloc::AllocError;
 use zvt_page::{Attribute, Element, end, escaped, leaf, start_with};
 use zvt_text::Text;
@@ -55,14 +56,15 @@ fn title_part(
     leaf(page, Element::H3, b"", note.bytes())
 }
 
-/// Writes the lines of an order.
+/// Writes the time and the lines of an order.
 #[tactic(auto, unfolding(crate::specs::PageLooks::lines_part))]
-fn lines_part(page: &mut Text, note: &mut Text, first: u64, last: u64) -> Result<(), AllocError>
-    ensures { OnOk result (page.new ≡ page.old ++ render (lines_part first last)) }
+fn lines_part(page: &mut Text, note: &mut Text, row: &OrderRow) -> Result<(), AllocError>
+    ensures { OnOk result (page.new ≡ page.old ++ render (lines_part row.now)) }
 {
     note.clear();
+    time_first(note, &row.time)?;
     note.word(b"lines ")?;
-    from_to(note, first, last)?;
+    from_to(note, row.first, row.last)?;
     leaf(page, Element::Span, b"at", note.bytes())
 }
 
@@ -119,7 +121,7 @@ fn item(
     start_with(page, Element::Li, Attribute::Class, weight_class(weight))?;
     leaf(page, Element::Span, b"sev", weight_word(weight))?;
     title_part(page, note, decimals, entry, row, again, case)?;
-    lines_part(page, note, row.first, row.last)?;
+    lines_part(page, note, row)?;
     account_part(page, note, decimals, entry, row, again, case)?;
     advice_part(page, note, decimals, entry, row, again, case)?;
     end(page, Element::Li)

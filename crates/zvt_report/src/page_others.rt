@@ -1,7 +1,7 @@
 //! Writes the table of the reversals and the other orders that move money to a page.
 ghost use Rattle.std.specs.Prelude.{◌≡◌, ◌++◌, OnOk};
 ghost use Rattle.zvt_page.specs.Html.{class_of, end_tag, render, start_tag};
-ghost use Rattle.zvt_report.specs.PageParts.{amount_cell, lines_cell, receipt_cell};
+ghost use Rattle.zvt_report.specs.PageParts.{amount_cell, lines_cell, receipt_cell, time_cell};
 ghost use Rattle.zvt_report.specs.PageTables.{has_rows, headed_table, is_listed, money_row, other_columns, other_end};
 ghost use Rattle.zvt_report.specs.PageTables.{other_of, other_rows, others_section, others_table, reversal_row};
 ghost use Rattle.zvt_report.specs.Places.{no_counts};
@@ -13,12 +13,14 @@ use crate::kinds::{OrderKind, kind_of};
 use crate::objects::message_at;
 use crate::other_table::{money_name, reversal_name};
 use crate::page_parts::{
-    amount_cell, column, lines_cell, outcome_cell, receipt_cell, table_body, table_end, table_start,
+    amount_cell, column, lines_cell, outcome_cell, receipt_cell, table_body, table_end,
+    table_start, time_cell, time_heading,
 };
 use crate::parts::{amount_at, approved_of};
 use crate::payment_table::outcome_text;
 use crate::places::{Counts, Place};
 use crate::rows::{OrderMessage, OrderRow};
+use crate::times::have_times;
 use crate::tones::outcome_tone;
 use std::alloc::AllocError;
 use zvt_bcd::Amount;
@@ -28,9 +30,10 @@ use zvt_till::Entry;
 
 /// Writes the headings of the table.
 #[tactic(auto, unfolding(crate::specs::PageTables::other_columns))]
-fn other_columns(page: &mut Text) -> Result<(), AllocError>
-    ensures { OnOk result (page.new ≡ page.old ++ render other_columns) }
+fn other_columns(page: &mut Text, timed: bool) -> Result<(), AllocError>
+    ensures { OnOk result (page.new ≡ page.old ++ render (other_columns timed)) }
 {
+    time_heading(page, timed)?;
     column(page, b"n am", b"Amount")?;
     column(page, b"cd", b"Order")?;
     column(page, b"rc", b"Receipt")?;
@@ -48,18 +51,21 @@ fn other_end(page: &mut Text, note: &mut Text, row: &OrderRow) -> Result<(), All
     outcome_cell(page, outcome_tone(&row.outcome), note.bytes())
 }
 
-/// Writes the start of a row, and its amount.
+/// Writes the start of a row, its time and its amount.
 fn row_start(
     page: &mut Text,
     note: &mut Text,
+    timed: bool,
     decimals: Decimals,
     amount: &Option<Amount>,
     row: &OrderRow,
 ) -> Result<(), AllocError>
     ensures { OnOk result (page.new ≡ page.old ++ (start_tag Element.Tr
-        (class_of (row_class (outcome_tone row.now.outcome))) ++ render (amount_cell decimals amount.now))) }
+        (class_of (row_class (outcome_tone row.now.outcome))) ++ (render (time_cell timed row.now.time)
+        ++ render (amount_cell decimals amount.now)))) }
 {
     start_in(page, Element::Tr, outcome_tone(&row.outcome).row_class())?;
+    time_cell(page, note, timed, &row.time)?;
     amount_cell(page, note, decimals, amount)
 }
 
@@ -84,6 +90,7 @@ fn row_end(
 fn reversal_row(
     page: &mut Text,
     note: &mut Text,
+    timed: bool,
     decimals: Decimals,
     book: &[Entry],
     place: &Place,
@@ -91,10 +98,10 @@ fn reversal_row(
     message: &OrderMessage,
 ) -> Result<(), AllocError>
     ensures { OnOk result (page.new ≡ page.old
-        ++ render (reversal_row decimals book.now place.now row.now message.now)) }
+        ++ render (reversal_row timed decimals book.now place.now row.now message.now)) }
 {
     let amount = &amount_at(book, place.entry).or(message.amount);
-    row_start(page, note, decimals, amount, row)?;
+    row_start(page, note, timed, decimals, amount, row)?;
     note.clear();
     reversal_name(note, &row.order)?;
     leaf(page, Element::Td, b"cd", note.bytes())?;
@@ -107,14 +114,15 @@ fn reversal_row(
 fn money_row(
     page: &mut Text,
     note: &mut Text,
+    timed: bool,
     decimals: Decimals,
     row: &OrderRow,
     message: &OrderMessage,
 ) -> Result<(), AllocError>
-    ensures { OnOk result (page.new ≡ page.old ++ render (money_row decimals row.now message.now)) }
+    ensures { OnOk result (page.new ≡ page.old ++ render (money_row timed decimals row.now message.now)) }
 {
     let amount = &message.amount.or(approved_of(row));
-    row_start(page, note, decimals, amount, row)?;
+    row_start(page, note, timed, decimals, amount, row)?;
     note.clear();
     money_name(note, message.high, message.low)?;
     leaf(page, Element::Td, b"cd", note.bytes())?;
@@ -126,6 +134,7 @@ fn money_row(
 fn other_of(
     page: &mut Text,
     note: &mut Text,
+    timed: bool,
     kind: OrderKind,
     decimals: Decimals,
     book: &[Entry],
@@ -134,11 +143,11 @@ fn other_of(
     message: &OrderMessage,
 ) -> Result<(), AllocError>
     ensures { OnOk result (page.new ≡ page.old
-        ++ render (other_of kind decimals book.now place.now row.now message.now)) }
+        ++ render (other_of timed kind decimals book.now place.now row.now message.now)) }
 {
     match kind {
-        OrderKind::Reversal => reversal_row(page, note, decimals, book, place, row, message),
-        OrderKind::OtherMoney => money_row(page, note, decimals, row, message),
+        OrderKind::Reversal => reversal_row(page, note, timed, decimals, book, place, row, message),
+        OrderKind::OtherMoney => money_row(page, note, timed, decimals, row, message),
         OrderKind::Payment | OrderKind::Close | OrderKind::Plain => Ok(()),
     }
 }
@@ -147,13 +156,14 @@ fn other_of(
 fn other_rows(
     page: &mut Text,
     note: &mut Text,
+    timed: bool,
     decimals: Decimals,
     book: &[Entry],
     messages: &[OrderMessage],
     rows: &[OrderRow],
 ) -> Result<(), AllocError>
     ensures { OnOk result (page.new ≡ page.old
-        ++ render (other_rows decimals book.now messages.now no_counts rows.now)) }
+        ++ render (other_rows timed decimals book.now messages.now no_counts rows.now)) }
 {
     let mut counts = Counts::none();
     let mut rest = rows;
@@ -161,7 +171,9 @@ fn other_rows(
         let message = message_at(messages, counts.orders);
         let kind = kind_of(&row.order, message.high, message.low);
         let place = counts.place(row);
-        other_of(page, note, kind, decimals, book, &place, row, &message)?;
+        other_of(
+            page, note, timed, kind, decimals, book, &place, row, &message,
+        )?;
         counts = counts.after(row);
         rest = later;
     }
@@ -207,10 +219,11 @@ fn others_table(
     ensures { OnOk result (page.new ≡ page.old
         ++ render (others_table decimals book.now messages.now rows.now)) }
 {
+    let timed = have_times(rows);
     table_start(page)?;
-    other_columns(page)?;
+    other_columns(page, timed)?;
     table_body(page)?;
-    other_rows(page, note, decimals, book, messages, rows)?;
+    other_rows(page, note, timed, decimals, book, messages, rows)?;
     table_end(page)
 }
 

@@ -1,7 +1,8 @@
 //! Writes the cells of the tables of a page.
 ghost use Rattle.std.specs.Prelude.{◌≡◌, ◌++◌, [], ◌∷◌, codes, OnOk};
 ghost use Rattle.zvt_page.specs.Html.{end_tag, render, start_tag};
-ghost use Rattle.zvt_report.specs.PageParts.{amount_cell, amount_or_nothing, column, from_to, lines_cell};
+ghost use Rattle.zvt_report.specs.PageParts.{amount_cell, amount_or_nothing, clock_or_nothing, column, from_to};
+ghost use Rattle.zvt_report.specs.PageParts.{lines_cell, time_cell, time_heading};
 ghost use Rattle.zvt_report.specs.PageParts.{outcome_cell, receipt_cell, receipt_digits, trace_cell, trace_digits};
 
 use crate::amounts::amount;
@@ -12,6 +13,7 @@ use std::alloc::AllocError;
 use zvt_bcd::{Amount, Trace};
 use zvt_page::{Attribute, Element, end, escaped, leaf, start, start_both, start_with};
 use zvt_text::{Text, hexadecimal};
+use zvt_trace::Moment;
 
 /// Writes the heading of a column.
 #[tactic(auto, unfolding(crate::specs::PageParts::column))]
@@ -21,6 +23,46 @@ pub(crate) fn column(page: &mut Text, class: &[u8], title: &[u8]) -> Result<(), 
     start_both(page, Element::Th, class, Attribute::Scope, b"col")?;
     escaped(page, title)?;
     end(page, Element::Th)
+}
+
+/// Writes the heading of the column of times, if the table has one.
+#[tactic(auto, unfolding(crate::specs::PageParts::time_heading))]
+pub(crate) fn time_heading(page: &mut Text, timed: bool) -> Result<(), AllocError>
+    ensures { OnOk result (page.new ≡ page.old ++ render (time_heading timed)) }
+{
+    if timed {
+        column(page, b"tm", b"Time")
+    } else {
+        Ok(())
+    }
+}
+
+/// Writes the time of day, if it is known.
+fn clock_or_nothing(text: &mut Text, time: &Option<Moment>) -> Result<(), AllocError>
+    ensures { OnOk result (text.new ≡ text.old ++ clock_or_nothing time.now) }
+{
+    match time {
+        Some(time) => text.word(&time.clock()),
+        None => Ok(()),
+    }
+}
+
+/// Writes the cell of the time of an order, if the table has a column for it.
+#[tactic(auto, unfolding(crate::specs::PageParts::time_cell))]
+pub(crate) fn time_cell(
+    page: &mut Text,
+    note: &mut Text,
+    timed: bool,
+    time: &Option<Moment>,
+) -> Result<(), AllocError>
+    ensures { OnOk result (page.new ≡ page.old ++ render (time_cell timed time.now)) }
+{
+    if !timed {
+        return Ok(());
+    }
+    note.clear();
+    clock_or_nothing(note, time)?;
+    leaf(page, Element::Td, b"tm", note.bytes())
 }
 
 /// Writes an amount, if there is one.

@@ -9,12 +9,13 @@ use crate::books::DayBooks;
 use crate::currencies::Decimals;
 use crate::page_parts::{
     amount_cell, column, lines_cell, outcome_cell, receipt_cell, table_body, table_end,
-    table_start, trace_cell,
+    table_start, time_cell, time_heading, trace_cell,
 };
 use crate::parts::{receipt_by, trace_by};
 use crate::payment_table::{entry_at, payment_text};
 use crate::places::{Counts, Place, payments_in};
 use crate::rows::OrderRow;
+use crate::times::have_times;
 use crate::tones::payment_tone;
 use std::alloc::AllocError;
 use zvt_bcd::Amount;
@@ -24,10 +25,11 @@ use zvt_till::{Entry, Sent};
 
 /// Writes the headings of the table of the payments.
 #[tactic(auto, unfolding(crate::specs::PageTables::payment_columns))]
-fn payment_columns(page: &mut Text) -> Result<(), AllocError>
-    ensures { OnOk result (page.new ≡ page.old ++ render payment_columns) }
+fn payment_columns(page: &mut Text, timed: bool) -> Result<(), AllocError>
+    ensures { OnOk result (page.new ≡ page.old ++ render (payment_columns timed)) }
 {
     column(page, b"i n", b"#")?;
+    time_heading(page, timed)?;
     column(page, b"n am", b"Amount")?;
     column(page, b"ids", b"Trace")?;
     column(page, b"rc", b"Receipt")?;
@@ -65,13 +67,14 @@ fn payment_end(
 fn payment_row(
     page: &mut Text,
     note: &mut Text,
+    timed: bool,
     decimals: Decimals,
     number: usize,
     entry: &Option<Entry>,
     row: &OrderRow,
     amount: Amount,
 ) -> Result<(), AllocError>
-    ensures { OnOk result (page.new ≡ page.old ++ render (payment_row decimals number entry.now row.now amount)) }
+    ensures { OnOk result (page.new ≡ page.old ++ render (payment_row timed decimals number entry.now row.now amount)) }
 {
     start_in(
         page,
@@ -79,6 +82,7 @@ fn payment_row(
         payment_tone(entry, &row.outcome).row_class(),
     )?;
     number_cell(page, note, number)?;
+    time_cell(page, note, timed, &row.time)?;
     amount_cell(page, note, decimals, &Some(amount))?;
     trace_cell(page, note, &trace_by(&row.outcome, &row.approval))?;
     receipt_cell(page, note, &receipt_by(&row.outcome, &row.approval))?;
@@ -92,19 +96,20 @@ fn payment_row(
 fn payment_of(
     page: &mut Text,
     note: &mut Text,
+    timed: bool,
     decimals: Decimals,
     book: &[Entry],
     place: &Place,
     row: &OrderRow,
 ) -> Result<(), AllocError>
     ensures { OnOk result (page.new ≡ page.old
-        ++ render (payment_of decimals book.now place.now row.now row.now.order)) }
+        ++ render (payment_of timed decimals book.now place.now row.now row.now.order)) }
 {
     match &row.order {
         Sent::Pay(amount) => {
             let entry = entry_at(book, place.entry);
             let number = place.payment.unwrap_or(0);
-            payment_row(page, note, decimals, number, &entry, row, *amount)
+            payment_row(page, note, timed, decimals, number, &entry, row, *amount)
         }
         _ => Ok(()),
     }
@@ -114,16 +119,18 @@ fn payment_of(
 fn payment_rows(
     page: &mut Text,
     note: &mut Text,
+    timed: bool,
     decimals: Decimals,
     book: &[Entry],
     rows: &[OrderRow],
 ) -> Result<(), AllocError>
-    ensures { OnOk result (page.new ≡ page.old ++ render (payment_rows decimals book.now no_counts rows.now)) }
+    ensures { OnOk result (page.new ≡ page.old
+        ++ render (payment_rows timed decimals book.now no_counts rows.now)) }
 {
     let mut counts = Counts::none();
     let mut rest = rows;
     'rows: while let [row, later @ ..] = rest {
-        payment_of(page, note, decimals, book, &counts.place(row), row)?;
+        payment_of(page, note, timed, decimals, book, &counts.place(row), row)?;
         counts = counts.after(row);
         rest = later;
     }
@@ -140,10 +147,11 @@ fn payments_table(
 ) -> Result<(), AllocError>
     ensures { OnOk result (page.new ≡ page.old ++ render (payments_table decimals book.now rows.now)) }
 {
+    let timed = have_times(rows);
     table_start(page)?;
-    payment_columns(page)?;
+    payment_columns(page, timed)?;
     table_body(page)?;
-    payment_rows(page, note, decimals, book, rows)?;
+    payment_rows(page, note, timed, decimals, book, rows)?;
     table_end(page)
 }
 

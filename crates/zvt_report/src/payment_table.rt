@@ -14,11 +14,13 @@ use crate::endings::ending_of;
 use crate::parts::{receipt_by, trace_by};
 use crate::places::{Counts, Place, payments_in};
 use crate::rows::OrderRow;
+use crate::times::time_column;
 use itoa::Buffer;
 use std::alloc::AllocError;
 use zvt_bcd::{Amount, Trace};
 use zvt_text::{Text, hexadecimal, result_words};
 use zvt_till::{Cause, Doubt, Entry, Outcome, Sent};
+use zvt_trace::Moment;
 
 /// Writes the blanks above the decimal point and the digits after it.
 #[tactic(auto, unfolding(crate::specs::PaymentTable::fraction_blanks))]
@@ -148,19 +150,22 @@ pub(crate) fn payment_text(
     }
 }
 
-/// Writes the number, the amount, the trace number and the receipt number of a payment.
+/// Writes the number, the time, the amount, the trace number and the receipt number of a payment.
 #[tactic(auto, unfolding(crate::specs::PaymentTable::payment_columns))]
 fn payment_columns(
     text: &mut Text,
     decimals: Decimals,
     number: usize,
+    time: &Option<Moment>,
     amount: Amount,
     trace: &Option<Trace>,
     receipt: &Option<[u8; 2]>,
 ) -> Result<(), AllocError>
-    ensures { OnOk result (text.new ≡ text.old ++ payment_columns decimals number amount trace.now receipt.now) }
+    ensures { OnOk result (text.new ≡ text.old
+        ++ payment_columns decimals number time.now amount trace.now receipt.now) }
 {
     right(text, 4, b"", number as u128)?;
+    time_column(text, time)?;
     amount_column(text, decimals, b"", u128::from(amount.get()))?;
     text.word(b"  ")?;
     trace_column(text, trace)?;
@@ -181,7 +186,7 @@ fn payment_row(
 {
     let trace = &trace_by(&row.outcome, &row.approval);
     let receipt = &receipt_by(&row.outcome, &row.approval);
-    payment_columns(text, decimals, number, amount, trace, receipt)?;
+    payment_columns(text, decimals, number, &row.time, amount, trace, receipt)?;
     lines_column(text, row.first, row.last)?;
     payment_text(text, entry, row)?;
     text.push(b'\n')
@@ -245,7 +250,7 @@ fn payments_from(
 fn payment_heading(text: &mut Text, decimals: Decimals) -> Result<(), AllocError>
     ensures { OnOk result (text.new ≡ text.old ++ payment_heading decimals) }
 {
-    text.word(b"Payments\n   #      Amount")?;
+    text.word(b"Payments\n   #  Time          Amount")?;
     fraction_blanks(text, decimals)?;
     text.word(b"  Trace   Receipt    Lines          Outcome\n")
 }

@@ -11,17 +11,21 @@ use crate::reporter::Reporter;
 use crate::rows::OrderMessage;
 use crate::settling::settle;
 use crate::statements::{Hearing, Statement};
+use crate::times::{Times, timed_day, times_in};
+use crate::zones::Zone;
 use std::alloc::{AllocError, Global};
 use zvt_audit::{ByControl, NamedCurrency};
 use zvt_bcd::Currency;
 use zvt_grammar::Lengths;
 use zvt_till::Happening;
-use zvt_trace::{Scope, Tally, TraceFault, walk};
+use zvt_trace::{Moments, Scope, Tally, TraceFault, moments_of, walk};
 
 /// The report of a trace.
 #[derive(Drop)]
 pub struct Report {
     pub tally: Tally,
+    /// What the time marks say about the trace.
+    pub times: Times,
     /// The currency of the till's registrations, if all that name one agree.
     pub currency: Option<Currency>,
     pub books: DayBooks,
@@ -36,23 +40,28 @@ pub struct Report {
 }
 
 /// Reports what became of each order in the trace of a till that starts connected. A reversal takes back the last
-/// payment with its receipt number. `lengths` selects the accepted forms of length.
+/// payment with its receipt number. `lengths` selects the accepted forms of length. Times are shown on the clock of
+/// `zone`.
 ///
 /// `scope` says how much is not read after a refused message. With `WholeLine`, neither side is read until the
 /// connection is lost, and the line was malformed. With `OneMessage`, its side is read on after the message, which is
 /// known by its control bytes alone. With `OneSide`, its side is not read until the connection is lost.
 pub fn report_trace(
     alloc: Global,
+    zone: Zone,
     scope: Scope,
     lengths: Lengths,
     trace: &[u8],
 ) -> Result<Report, TraceFault>
     requires { length trace.now ≤ limit }
-    ensures { AnswersReport (reading_of lengths) scope trace.now result }
+    ensures { AnswersReport zone (reading_of lengths) scope trace.now result }
 {
     let mut reporter = connected(alloc, scope)?;
     let tally = walk(&mut reporter, alloc, scope, lengths, trace)?;
-    let report = reporter.listener.finish(tally, reporter.passed)?;
+    let moments = moments_of(alloc, trace)?;
+    let report = reporter
+        .listener
+        .finish(tally, reporter.passed, zone, &moments)?;
     Ok(report)
 }
 
@@ -79,13 +88,21 @@ impl Reporter {
     ghost use Rattle.std.specs.Prelude.{IfOk};
     ghost use Rattle.zvt_report.specs.Reports.{Finds};
 
-    /// Ends the day, and returns the report with this tally and this number of messages that were passed over.
-    fn finish(self, tally: Tally, passed: u64) -> Result<Report, AllocError>
-        ensures { IfOk result (Finds self tally passed) }
+    /// Ends the day, and returns the report with this tally, this number of messages that were passed over, and the
+    /// times of these moments.
+    fn finish(
+        self,
+        tally: Tally,
+        passed: u64,
+        zone: Zone,
+        moments: &Moments,
+    ) -> Result<Report, AllocError>
+        ensures { IfOk result (Finds self tally passed zone moments.now) }
     {
         let currency = self.named.agreed();
         let statements = self.hearing.finish()?;
-        let books = settle(self.alloc, statements.as_slice(), self.day.finish()?)?;
+        let settled = settle(self.alloc, statements.as_slice(), self.day.finish()?)?;
+        let books = timed_day(self.alloc, zone, moments.times.as_slice(), settled)?;
         let closings = closings(
             self.alloc,
             books.book.as_slice(),
@@ -95,6 +112,7 @@ impl Reporter {
         )?;
         Ok(Report {
             tally,
+            times: times_in(zone, moments),
             currency,
             books,
             messages: self.messages,

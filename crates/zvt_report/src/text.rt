@@ -14,6 +14,7 @@ use crate::other_table::others_text;
 use crate::payment_table::payments_text;
 use crate::rows::OrderMessage;
 use crate::summary;
+use crate::times::{Times, clock_notes, span_part};
 use std::alloc::{AllocError, Global};
 use zvt_bcd::Currency;
 use zvt_text::Text;
@@ -92,39 +93,43 @@ fn report_in(
     note: &mut Text,
     money: &Option<Money>,
     tally: Tally,
+    times: &Times,
     books: &DayBooks,
     messages: &[OrderMessage],
     closings: &[Option<Closing>],
     looks: &[Look],
 ) -> Result<(), AllocError>
     ensures { OnOk result (text.new ≡ text.old
-        ++ report_in money.now tally books.now messages.now closings.now looks.now) }
+        ++ report_in money.now tally times.now books.now messages.now closings.now looks.now) }
 {
     let decimals = decimals_of(money);
+    span_part(text, times)?;
     summary_part(text, money, books)?;
     looks_part(text, note, decimals, books, looks)?;
     tables_part(text, note, decimals, books, messages, closings)?;
-    footer(text, tally)
+    footer(text, tally)?;
+    clock_notes(text, times)
 }
 
-/// Writes the report of a trace: what the day comes to, the orders that a person should look at, the tables of orders,
-/// the ends of day, and how much of the trace was read. Fails only if memory runs out.
+/// Writes the report of a trace: the day and its hours, what it comes to, the orders that a person should look at, the
+/// tables of orders, the ends of day, and how much of the trace was read. Fails only if memory runs out.
 pub(crate) fn write(
     alloc: Global,
     text: &mut Text,
     tally: Tally,
     currency: Option<Currency>,
+    times: &Times,
     books: &DayBooks,
     messages: &[OrderMessage],
     closings: &[Option<Closing>],
     looks: &[Look],
 ) -> Result<(), AllocError>
     ensures { OnOk result (text.new ≡ text.old
-        ++ report_text tally currency books.now messages.now closings.now looks.now) }
+        ++ report_text tally currency times.now books.now messages.now closings.now looks.now) }
 {
     let mut note = Text::new(alloc);
     let money = money_of(currency);
     report_in(
-        text, &mut note, &money, tally, books, messages, closings, looks,
+        text, &mut note, &money, tally, times, books, messages, closings, looks,
     )
 }

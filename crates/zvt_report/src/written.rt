@@ -4,12 +4,13 @@ ghost use Rattle.std.specs.Io.KnownBytes.{Consumes};
 ghost use Rattle.zvt_grammar.specs.Lengths.{reading_of};
 ghost use Rattle.zvt_trace.specs.Written.{limit};
 ghost use Rattle.zvt_report.specs.Written.{AnswersFound, AnswersReadWritten, AnswersWritten};
-ghost use Rattle.zvt_report.specs.Written.{report_in};
+ghost use Rattle.zvt_report.specs.Written.{report_in, zone_for};
 
 use crate::cases::{Look, looks};
 use crate::form::ReportForm;
 use crate::look_list::urgent_count;
 use crate::report::{Report, report_trace};
+use crate::zones::Zone;
 use crate::{objects, page, text};
 use std::alloc::{AllocError, Global};
 use zvt_grammar::Lengths;
@@ -27,14 +28,15 @@ pub struct ReportSummary {
     pub passed: u64,
 }
 
-/// Writes the report of the trace in this form. Only a page has the `name` of the file, which is empty if there is
-/// none. `lengths` selects the accepted forms of length, and `scope` says how much is not read after a refused message,
-/// as for [`report_trace`].
+/// Writes the report of the trace in this form. Text and pages show times on the clock of `zone`; objects have them in
+/// UTC. Only a page has the `name` of the file, which is empty if there is none. `lengths` selects the accepted forms of
+/// length, and `scope` says how much is not read after a refused message, as for [`report_trace`].
 ///
 /// Writes the text once, at the end. Writes nothing if a line can't be read or an allocation fails.
 pub fn write_report<W: Sink>(
     alloc: Global,
     form: ReportForm,
+    zone: Zone,
     name: &[u8],
     scope: Scope,
     lengths: Lengths,
@@ -42,11 +44,11 @@ pub fn write_report<W: Sink>(
     writer: &mut W,
 ) -> Result<ReportSummary, TraceFault>
     requires { length trace.now ≤ limit }
-    ensures writes { AnswersWritten (reading_of lengths) scope form name.now trace.now (W.written writer.old)
-        (W.written writer.new) result }
+    ensures writes { AnswersWritten (reading_of lengths) scope form zone name.now trace.now
+        (W.written writer.old) (W.written writer.new) result }
     ensures write { result ≡ Err TraceFault.Write → W.failures writer.old < W.failures writer.new }
 {
-    let report = report_trace(alloc, scope, lengths, trace)?;
+    let report = report_trace(alloc, zone_for(form, zone), scope, lengths, trace)?;
     write_found(alloc, form, name, &report, writer)
 }
 
@@ -54,6 +56,7 @@ pub fn write_report<W: Sink>(
 pub fn read_report<R: Source, W: Sink>(
     alloc: Global,
     form: ReportForm,
+    zone: Zone,
     name: &[u8],
     scope: Scope,
     lengths: Lengths,
@@ -63,12 +66,31 @@ pub fn read_report<R: Source, W: Sink>(
     ensures taken { (taken : List ℕ) × (length taken ≤ limit + 1) × Consumes (R.remaining reader.old)
         (R.remaining reader.new) taken }
     ensures writes { IfSome (R.remaining reader.old) (λ trace. AnswersReadWritten (reading_of lengths) scope form
-        name.now trace (W.written writer.old) (W.written writer.new) result) }
+        zone name.now trace (W.written writer.old) (W.written writer.new) result) }
     ensures read { result ≡ Err TraceFault.Read → R.failures reader.old < R.failures reader.new }
     ensures write { result ≡ Err TraceFault.Write → W.failures writer.old < W.failures writer.new }
 {
     let trace = read_trace(alloc, reader)?;
-    write_report(alloc, form, name, scope, lengths, trace.as_slice(), writer)
+    write_report(
+        alloc,
+        form,
+        zone,
+        name,
+        scope,
+        lengths,
+        trace.as_slice(),
+        writer,
+    )
+}
+
+/// Returns the zone in which a report of this form has its times.
+fn zone_for(form: ReportForm, zone: Zone) -> Zone
+    ensures { result ≡ zone_for form zone }
+{
+    match form {
+        ReportForm::Text | ReportForm::Page => zone,
+        ReportForm::Json => Zone::utc(),
+    }
 }
 
 /// Writes a report in this form, and returns its findings.
@@ -118,6 +140,7 @@ fn text_of(
             &mut text,
             report.tally,
             report.currency,
+            &report.times,
             books,
             messages,
             closings,
@@ -127,6 +150,7 @@ fn text_of(
             &mut text,
             report.tally,
             report.currency,
+            &report.times,
             books,
             messages,
             closings,
@@ -138,6 +162,7 @@ fn text_of(
             name,
             report.tally,
             report.currency,
+            &report.times,
             books,
             messages,
             closings,

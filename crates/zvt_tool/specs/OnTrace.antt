@@ -41,7 +41,7 @@ file_name (file ∷ files) = cond (bytes_eq file (codes "-")) [] file
 abbrev pub AnswersWork : TraceWork → (name : List ℕ) → Reading → Scope → (trace : List ℕ) → (old new : Option (List ℕ)) → Result AuditSummary TraceFault → Type 0
 AnswersWork (Render style) name r scope trace old new result = AnswersLinesBy r scope style (lines trace) old new (tally_of result)
 AnswersWork (Audit form) name r scope trace old new result = AnswersReadBy r scope form trace old new result
-AnswersWork (Report form strict) name r scope trace old new result = AnswersWritten r scope form name trace old new (report_of result)
+AnswersWork (Report form zone strict) name r scope trace old new result = AnswersWritten r scope form zone name trace old new (report_of result)
 AnswersWork (Vectors form) name r scope trace old new result = AnswersVectors form trace old new (tally_of result)
 
 -- the result of the command for a trace that was read
@@ -52,7 +52,7 @@ AnswersOnTrace command trace old new result = AnswersWork command.work (file_nam
 abbrev pub FollowsWork : TraceWork → (name : List ℕ) → Reading → Scope → (left rest old new : Option (List ℕ)) → Result AuditSummary TraceFault → Type 0
 FollowsWork (Render style) name r scope left rest old new result = (taken : List ℕ) × Consumes left rest taken × AnswersFollow r scope style taken rest old new (tally_of result)
 FollowsWork (Audit form) name r scope left rest old new result = (taken : List ℕ) × Consumes left rest taken × AnswersFollowed r scope form taken rest old new result
-FollowsWork (Report form strict) name r scope left rest old new result = IfSome left (λ text. AnswersReadWritten r scope form name text old new (report_of result))
+FollowsWork (Report form zone strict) name r scope left rest old new result = IfSome left (λ text. AnswersReadWritten r scope form zone name text old new (report_of result))
 FollowsWork (Vectors form) name r scope left rest old new result = IfSome left (λ text. AnswersVectors form text old new (tally_of result))
 
 -- the result of the command for a trace that is being read

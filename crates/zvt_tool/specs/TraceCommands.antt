@@ -1,5 +1,5 @@
 -- The commands on traces.
-use Rattle.std.specs.Prelude.{◌≡◌, ◌∷◌, [], ◌||◌, Bool, cond, not, true, false, List, Option, Some, None, codes, map}
+use Rattle.std.specs.Prelude.{◌≡◌, ◌∷◌, [], ◌||◌, Bool, cond, not, true, false, List, Option, Some, None, codes, map, unwrap_or}
 use Rattle.std.specs.Option.{option_and_then}
 use Rattle.std.specs.Str.{bytes_eq}
 use Rattle.clap.specs.Words.{App, Row, Rule, Text, first_of}
@@ -10,7 +10,9 @@ use Rattle.zvt_show.specs.declared.render.Style.{Style}
 use Rattle.zvt_show.specs.declared.render.Style.TheVariants.{Show, Join, Receipts, Json, JsonReceipts}
 use Rattle.zvt_text.specs.declared.codepages.Codepage.{Codepage}
 use Rattle.zvt_text.specs.declared.codepages.Codepage.TheVariants.{Cp437, Cp850, Latin1, Utf8}
+use Rattle.zvt_report.specs.Zones.{utc, zone_of}
 use Rattle.zvt_report.specs.declared.form.ReportForm.{ReportForm}
+use Rattle.zvt_report.specs.declared.zones.Zone.{Zone}
 use Rattle.zvt_report.specs.declared.form.ReportForm.TheVariants as report
 use Rattle.zvt_text.specs.declared.form.Form.TheVariants as form
 use Rattle.zvt_trace.specs.Resuming.{side_scope}
@@ -35,9 +37,9 @@ is_json (Render Json) = true
 is_json (Render (JsonReceipts text_blocks)) = true
 is_json (Audit form.Text) = false
 is_json (Audit form.Json) = true
-is_json (Report report.Text strict) = false
-is_json (Report report.Json strict) = true
-is_json (Report report.Page strict) = false
+is_json (Report report.Text zone strict) = false
+is_json (Report report.Json zone strict) = true
+is_json (Report report.Page zone strict) = false
 is_json (Vectors form.Text) = false
 is_json (Vectors form.Json) = true
 
@@ -45,7 +47,7 @@ is_json (Vectors form.Json) = true
 abbrev pub work_scope : TraceWork → (reads_on : Bool) → Scope
 work_scope (Render style) reads_on = side_scope reads_on
 work_scope (Audit written) reads_on = books_scope reads_on
-work_scope (Report written strict) reads_on = books_scope (reads_on || not strict)
+work_scope (Report written zone strict) reads_on = books_scope (reads_on || not strict)
 work_scope (Vectors written) reads_on = side_scope reads_on
 
 -- ---- the options
@@ -89,6 +91,7 @@ report_app = command_app (codes "report") (
     flag_rule (codes "check") ∷
     flag_rule (codes "json") ∷
     flag_rule (codes "html") ∷
+    option_rule (codes "zone") ∷
     flag_rule (codes "strict") ∷
     [])
 
@@ -118,6 +121,7 @@ pub record IsTraceCommandOf (rows : List Row) (writes : TraceWork) (reads : Leng
   pub reads_on : IsByFlag (codes "open") rows (λ by_name. IsByFlag (codes "resync") rows (λ by_other. command.reads_on ≡ (by_name || by_other)))
   pub html : IsFlagOf (codes "html") rows command.html
   pub codepage : IsTextOf (codes "codepage") rows command.codepage
+  pub zone : IsTextOf (codes "zone") rows command.zone
 
 -- the lengths and the form, by `--loose` and `--json`
 abbrev pub IsByForm : List Row → (Bool → TraceWork) → TraceCommand → Type 0
@@ -155,9 +159,14 @@ IsAudit rows = IsByForm rows (λ json. Audit (form_by json))
 abbrev pub report_form : (json html : Bool) → ReportForm
 report_form json html = cond json report.Json (cond html report.Page report.Text)
 
+-- UTC, unless a zone is named
+abbrev pub zone_by : Option Text → Zone
+zone_by given = unwrap_or (option_and_then zone_of given) utc
+
 abbrev pub IsReport : List Row → TraceCommand → Type 0
 IsReport rows command =
-    IsByFlag (codes "strict") rows (λ strict. IsByFlag (codes "html") rows (λ html. IsByForm rows (λ json. Report (report_form json html) strict) command))
+    IsByFlag (codes "strict") rows
+    (λ strict. IsByFlag (codes "html") rows (λ html. IsByForm rows (λ json. Report (report_form json html) (zone_by (first_of (codes "zone") rows)) strict) command))
 
 abbrev pub IsVectors : List Row → TraceCommand → Type 0
 IsVectors rows command = IsByFlag (codes "json") rows (λ json. IsTraceCommandOf rows (Vectors (form_by json)) Shortest command)

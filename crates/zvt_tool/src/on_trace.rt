@@ -36,11 +36,11 @@ pub fn work_on_trace<W: Sink>(
             )
         }
         TraceWork::Audit(form) => audit_trace(alloc, form, scope, lengths, trace, writer),
-        TraceWork::Report { form, .. } => {
+        TraceWork::Report { form, zone, .. } => {
             let name = file_name(command);
             reported(
                 alloc,
-                write_report(alloc, form, name, scope, lengths, trace, writer),
+                write_report(alloc, form, zone, name, scope, lengths, trace, writer),
             )
         }
         TraceWork::Vectors(form) => {
@@ -72,11 +72,11 @@ pub fn follow_work<R: Source, W: Sink>(
             )
         }
         TraceWork::Audit(form) => follow_audit(alloc, form, scope, lengths, reader, writer),
-        TraceWork::Report { form, .. } => {
+        TraceWork::Report { form, zone, .. } => {
             let name = file_name(command);
             reported(
                 alloc,
-                read_report(alloc, form, name, scope, lengths, reader, writer),
+                read_report(alloc, form, zone, name, scope, lengths, reader, writer),
             )
         }
         TraceWork::Vectors(form) => found(alloc, vectors(alloc, form, reader, writer)),

@@ -2,10 +2,11 @@
 ghost use Rattle.std.specs.Prelude.{◌≡◌, IfOk, [], option_map};
 ghost use Rattle.clap.specs.Words.{found_of, rows_of};
 ghost use Rattle.zvt_tool.specs.Options.{app_for, form_by, lengths_by};
+ghost use Rattle.zvt_report.specs.Zones.{zone_of};
 ghost use Rattle.zvt_tool.specs.TraceCommands.{IsAudit, IsReceipts, IsRendering, IsReport, IsShow, IsTraceCommandOf};
 ghost use Rattle.zvt_tool.specs.TraceCommands.{audit_app, codepage_by, codepage_named};
 ghost use Rattle.zvt_tool.specs.TraceCommands.{is_json, join_app, normalise_app, receipts_app, report_app, show_app};
-ghost use Rattle.zvt_tool.specs.TraceCommands.{IsVectors, report_form, style_by, vectors_app, work_scope};
+ghost use Rattle.zvt_tool.specs.TraceCommands.{IsVectors, report_form, style_by, vectors_app, work_scope, zone_by};
 ghost use Rattle.zvt_tool.specs.declared.trace_command.TraceWork.TheVariants.{Render};
 ghost use Rattle.zvt_show.specs.declared.render.Style.TheVariants.{Show};
 ghost use Rattle.zvt_text.specs.TextOptions.{plain_text};
@@ -17,7 +18,7 @@ use crate::options::{CommandOption, CommandRow, form_by, lengths_by};
 use clap::ArgMatches;
 use std::alloc::{AllocError, Global};
 use zvt_grammar::Lengths;
-use zvt_report::ReportForm;
+use zvt_report::{ReportForm, Zone};
 use zvt_show::{ReceiptOptions, Style};
 use zvt_text::{Codepage, Form, TextOptions};
 use zvt_trace::Scope;
@@ -32,6 +33,8 @@ pub enum TraceWork {
     /// The report on its orders and payments.
     Report {
         form: ReportForm,
+        /// The zone in which times are shown. JSON has them in UTC.
+        zone: Zone,
         /// Whether the line counts as malformed after a refused message, as it does for a till.
         strict: bool,
     },
@@ -58,6 +61,8 @@ pub struct TraceCommand<'a> {
     pub html: bool,
     /// The code page of receipts, as it was given. One that [`codepage_named`] does not know decodes nothing.
     pub codepage: Option<&'a str>,
+    /// The zone of a report's times, as it was given. One that [`zone_named`] can't read stands for UTC.
+    pub zone: Option<&'a str>,
 }
 
 impl<'a> TraceCommand<'a> {
@@ -74,6 +79,7 @@ impl<'a> TraceCommand<'a> {
             reads_on: false,
             html: false,
             codepage: None,
+            zone: None,
         }
     }
 
@@ -202,7 +208,7 @@ pub fn report_row() -> CommandRow<'static>
 end that its length announces, and counts it by its control bytes.
 
 Example:
-  zvt report --check till1.trace",
+  zvt report --zone +01:00 --check till1.trace",
         options: &[
             CommandOption::Several("file", "FILE", help::FILES),
             CommandOption::Flag("loose", help::LOOSE),
@@ -212,6 +218,11 @@ Example:
             ),
             CommandOption::Flag("json", help::JSON),
             CommandOption::Flag("html", "Write a page for a browser, about one FILE"),
+            CommandOption::Value(
+                "zone",
+                "+HH:MM",
+                "Show the times of the trace's time marks in this zone, e.g. +01:00 (default UTC)",
+            ),
             CommandOption::Flag(
                 "strict",
                 "After a refused message, read nothing until the connection is lost, as a till would",
@@ -314,11 +325,30 @@ pub fn read_report<'a>(
 ) -> Result<TraceCommand<'a>, AllocError>
     ensures { IfOk result (IsReport (rows_of (found_of inner.now))) }
 {
+    let zone = zone_by(text(inner, "zone"));
     let work = TraceWork::Report {
         form: report_form(flag(inner, "json"), flag(inner, "html")),
+        zone,
         strict: flag(inner, "strict"),
     };
     on_traces(alloc, inner, work, lengths_by(flag(inner, "loose")))
+}
+
+/// Returns the zone that an option names, or UTC if it names none.
+fn zone_by(given: Option<&str>) -> Zone
+    ensures { result ≡ zone_by (option_map (λ given. given.now) given.entry) }
+{
+    match given {
+        Some(text) => zone_named(text).unwrap_or(Zone::utc()),
+        None => Zone::utc(),
+    }
+}
+
+/// Returns the zone with these hours and minutes, as `+01:00`.
+pub fn zone_named(text: &str) -> Option<Zone>
+    ensures { result ≡ zone_of text.now }
+{
+    Zone::of(text.as_bytes())
 }
 
 /// Returns the form of a report. With both flags it is JSON.
@@ -426,5 +456,6 @@ fn on_traces<'a>(
         reads_on: open || resync,
         html: flag(inner, "html"),
         codepage: text(inner, "codepage"),
+        zone: text(inner, "zone"),
     })
 }

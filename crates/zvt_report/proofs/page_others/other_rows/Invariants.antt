@@ -6,7 +6,7 @@ use Rattle.zvt_report.proofs.page_others.other_rows.Given as goal
 
 abbrev pub invariant-rows : goal.invariant-rows
 invariant-rows l = record {
-  so_far : l.page ++ render (tables.other_rows l.decimals l.book l.messages l.counts l.rest) ≡ l.initial.page ++ render (tables.other_rows l.decimals l.book l.messages no_counts l.rows);
+  so_far : l.page ++ render (tables.other_rows l.timed l.decimals l.book l.messages l.counts l.rest) ≡ l.initial.page ++ render (tables.other_rows l.timed l.decimals l.book l.messages no_counts l.rows);
   left : l.counts.orders + length l.rest ≡ length l.rows;
   payments : l.counts.payments ≤ l.counts.orders;
   entries : l.counts.entries ≤ l.counts.orders;

@@ -5,7 +5,9 @@ use Rattle.zvt_report.proofs.report.report_trace.Goals as goal
 pub returns-in_err-tally : goal.returns-in_err-tally
 returns-in_err-tally c =
     let p = err_from_is_err_and c.from_residual-in_err-tally.result c.from_residual-in_err-tally.ensures.1 in
-    rw (p.1, p.2) (walk_failed _ c.args.scope c.args.trace.now c.in_err-tally.field-0.0 _ _ c.in_err-tally.ensures)
+    rw (p.1, p.2) (walk_failed c.args.zone _ c.args.scope c.args.trace.now c.in_err-tally.field-0.0 _ _ c.in_err-tally.ensures)
 
 pub returns : goal.returns
-returns c = reported_all _ c.args.scope c.args.trace.now c.in_ok-tally.tally c.in_ok-report.report _ _ c.in_ok-reporter.ensures c.in_ok-tally.ensures c.in_ok-report.ensures
+returns c =
+    reported_all c.args.zone c.in_ok-moments.moments _ c.args.scope c.args.trace.now c.in_ok-tally.tally c.in_ok-report.report _ _ c.in_ok-moments.ensures.times c.in_ok-moments.ensures.bad
+    c.in_ok-reporter.ensures c.in_ok-tally.ensures c.in_ok-report.ensures
