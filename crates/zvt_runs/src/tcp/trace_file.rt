@@ -23,8 +23,8 @@ pub(crate) fn marked_file<'a, C: Clock>(
     alloc: Global,
     trace: RunTrace<'a>,
 ) -> MarkedFile<'a, C>
-    ensures file { result.device.inner ≡ trace.file }
-    ensures marks { is_some result.source ≡ trace.marks_times }
+    ensures file { result.device.inner ≡ trace.entry.file }
+    ensures marks { is_some result.source ≡ trace.entry.marks_times }
 {
     let times = trace.marks_times.then_some(Clocked { clock });
     Marking::new(alloc, Over::new(trace.file), times)
