@@ -19,7 +19,7 @@ import sys
 import tempfile
 import threading
 
-from common import Checks, program
+from common import Checks, program, unmarked
 
 PROGRAM = program(sys.argv[1:])
 SECONDS = 60
@@ -347,13 +347,15 @@ class Trial:
         check("what is sent that a trace lacks", peer.heard, b"")
 
     def settings(self):
-        """The registration has the till's settings, and the trace has all that is sent and heard."""
-        trace = self.new_file()
-        with Answering([f"{ACK} {COMPLETION}"]) as peer:
-            ended = till(peer.port, "--password", "123456", "--config", "8a", "--currency", "0752", "--trace", trace, "register")
-        ends("a till with settings", ended, 0, "register -> registered", "total 0")
-        check("what it sends", peer.heard, bytes.fromhex("06 00 06 12 34 56 8A 07 52 80 00 00"))
-        check("its trace", trace.read_text(), lines("> 0600061234568A0752", "< 800000060F00", "> 800000", "!"))
+        """The registration has the till's settings, and the trace has all that is sent and heard, with time marks or without."""
+        rows = lines("> 0600061234568A0752", "< 800000060F00", "> 800000", "!").encode()
+        for words, plain in ([], unmarked), (["--no-times"], bytes):
+            trace = self.new_file()
+            with Answering([f"{ACK} {COMPLETION}"]) as peer:
+                ended = till(peer.port, "--password", "123456", "--config", "8a", "--currency", "0752", *words, "--trace", trace, "register")
+            ends(f"a till with settings {words}", ended, 0, "register -> registered", "total 0")
+            check(f"what it sends {words}", peer.heard, bytes.fromhex("06 00 06 12 34 56 8A 07 52 80 00 00"))
+            check(f"its trace {words}", plain(trace.read_bytes()), rows)
 
     def keeps(self):
         """What a till adds to a book, new or begun: all but the time of the registration and the check of its record."""

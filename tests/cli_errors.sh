@@ -234,18 +234,18 @@ check "a terminal's trace that is full" "$status" 4 "register -> unclear Line
 total 0" "zvt: cannot write the trace file, so the run stopped: check its permissions and the free space"
 
 # A trace goes behind what its file has, but for a book.
-"$zvt" loop --trace "$work/mine.trace" register > "$work/out" 2> "$work/err"
+"$zvt" loop --no-times --trace "$work/mine.trace" register > "$work/out" 2> "$work/err"
 check "a trace behind a comment" "$?" 0 "register -> registered
 total 0" "zvt: '$work/mine.trace': the trace goes behind what this file has"
 printf '# mine' > "$work/half.trace"
-"$zvt" loop --trace "$work/half.trace" register > "$work/out" 2> "$work/err"
+"$zvt" loop --no-times --trace "$work/half.trace" register > "$work/out" 2> "$work/err"
 for file in mine half; do
     head -n 3 "$work/$file.trace" > "$work/out"
     check "the first lines of $file.trace" 0 0 "# mine
 !
 > 060006000000BE0978" ""
 done
-"$zvt" loop --trace "$work/new.trace" register > "$work/out" 2> "$work/err"
+"$zvt" loop --no-times --trace "$work/new.trace" register > "$work/out" 2> "$work/err"
 check "a new trace" "$?" 0 "register -> registered
 total 0" ""
 [ ! -s "$work/err" ] && [ "$(head -n 1 "$work/new.trace")" = "> 060006000000BE0978" ] || echo "a new trace says nothing" >> "$work/failed"
@@ -258,7 +258,7 @@ check "a trace on a disk that fills" "$?" 4 "$(cat "$work/out")" "zvt: '$work/fi
 check "a trace on a disk that filled is read" "$?" 0 "$(cat "$work/out")" ""
 "$zvt" loop --trace "$work/torn.trace" register > /dev/null 2>&1
 head -c -1 "$work/torn.trace" > "$work/whole.trace"
-for torn in "> 0" "< 80000" "<"; do
+for torn in "> 0" "< 80000" "<" "#" "#@ 2026-11-2" "#@ 2026-11-28T09:14:03.250Z"; do
     { cat "$work/whole.trace"; printf '\n%s' "$torn"; } > "$work/torn.trace"
     "$zvt" loop --trace "$work/torn.trace" register > "$work/out" 2> "$work/err"
     check "a trace behind the unfinished '$torn'" "$?" 0 "register -> registered
@@ -266,8 +266,23 @@ total 0" "the last line was not finished, so its ${#torn} bytes were cut off"
     "$zvt" join "$work/torn.trace" > "$work/out" 2> "$work/err"
     check "a trace that had '$torn' is read" "$?" 0 "$(cat "$work/out")" ""
 done
+for rest in "# note" "#@ today" "#@ 2026-11-28T09:14:03.2500"; do
+    { cat "$work/whole.trace"; printf '\n%s' "$rest"; } > "$work/torn.trace"
+    "$zvt" loop --trace "$work/torn.trace" register > /dev/null 2> "$work/err"
+    grep -q "cut off" "$work/err" && echo "NOT AS EXPECTED: '$rest' was cut off" && echo "a comment" >> "$work/failed"
+    grep -qFx -e "$rest" "$work/torn.trace" || { echo "NOT AS EXPECTED: '$rest' is gone"; echo "a comment" >> "$work/failed"; }
+done
+# One write has a mark and its line, so a crash can leave a whole mark before a part of the line.
+printf '#@ 2026-11-28T09:14:03.250Z\n> 06' > "$work/torn.trace"
+"$zvt" loop --no-times --trace "$work/torn.trace" register > "$work/out" 2> "$work/err"
+check "a trace behind a mark and an unfinished line" "$?" 0 "register -> registered
+total 0" "the last line was not finished, so its 4 bytes were cut off"
+head -n 3 "$work/torn.trace" > "$work/out"
+check "what is left of them" 0 0 "#@ 2026-11-28T09:14:03.250Z
+!
+> 060006000000BE0978" ""
 printf '> 06' > "$work/torn.trace"
-"$zvt" loop --trace "$work/torn.trace" register > "$work/out" 2> "$work/err"
+"$zvt" loop --no-times --trace "$work/torn.trace" register > "$work/out" 2> "$work/err"
 cmp -s "$work/torn.trace" "$work/new.trace" || { echo "NOT AS EXPECTED: a trace of nothing but an unfinished line"; echo "a torn trace" >> "$work/failed"; }
 
 # A book and a trace in one file are refused before either is opened.
@@ -355,7 +370,7 @@ ran = subprocess.run(sys.argv[1:], preexec_fn=limit, capture_output=True)
 sys.stdout.buffer.write(ran.stdout)
 sys.stderr.buffer.write(ran.stderr)
 sys.exit(ran.returncode)
-' "$zvt" loop --book "$work/full.book" --trace "$work/full.trace" register pay:5 > "$work/out" 2> "$work/err"
+' "$zvt" loop --book "$work/full.book" --no-times --trace "$work/full.trace" register pay:5 > "$work/out" 2> "$work/err"
 check "a book that is full" "$?" 4 "register -> unclear Line
 total 0" "zvt: cannot write the book; the run was stopped and nothing more was sent"
 [ "$(cat "$work/full.trace")" = "!" ] || { echo "NOT AS EXPECTED: an order that was sent without its record"; echo "an order" >> "$work/failed"; }

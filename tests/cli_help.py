@@ -43,6 +43,9 @@ REFUSED = [
     ("loop --close-by-completion", "error: unexpected argument '--close-by-completion' found\n"),
     ("loop --reversal-by-receipt", "error: unexpected argument '--reversal-by-receipt' found\n"),
     ("till --port=1 --reversal-by-receipt --reversal-by-receipt", "error: the argument '--reversal-by-receipt' cannot be used multiple times\n"),
+    ("till --port=1 --no-times --no-times", "error: the argument '--no-times' cannot be used multiple times\n"),
+    ("loop --no-times=1", "error: unexpected value '1' for '--no-times' found; no more were expected\n"),
+    ("show --no-times", "error: unexpected argument '--no-times' found\n"),
     ("till --port=1 --close-by-completion --close-by-completion", "error: the argument '--close-by-completion' cannot be used multiple times\n"),
     ("terminal --port=1 --show", "error: unexpected argument '--show' found"),
     ("tap --listen 1", "error: the following required arguments were not provided:\n  --to <ADDRESS>\n"),
@@ -136,6 +139,8 @@ def main():
     has_words(["--help"], HELP)
     for command in COMMANDS:
         has_words([command, "--help"], [f"Usage: zvt {command}", f"Example:\n  zvt {command} "])
+    for command in ("loop", "till", "terminal", "tap"):
+        has_words([command, "--help"], ["--no-times", "Write no time marks into the trace"])
     if not checks.failed:
         print("ok: command lines, the words of steps and settings, and help")
     return checks.status

@@ -1,4 +1,4 @@
-"""What the test scripts share: where files are, the program, programs that listen, and the count of what differs."""
+"""What the test scripts share: where files are, the program, programs that listen, time marks, and the count of what differs."""
 import os
 import pathlib
 import re
@@ -7,11 +7,21 @@ import subprocess
 TOP = pathlib.Path(__file__).resolve().parent.parent
 EXAMPLES = TOP / "examples"
 MOST_SHOWN = 20
+MARKED = re.compile(rb"(#@ \d{4}-\d\d-\d\dT\d\d:\d\d:\d\d\.\d{3}Z\n)([^#\n][^\n]*\n)")
 
 
 def program(words):
     """The program that the first word names, or the one that `rt ci` built."""
     return os.path.abspath(words[0]) if words else str(TOP / "crates/zvt/out/zvt")
+
+
+def unmarked(trace):
+    """A trace without its time marks, or None where one of its lines has not one mark, or time goes back."""
+    rows = MARKED.findall(trace)
+    marks = [mark for mark, _ in rows]
+    if b"".join(mark + line for mark, line in rows) != trace or marks != sorted(marks):
+        return None
+    return b"".join(line for _, line in rows)
 
 
 class Checks:

@@ -19,7 +19,7 @@ import sys
 import tempfile
 import threading
 
-from common import Checks, Listener, program
+from common import Checks, Listener, program, unmarked
 
 PROGRAM = program(sys.argv[1:])
 SECONDS = 60
@@ -284,8 +284,8 @@ class Trial:
     def records(self):
         """The traces of both ends have the till's books."""
         traces = {"till": self.new_trace(), "terminal": self.new_trace()}
-        served = terminal("--trace", traces["terminal"])
-        words = ["--password", "123456", "--config", "8a", "--currency", "0752", "--trace", traces["till"]]
+        served = terminal("--no-times", "--trace", traces["terminal"])
+        words = ["--password", "123456", "--config", "8a", "--currency", "0752", "--no-times", "--trace", traces["till"]]
         paid = ["register -> registered", "pay:1000 -> paid trace 000001 receipt 0001", "total 1000"]
         ends("a till with other settings", till(served.port, *words, "register", "pay:1000"), 0, *paid)
         status, _, said = served.ended()
@@ -302,6 +302,27 @@ class Trial:
              "reverse:1 -> reversed", "close -> day closed", "total 0")
         ended = run("loop", "--trace", trace, "pay:0")
         check("a wrong step leaves the trace", (ended.status, trace.read_text().splitlines()[-1]), (2, "!"))
+
+    def marks(self):
+        """Each line of a trace has a time mark, and without them it is the trace of the same run with --no-times."""
+        steps = ["register", "pay:7", "reverse:1", "close"]
+        for name, record in (("loop", self.loop_trace), ("terminal", self.terminal_trace)):
+            plain = record(steps, "--no-times")
+            check(f"a {name} without time marks", (plain[-2:], b"#" in plain), (b"!\n", False))
+            check(f"a {name} with time marks", unmarked(record(steps)), plain)
+
+    def loop_trace(self, steps, *words):
+        trace = self.new_trace()
+        run("loop", *words, "--trace", trace, *steps)
+        return trace.read_bytes()
+
+    def terminal_trace(self, steps, *words):
+        trace = self.new_trace()
+        served = terminal("--connections", "2", *words, "--trace", trace)
+        for _connection in range(2):
+            till(served.port, *steps)
+        served.ended()
+        return trace.read_bytes()
 
     def one_after_another(self):
         """The ledger and its numbers go on, and each till registers. A connection that breaks ends no service but its own,
@@ -346,7 +367,7 @@ class Trial:
     def unclear_reversal(self):
         """A reversal that completes without a status is unclear."""
         trace, played = self.new_trace(), self.new_trace()
-        run("loop", "--trace", trace, "register", "pay:1000", "reverse:1")
+        run("loop", "--no-times", "--trace", trace, "register", "pay:1000", "reverse:1")
         rows = trace.read_text().splitlines()
         at = next(at for at, row in enumerate(rows) if row.startswith("> 0630"))
         played.write_text(lines(*rows[:at + 1], "< 800000060F00", rows[at + 2]))
@@ -379,7 +400,7 @@ def main():
         return 2
     with tempfile.TemporaryDirectory() as folder:
         trial = Trial(pathlib.Path(folder))
-        for part in (trial.both, trial.counts_anew, trial.shows, trial.records, trial.one_after_another, trial.broken, trial.broken_reversal, trial.doubts,
+        for part in (trial.both, trial.counts_anew, trial.shows, trial.records, trial.marks, trial.one_after_another, trial.broken, trial.broken_reversal, trial.doubts,
                      trial.other_forms, trial.broken_tills, trial.held, trial.checks_steps, trial.unclear_reversal, trial.statuses):
             part()
     print(f"{check.verdict}: a till and a terminal over TCP: {check.count} checks, {check.wrong} wrong")

@@ -11,6 +11,7 @@ nobody reads, and a system that refuses connections. In all cases the trace has 
 `zvt show` writes of the trace of each line, and then `zvt audit`. The status is 1 where anything is not as expected. It takes 20
 seconds.
 """
+import datetime
 import os
 import pathlib
 import random
@@ -24,7 +25,7 @@ import tempfile
 import threading
 import time
 
-from common import Checks, EXAMPLES, program
+from common import Checks, EXAMPLES, program, unmarked
 
 MANY = "--many" in sys.argv[1:2]
 WORDS = sys.argv[2 if MANY else 1:]
@@ -65,15 +66,15 @@ def bytes_of(trace, sign):
 
 
 class Tap:
-    """A tap that runs, with its trace and what it writes in files."""
+    """A tap that runs, with its trace and what it writes in files. The trace has no time marks, unless they are asked for."""
 
-    def __init__(self, to, *words, trace=True, listen="0", output=None):
+    def __init__(self, to, *words, trace=True, marks=False, listen="0", output=None):
         self.folder = tempfile.TemporaryDirectory()
         self.trace = os.path.join(self.folder.name, "line.trace") if trace is True else trace
         self.output = os.path.join(self.folder.name, "output")
         words = ["tap", "--listen", listen, "--to", to if isinstance(to, str) else f"127.0.0.1:{to}", *words]
         if self.trace:
-            words += ["--trace", self.trace]
+            words += ["--trace", self.trace, *([] if marks else ["--no-times"])]
         with open(self.output, "wb") as written:
             self.run = subprocess.Popen([PROGRAM, *words], stdin=subprocess.DEVNULL, stdout=output or written, stderr=subprocess.PIPE)
         self.said = self.run.stderr.readline().decode()
@@ -332,9 +333,9 @@ def unit():
             check("the unit: an order", terminal.recv(100), bytes.fromhex("06B000"))
         wanted, since = b"> 06B000\n!\n", time.monotonic()
         trace = pathlib.Path(state, "zvt-tap", "till3.trace")
-        while trace.read_bytes() != wanted and time.monotonic() - since < SECONDS:
+        while unmarked(trace.read_bytes()) != wanted and time.monotonic() - since < SECONDS:
             time.sleep(0.05)
-        check("the unit: the trace", trace.read_bytes(), wanted)
+        check("the unit: the trace", unmarked(trace.read_bytes()), wanted)
         running.kill()
         running.communicate()
     door.close()
@@ -582,6 +583,35 @@ def traces():
     door.close()
 
 
+def marked():
+    """Each line has a time mark, of the time that its chunk came, and without them the trace is that of a tap that writes none."""
+    door = listener()
+    port = door.getsockname()[1]
+    order, traces = bytes.fromhex("06B000"), []
+    for marks in True, False:
+        tap = Tap(port, "--connections", "2", marks=marks)
+        for _ in range(2):
+            till, terminal = pair(tap, door)
+            for sender, receiver in ((till, terminal), (terminal, till)) * 3:
+                begun = moment()
+                sender.sendall(order)
+                receiver.recv(100)
+                if marks:
+                    mark = pathlib.Path(tap.trace).read_bytes().splitlines()[-2]
+                    check("a mark has the time of its chunk", begun <= mark <= moment(), True)
+            till.close()
+            terminal.close()
+        traces.append(ended("time marks" if marks else "no time marks", tap, 0, ""))
+    check("a trace without its marks", unmarked(traces[0]), traces[1])
+    check("its lines", traces[1], (b"> 06B000\n< 06B000\n" * 3 + b"!\n") * 2)
+    door.close()
+
+
+def moment():
+    """The time mark of now, without its line feed."""
+    return datetime.datetime.now(datetime.timezone.utc).strftime("#@ %Y-%m-%dT%H:%M:%S.%f")[:-3].encode() + b"Z"
+
+
 def no_output():
     """Nobody reads what is shown."""
     door = listener()
@@ -694,7 +724,7 @@ def main():
     slow = [threading.Thread(target=to_its_end, args=(part,)) for part in (unread, reconnects, keeps_on)]
     for part in slow:
         part.start()
-    for part in (programs, at_once, side_by_side, unit, half_closed, resets, parts, padded, read_on, missing, traces, no_output, unread_output, no_reports, refused_connections, in_a_row, cut_lines):
+    for part in (programs, at_once, side_by_side, unit, half_closed, resets, parts, padded, read_on, missing, traces, marked, no_output, unread_output, no_reports, refused_connections, in_a_row, cut_lines):
         part()
     for part in slow:
         part.join()

@@ -1,5 +1,5 @@
 -- The settings of a till, and the verdict and the extras of a terminal, from the arguments.
-use Rattle.std.specs.Prelude.{◌≡◌, ◌⊎◌, ℕ, codes, cond, List, Option, Some, None, is_some, option_map}
+use Rattle.std.specs.Prelude.{◌≡◌, ◌⊎◌, ℕ, codes, cond, not, List, Option, Some, None, IfSome, is_some, option_map}
 use Rattle.std.specs.Borrow.{Bor}
 use Rattle.std.specs.Str.{bytes_eq}
 use Rattle.zvt_till.specs.Events.{run_settings}
@@ -76,6 +76,7 @@ pub record RunsAsAsked (options : TillOptions) (run : TillRun) : Type 0 where
   pub seconds : run.seconds ≡ options.timeout
   pub lengths : run.line.lengths ≡ lengths_by options.loose
   pub reads_on : run.line.passes ≡ options.reads_on
+  pub marks_times : IfSome run.trace (λ trace. trace.marks_times ≡ not options.no_times)
   pub show : is_some run.show ≡ options.show
   pub form : run.options.form ≡ form_by options.json
   pub check : run.options.check ≡ options.check

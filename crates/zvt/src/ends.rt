@@ -40,6 +40,7 @@ pub struct RunFiles {
 pub fn both_ends(
     rt: &HostRuntime,
     trace: Option<&str>,
+    no_times: bool,
     book: Option<&str>,
     options: StepOptions,
     steps: &[&str],
@@ -48,7 +49,7 @@ pub fn both_ends(
     let settings = TillSettings::default();
     let RunFiles { kept, trace: file } = run_files(rt, book, trace, &settings)?;
     let steps = TillSteps::Here(LoopRun {
-        trace: file.as_ref(),
+        trace: trace_file::run_trace(file.as_ref(), no_times),
         plan: plan.as_slice(),
         options,
     });
@@ -179,7 +180,7 @@ pub fn terminal(rt: &HostRuntime, options: &TerminalOptions<'_>) -> Result<u8, E
             passes: options.reads_on,
         },
         connections: connections_by(options.connections),
-        trace,
+        trace: trace_file::run_trace(trace, options.no_times),
         form: form_by(options.json),
     };
     let answer = if options.json {

@@ -117,6 +117,7 @@ fn execute(rt: &HostRuntime, chosen: &Choice<'_>) -> Result<u8, Exit>
         Choice::Book { files, json, .. } => Ok(book::show(rt, files.as_slice(), form_by(*json))?),
         Choice::Loop {
             trace,
+            no_times,
             book,
             check,
             json,
@@ -126,7 +127,7 @@ fn execute(rt: &HostRuntime, chosen: &Choice<'_>) -> Result<u8, Exit>
                 form: form_by(*json),
                 check: *check,
             };
-            ends::both_ends(rt, *trace, *book, options, steps.as_slice())
+            ends::both_ends(rt, *trace, *no_times, *book, options, steps.as_slice())
         }
         Choice::Till(options) => till::till(rt, options),
         Choice::Terminal(options) => ends::terminal(rt, options),

@@ -12,12 +12,13 @@ use std::io::{self, ErrorKind, Write};
 use std::net::TcpStream;
 use zvt_grammar::Lengths;
 use zvt_io::Over;
+use zvt_runs::Clocked;
 use zvt_runs::tcp::{SILENCE_SECONDS, connect, listen};
 use zvt_tap::{Found, SILENT_SECONDS, SocketTapped, TapFault, Tracing, new_log, tap_sockets};
 use zvt_tool::TapOptions;
 use zvt_tool::options::{connections_by, lengths_by};
 use zvt_tool::statuses::{BAD, DEVICE, DONE, MEMORY, WORDS};
-use zvt_trace::{Direction, Tally, TraceFault};
+use zvt_trace::{Direction, Marking, Tally, TraceFault};
 
 /// The file descriptor of standard output.
 const STANDARD_OUTPUT: i32 = 1;
@@ -58,10 +59,11 @@ impl<'a> Address<'a> {
     }
 }
 
-/// The file of a trace, and whether it failed and lines may go on without it.
+/// The file of a trace, whether its lines have time marks, and whether it failed and lines may go on without it.
 #[derive(Drop)]
 struct TraceFile<'a> {
     file: Option<&'a File>,
+    marks_times: bool,
     required: bool,
     failed: bool,
 }
@@ -84,6 +86,7 @@ pub fn tap(rt: &HostRuntime, options: &TapOptions<'_>) -> Result<u8, Exit> {
     let file = trace_file::opened(rt, options.trace)?;
     let mut trace = TraceFile {
         file: file.as_ref(),
+        marks_times: !options.no_times,
         required: options.trace_required,
         failed: false,
     };
@@ -189,11 +192,15 @@ fn tap_one<W: Write + Drop>(
     screen: &mut Screen<W>,
 ) -> u8 {
     let device = match trace.file {
-        Some(file) => Some(Over::new(Noted {
-            rt,
-            file,
-            required: trace.required,
-        })),
+        Some(file) => {
+            let file = Over::new(Noted {
+                rt,
+                file,
+                required: trace.required,
+            });
+            let times = trace.marks_times.then_some(Clocked { clock: rt });
+            Some(Marking::new(rt.alloc(), file, times))
+        }
         None => None,
     };
     let Ok(tracing) = Tracing::new(rt.alloc(), device, trace.failed, trace.required) else {
@@ -203,6 +210,9 @@ fn tap_one<W: Write + Drop>(
     trace.failed = failed;
     if failed { status.max(DEVICE) } else { status }
 }
+
+/// The device of a trace.
+type TraceDevice<'a> = Marking<Over<Noted<'a>>, Option<Clocked<'a, HostRuntime>>>;
 
 /// The file of a trace. A failed write is reported at once.
 #[derive(Drop)]
@@ -238,7 +248,7 @@ fn tap_into<W: Write + Drop>(
     rt: &HostRuntime,
     line: &Line<'_>,
     waiting: &mut Waiting<'_>,
-    tracing: Tracing<Over<Noted<'_>>>,
+    tracing: Tracing<TraceDevice<'_>>,
     screen: &mut Screen<W>,
 ) -> (u8, bool) {
     let failed = tracing.failed;
@@ -340,7 +350,7 @@ fn why(error: Option<ErrorKind>) -> &'static str {
 /// Reports how much of a line is bad, and what of its text could not be written. Answers the exit status of that.
 fn report_found<W: Write + Drop>(
     rt: &HostRuntime,
-    found: Found<Over<Noted<'_>>, Over<Output<W>>>,
+    found: Found<TraceDevice<'_>, Over<Output<W>>>,
 ) -> u8 {
     let Found {
         shown,

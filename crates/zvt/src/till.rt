@@ -6,7 +6,7 @@ use crate::ends::{RunFiles, TillSteps, planned, run_files, run_status};
 use crate::exit::Exit;
 use crate::reports::{SOME_SECONDS, TERMINAL_PORT, report, report_invalid};
 use crate::settings::settings;
-use crate::trace_file::mend_after;
+use crate::trace_file::{mend_after, run_trace};
 use std::fs::File;
 use std::io;
 use zvt_runs::tcp::TillRun;
@@ -54,7 +54,7 @@ fn till_run<'a, 'f>(
             lengths: lengths_by(options.loose),
             passes: options.reads_on,
         },
-        trace,
+        trace: run_trace(trace, options.no_times),
         show: if options.show {
             Some(rt.stderr())
         } else {

@@ -1,8 +1,11 @@
 //! The file for the trace of a run.
+ghost use Rattle.std.specs.Prelude.{◌≡◌, IfSome, is_some, not};
+
 use crate::exit::Exit;
 use crate::reports::{report_failed, report_on};
 use std::fs::{File, OpenOptions};
 use std::io::{self, Read, Seek, SeekFrom, Write};
+use zvt_runs::tcp::RunTrace;
 use zvt_tool::statuses::{DEVICE, TRACE};
 
 /// The beginning of a journal's first line.
@@ -11,6 +14,9 @@ const JOURNAL: [u8; 15] = *b"# zvt journal 1";
 /// Maximum number of bytes in the line of a recorded chunk, without its line feed: the side, a space, and 1,024 bytes
 /// as digits.
 const MOST_OF_A_LINE: usize = 2 + 2 * 1024;
+
+/// The form of a time mark that a run writes. A 0 stands for any digit.
+const MARK: &[u8] = b"#@ 0000-00-00T00:00:00.000Z";
 
 /// The report on a file that is a book.
 const A_BOOK: &str =
@@ -47,6 +53,20 @@ pub fn opened(rt: &HostRuntime, path: Option<&str>) -> Result<Option<File>, Exit
             report_failed(rt, path, "cannot create the trace file", &error)?;
             Err(Exit::Status(DEVICE))
         }
+    }
+}
+
+/// Returns the trace of a run, if it has a file.
+pub fn run_trace(file: Option<&File>, no_times: bool) -> Option<RunTrace<'_>>
+    ensures some { is_some result ≡ is_some file.entry }
+    ensures marks { IfSome result (λ trace. trace.marks_times ≡ not no_times) }
+{
+    match file {
+        Some(file) => Some(RunTrace {
+            file,
+            marks_times: !no_times,
+        }),
+        None => None,
     }
 }
 
@@ -130,8 +150,8 @@ fn open(rt: &HostRuntime, path: &str) -> io::Result<Option<Trace>> {
     }))
 }
 
-/// Removes a line without a line feed from the end of the file, if it is the beginning of a recorded chunk, and returns
-/// its size. Leaves any other last line.
+/// Removes a line without a line feed from the end of the file, if it is the beginning of a recorded chunk or of a time
+/// mark, and returns its size. Leaves any other last line.
 fn cut_torn(file: &File, before: &mut File, size: u64) -> io::Result<usize> {
     let mut buffer = [0; MOST_OF_A_LINE + 1];
     let taken = size.min(buffer.len() as u64);
@@ -145,7 +165,7 @@ fn cut_torn(file: &File, before: &mut File, size: u64) -> io::Result<usize> {
     Ok(cut)
 }
 
-/// Returns the bytes after the last line feed, if they are the beginning of a recorded chunk.
+/// Returns the bytes after the last line feed, if they are the beginning of a recorded chunk or of a time mark.
 fn torn(last: &[u8]) -> &[u8] {
     let tail = match last.iter().rposition(|byte| *byte == b'\n') {
         Some(at) => &last[at + 1..],
@@ -156,9 +176,27 @@ fn torn(last: &[u8]) -> &[u8] {
         [b'<' | b'>', b' ', digits @ ..] => {
             tail.len() <= MOST_OF_A_LINE && digits.iter().all(u8::is_ascii_hexdigit)
         }
-        _ => false,
+        _ => begins_mark(tail),
     };
     if is_torn { tail } else { &[] }
+}
+
+/// Returns whether this is a time mark, or the beginning of one.
+fn begins_mark(tail: &[u8]) -> bool {
+    if tail.len() > MARK.len() {
+        return false;
+    }
+    for (byte, place) in tail.iter().zip(MARK) {
+        let fits = if *place == b'0' {
+            byte.is_ascii_digit()
+        } else {
+            byte == place
+        };
+        if !fits {
+            return false;
+        }
+    }
+    true
 }
 
 /// Returns whether the file begins like a journal.

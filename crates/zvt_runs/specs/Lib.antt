@@ -21,6 +21,7 @@ pub mod Outliving
 pub mod Tills
 pub mod LedgerRows
 pub mod Traced
+pub mod TraceMarks
 pub mod OverTcp
 pub mod TcpReporting
 pub mod Showing

@@ -25,6 +25,7 @@ mod steps;
 pub mod tcp;
 mod till_end;
 mod till_runs;
+mod trace_marks;
 
 pub use arguments::{Ends, Step, result_code, step_of};
 pub use books::{write_book, write_records};

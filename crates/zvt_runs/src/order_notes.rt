@@ -32,8 +32,8 @@ impl<K> NoteSource<K> for NoNotes {
     fn note_next(&self, _till: &mut K, _word: &[u8]) {}
 }
 
-/// Notes with the time of this clock and the reference in the step's word. If the clock cannot be read, they have no
-/// time.
+/// Notes with the time of this clock and the reference in the step's word, and moments for the marks of a trace. If the
+/// clock cannot be read, there is no time.
 #[derive(Clone, Copy)]
 pub struct Clocked<'a, C> {
     pub clock: &'a C,

@@ -17,6 +17,6 @@ mod trace_file;
 
 pub use connection::{Door, PATIENCE_SECONDS, SILENCE_SECONDS, connect, listen};
 pub use laws::book_runs_outlive;
-pub use options::{LoopRun, TerminalRun, TillRun};
+pub use options::{LoopRun, RunTrace, TerminalRun, TillRun};
 pub use runs::{run_loop, run_till};
 pub use terminal::run_terminal;

@@ -9,6 +9,7 @@ book_app = command_app (codes "book") (book_files_rule ∷ flag_rule (codes "jso
 abbrev pub loop_app : App
 loop_app = command_app (codes "loop") (
     option_rule (codes "trace") ∷
+    flag_rule (codes "no-times") ∷
     option_rule (codes "book") ∷
     flag_rule (codes "check") ∷
     flag_rule (codes "json") ∷

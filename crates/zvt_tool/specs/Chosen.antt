@@ -39,8 +39,9 @@ IsCommandOf name rows (Book files json records) =
     (name ≡ codes "book") × (map (λ file. file.now) files.items ≡ words_of (codes "file") rows)
     × IsFlagOf (codes "json") rows json
     × IsFlagOf (codes "records") rows records
-IsCommandOf name rows (Loop trace book check json steps) =
+IsCommandOf name rows (Loop trace no_times book check json steps) =
     (name ≡ codes "loop") × IsTextOf (codes "trace") rows trace
+    × IsFlagOf (codes "no-times") rows no_times
     × IsTextOf (codes "book") rows book
     × IsFlagOf (codes "check") rows check
     × IsFlagOf (codes "json") rows json

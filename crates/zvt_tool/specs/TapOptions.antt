@@ -11,6 +11,7 @@ tap_app = command_app (codes "tap") (
     needed_rule (codes "listen") ∷
     needed_rule (codes "to") ∷
     option_rule (codes "trace") ∷
+    flag_rule (codes "no-times") ∷
     flag_rule (codes "trace-required") ∷
     number_rule (codes "connections") (codes "1") ∷
     flag_rule (codes "loose") ∷
@@ -22,6 +23,7 @@ pub record AreTapOptionsOf (rows : List Row) (options : TapOptions) : Type 0 whe
   pub listen : first_of (codes "listen") rows ≡ Some options.listen.now
   pub to : first_of (codes "to") rows ≡ Some options.to.now
   pub trace : IsTextOf (codes "trace") rows options.trace
+  pub no_times : IsFlagOf (codes "no-times") rows options.no_times
   pub trace_required : IsFlagOf (codes "trace-required") rows options.trace_required
   pub connections : GivesNumber (codes "connections") rows 65535 options.connections
   pub loose : IsFlagOf (codes "loose") rows options.loose

@@ -19,6 +19,7 @@ terminal_app = command_app (codes "terminal") (
     flag_rule (codes "intermediate") ∷
     number_rule (codes "delay") (codes "0") ∷
     option_rule (codes "trace") ∷
+    flag_rule (codes "no-times") ∷
     flag_rule (codes "loose") ∷
     flag_rule (codes "open") ∷
     flag_rule (codes "json") ∷
@@ -37,6 +38,7 @@ pub record AreTerminalOptionsOf (rows : List Row) (options : TerminalOptions) : 
   pub intermediate : IsFlagOf (codes "intermediate") rows options.intermediate
   pub delay : GivesNumber (codes "delay") rows 65535 options.delay
   pub trace : IsTextOf (codes "trace") rows options.trace
+  pub no_times : IsFlagOf (codes "no-times") rows options.no_times
   pub loose : IsFlagOf (codes "loose") rows options.loose
   pub reads_on : IsFlagOf (codes "open") rows options.reads_on
   pub json : IsFlagOf (codes "json") rows options.json

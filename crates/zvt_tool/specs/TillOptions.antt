@@ -15,6 +15,7 @@ till_app = command_app (codes "till") (
     option_rule (codes "currency") ∷
     number_rule (codes "timeout") (codes "180") ∷
     option_rule (codes "trace") ∷
+    flag_rule (codes "no-times") ∷
     option_rule (codes "book") ∷
     flag_rule (codes "check") ∷
     flag_rule (codes "show") ∷
@@ -35,6 +36,7 @@ pub record AreTillOptionsOf (rows : List Row) (options : TillOptions) : Type 0 w
   pub currency : IsTextOf (codes "currency") rows options.currency
   pub timeout : GivesNumber (codes "timeout") rows 65535 options.timeout
   pub trace : IsTextOf (codes "trace") rows options.trace
+  pub no_times : IsFlagOf (codes "no-times") rows options.no_times
   pub book : IsTextOf (codes "book") rows options.book
   pub check : IsFlagOf (codes "check") rows options.check
   pub show : IsFlagOf (codes "show") rows options.show

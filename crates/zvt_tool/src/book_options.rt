@@ -55,6 +55,7 @@ Example:
   zvt loop register pay:1234 close",
         options: &[
             CommandOption::Value("trace", "FILE", help::TRACE),
+            CommandOption::Flag("no-times", help::NO_TIMES),
             CommandOption::Value("book", "FILE", help::KEEP_BOOK),
             CommandOption::Flag("check", help::CHECK_STEPS),
             CommandOption::Flag("json", help::JSON),
@@ -84,6 +85,7 @@ pub fn read_loop<'a>(alloc: Global, inner: &ArgMatches<'a>) -> Result<Choice<'a>
 {
     Ok(Choice::Loop {
         trace: text(inner, "trace"),
+        no_times: flag(inner, "no-times"),
         book: text(inner, "book"),
         check: flag(inner, "check"),
         json: flag(inner, "json"),

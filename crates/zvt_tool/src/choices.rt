@@ -36,6 +36,8 @@ pub enum Choice<'a> {
     },
     Loop {
         trace: Option<&'a str>,
+        /// Whether the trace has no time marks.
+        no_times: bool,
         book: Option<&'a str>,
         /// Whether a step that does not succeed is a fault.
         check: bool,

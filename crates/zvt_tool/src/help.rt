@@ -48,6 +48,8 @@ Example:
 pub const TRACE: &str =
     "Append a trace of the connection to FILE: the raw bytes, including passwords and card data";
 
+pub const NO_TIMES: &str = "Write no time marks into the trace";
+
 pub const KEEP_BOOK: &str =
     "Keep the till's book in FILE, so that it survives the process and any crash. FILE is created if it does not \
         exist. Use a new file for each day: a book holds at most 10000 entries.";

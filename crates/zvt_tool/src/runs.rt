@@ -61,7 +61,7 @@ pub fn run_loop<R, W>(
     writer: &mut W,
 ) -> Result<(), ToolFault>
 where
-    R: Net<Listener = TcpListener, Stream = TcpStream>,
+    R: Net<Listener = TcpListener, Stream = TcpStream> + Clock,
     W: Sink,
     ensures run { MakesWords Both (map (λ word. word.now) steps.now) (W.written writer.old) (W.written writer.new)
         (λ plan answer. AnswersRun MakesHereAlone BeginsHere run_settings plain plan (W.written writer.old)
@@ -94,7 +94,7 @@ pub fn run_till<R, W>(
     loose: bool,
 ) -> Result<(), ToolFault>
 where
-    R: Net<Listener = TcpListener, Stream = TcpStream>,
+    R: Net<Listener = TcpListener, Stream = TcpStream> + Clock,
     W: Sink,
     ensures run { MakesWords Till (map (λ word. word.now) steps.now) (W.written writer.old) (W.written writer.new)
         (λ plan answer. AnswersRun MakesThereAlone (BeginsThere (strictly (reading_of (lengths_by loose))))
@@ -130,7 +130,7 @@ fn loop_alone<R, W>(
     writer: &mut W,
 ) -> Result<(), EndFault>
 where
-    R: Net<Listener = TcpListener, Stream = TcpStream>,
+    R: Net<Listener = TcpListener, Stream = TcpStream> + Clock,
     W: Sink,
     ensures run { AnswersRun MakesHereAlone BeginsHere run_settings run.now.options run.now.plan.now
         (W.written writer.old) (W.written writer.new)
@@ -149,7 +149,7 @@ fn till_alone<R, W>(
     writer: &mut W,
 ) -> Result<(), EndFault>
 where
-    R: Net<Listener = TcpListener, Stream = TcpStream>,
+    R: Net<Listener = TcpListener, Stream = TcpStream> + Clock,
     W: Sink,
     ensures run { AnswersRun MakesThereAlone (BeginsThere (reading_as run.now.line)) run_settings run.now.options
         run.now.plan.now (W.written writer.old) (W.written writer.new)

@@ -19,6 +19,8 @@ pub struct TapOptions<'a> {
     /// The address at which the terminal listens: `HOST:PORT`.
     pub to: &'a str,
     pub trace: Option<&'a str>,
+    /// Whether the trace has no time marks.
+    pub no_times: bool,
     /// Stop forwarding if the trace can't be written.
     pub trace_required: bool,
     /// The number of connections: 1 by default, and 0 for any number.
@@ -54,6 +56,7 @@ Example:
                 "Append a trace of the connection to FILE, each chunk before it is forwarded: the raw bytes, \
                     including passwords and card data",
             ),
+            CommandOption::Flag("no-times", help::NO_TIMES),
             CommandOption::Flag(
                 "trace-required",
                 "Exit with 4 if the trace cannot be written, and forward nothing more",
@@ -81,6 +84,7 @@ pub fn read_tap<'a>(inner: &ArgMatches<'a>) -> Option<Choice<'a>>
         listen,
         to,
         trace: text(inner, "trace"),
+        no_times: flag(inner, "no-times"),
         trace_required: flag(inner, "trace-required"),
         connections,
         loose: flag(inner, "loose"),

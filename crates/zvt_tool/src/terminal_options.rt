@@ -64,6 +64,8 @@ pub struct TerminalOptions<'a> {
     /// How long a payment is held before it is decided, in milliseconds, 0 by default.
     pub delay: u16,
     pub trace: Option<&'a str>,
+    /// Whether the trace has no time marks.
+    pub no_times: bool,
     /// Whether lengths are accepted in any form.
     pub loose: bool,
     /// Whether the terminal goes on after an invalid message.
@@ -93,6 +95,7 @@ pub fn terminal_row() -> CommandRow<'static>
             CommandOption::Flag("intermediate", INTERMEDIATE),
             CommandOption::Number("delay", "MS", "0", DELAY),
             CommandOption::Value("trace", "FILE", help::TRACE),
+            CommandOption::Flag("no-times", help::NO_TIMES),
             CommandOption::Flag("loose", LOOSE),
             CommandOption::Flag("open", help::OPEN_TERMINAL),
             CommandOption::Flag("json", JSON),
@@ -121,6 +124,7 @@ pub fn read_terminal<'a>(inner: &ArgMatches<'a>) -> Option<Choice<'a>>
         intermediate: flag(inner, "intermediate"),
         delay,
         trace: text(inner, "trace"),
+        no_times: flag(inner, "no-times"),
         loose: flag(inner, "loose"),
         reads_on: flag(inner, "open"),
         json: flag(inner, "json"),

@@ -24,6 +24,8 @@ pub struct TillOptions<'a> {
     /// The timeout in seconds. The parser accepts 0; the program rejects it.
     pub timeout: u16,
     pub trace: Option<&'a str>,
+    /// Whether the trace has no time marks.
+    pub no_times: bool,
     pub book: Option<&'a str>,
     /// Whether a step that does not succeed is a fault.
     pub check: bool,
@@ -43,7 +45,7 @@ pub struct TillOptions<'a> {
 }
 
 /// The options of `till`, in the order of its help.
-const OPTIONS: [CommandOption<'static>; 16] = [
+const OPTIONS: [CommandOption<'static>; 17] = [
     CommandOption::NeededPort("port", "TCP port of the terminal"),
     CommandOption::Host("Host name or address of the terminal"),
     CommandOption::Value(
@@ -68,6 +70,7 @@ const OPTIONS: [CommandOption<'static>; 16] = [
         "Give up after SECONDS without a message of the terminal, 1 to 65535; connecting takes at most 60",
     ),
     CommandOption::Value("trace", "FILE", help::TRACE),
+    CommandOption::Flag("no-times", help::NO_TIMES),
     CommandOption::Value("book", "FILE", help::KEEP_BOOK),
     CommandOption::Flag("check", help::CHECK_STEPS),
     CommandOption::Flag(
@@ -138,6 +141,7 @@ pub fn read_till<'a>(
         currency: text(inner, "currency"),
         timeout,
         trace: text(inner, "trace"),
+        no_times: flag(inner, "no-times"),
         book: text(inner, "book"),
         check: flag(inner, "check"),
         show: flag(inner, "show"),

@@ -6,6 +6,14 @@ use zvt_stream::LineForm;
 use zvt_term::{Extras, Verdict};
 use zvt_text::Form;
 
+/// The file for the trace of a run, and how it is written.
+#[derive(Clone, Copy)]
+pub struct RunTrace<'f> {
+    pub file: &'f File,
+    /// Whether each line has a time mark.
+    pub marks_times: bool,
+}
+
 /// The options of a till's run: the terminal to connect to, the steps, how the line is read, traced and shown, and how
 /// the steps are reported.
 #[derive(Clone, Copy)]
@@ -18,8 +26,8 @@ pub struct TillRun<'a, 'f> {
     pub seconds: u16,
     /// How the till reads the line.
     pub line: LineForm,
-    /// The file for the trace, if one is to be written.
-    pub trace: Option<&'f File>,
+    /// The trace, if one is to be written.
+    pub trace: Option<RunTrace<'f>>,
     /// Shows the terminal's messages on standard error, if it is given.
     pub show: Option<Stderr>,
     /// The steps of the till.
@@ -32,8 +40,8 @@ pub struct TillRun<'a, 'f> {
 /// reported.
 #[derive(Clone, Copy)]
 pub struct LoopRun<'a, 'f> {
-    /// The file for the trace, if one is to be written.
-    pub trace: Option<&'f File>,
+    /// The trace, if one is to be written.
+    pub trace: Option<RunTrace<'f>>,
     /// The steps of the till.
     pub plan: &'a [Planned],
     /// How the steps are reported.
@@ -58,8 +66,8 @@ pub struct TerminalRun<'a, 'f> {
     pub line: LineForm,
     /// The number of connections to serve, one after another.
     pub connections: u64,
-    /// The file for the trace, if one is to be written.
-    pub trace: Option<&'f File>,
+    /// The trace, if one is to be written.
+    pub trace: Option<RunTrace<'f>>,
     /// The form of the reports.
     pub form: Form,
 }

@@ -16,6 +16,7 @@ use crate::tcp::trace_file::by_trace;
 use crate::{EndFault, NoteSource, StepRun, run_both_ends, run_till_end};
 use std::alloc::Global;
 use std::net::{Net, TcpListener, TcpStream};
+use std::rt::Clock;
 use zvt_grammar::Lengths;
 use zvt_io::Sink;
 use zvt_till::Keeper;
@@ -34,7 +35,7 @@ pub fn run_loop<R, K, N, W, E>(
     report: &mut E,
 ) -> Result<(), EndFault>
 where
-    R: Net<Listener = TcpListener, Stream = TcpStream>,
+    R: Net<Listener = TcpListener, Stream = TcpStream> + Clock,
     K: Keeper,
     N: NoteSource<K>,
     W: Sink,
@@ -52,10 +53,10 @@ where
         options: run.options,
     };
     let (till_end, terminal_end) = both_ends(rt).map_err(EndFault::Net)?;
-    let end = till_end_of(alloc, &till_end, Lengths::Shortest, run.trace)?;
+    let end = till_end_of(rt, alloc, &till_end, Lengths::Shortest, run.trace)?;
     let mut line = both_ends_of(alloc, end, &terminal_end);
     let answer = run_both_ends(alloc, &mut line, till, notes, &steps, writer, report);
-    by_trace(is_broken(&line.till, run.trace), answer)
+    by_trace(is_broken(rt, alloc, &line.till, run.trace), answer)
 }
 
 /// Connects a till, alone or with a book, to its terminal, and runs the steps. Each order has 100,000 reads. The trace
@@ -74,7 +75,7 @@ pub fn run_till<R, K, N, W, E>(
     report: &mut E,
 ) -> Result<(), EndFault>
 where
-    R: Net<Listener = TcpListener, Stream = TcpStream>,
+    R: Net<Listener = TcpListener, Stream = TcpStream> + Clock,
     K: Keeper,
     N: NoteSource<K>,
     W: Sink,
@@ -94,8 +95,8 @@ where
     };
     let end = connect(rt, run.host, run.port, run.seconds).map_err(EndFault::Net)?;
     let shown = shown_by(alloc, run.options.form, run.line, run.show);
-    let mut line = till_line_of(alloc, &end, run.line, run.trace, shown)?;
+    let mut line = till_line_of(rt, alloc, &end, run.line, run.trace, shown)?;
     let answer = run_till_end(alloc, &mut line, till, notes, &steps, writer, report);
-    let answer = by_trace(is_broken(&line, run.trace), answer);
+    let answer = by_trace(is_broken(rt, alloc, &line, run.trace), answer);
     by_silence(waited(&line, run.seconds), answer)
 }

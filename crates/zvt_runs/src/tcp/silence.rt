@@ -6,6 +6,7 @@ use crate::EndFault;
 use crate::tcp::ends::TillLine;
 use std::io::{self, ErrorKind, Read, Write};
 use std::net::TcpStream;
+use std::rt::Clock;
 
 /// A connection that knows whether its last read timed out.
 #[derive(Clone, Copy)]
@@ -55,7 +56,7 @@ fn is_time_out(kind: ErrorKind) -> bool {
 }
 
 /// Returns this number of seconds if the last read of this end timed out.
-pub(crate) fn waited(end: &TillLine<'_>, seconds: u16) -> Option<u16> {
+pub(crate) fn waited<C: Clock>(end: &TillLine<'_, C>, seconds: u16) -> Option<u16> {
     if end.reader.device.inner.waited {
         Some(seconds)
     } else {

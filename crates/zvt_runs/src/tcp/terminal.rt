@@ -7,11 +7,10 @@ ghost use Rattle.zvt_runs.specs.Tills.{AnswersService, AnswersTill, AnswersTills
 use crate::tcp::connection::{Door, listen};
 use crate::tcp::delay::SocketDelay;
 use crate::tcp::ends::{is_broken, terminal_end_of};
-use crate::tcp::options::TerminalRun;
+use crate::tcp::options::{RunTrace, TerminalRun};
 use crate::tcp::reports::{GoneTill, report_address, report_till};
 use crate::{EndFault, serve};
 use std::alloc::Global;
-use std::fs::File;
 use std::net::{Net, TcpListener, TcpStream};
 use std::rt::Clock;
 use zvt_io::Sink;
@@ -94,15 +93,15 @@ fn serve_till<R: Net + Clock>(
     connection: &TcpStream,
     line: LineForm,
     served: &mut Extended,
-    trace: Option<&File>,
+    trace: Option<RunTrace<'_>>,
 ) -> Result<Option<LineFault>, EndFault>
     requires { IsOffline served.old.served.terminal }
     ensures { AnswersTill (reading_as line) served.old served.new result }
 {
-    let mut end = terminal_end_of(alloc, connection, line, trace)?;
+    let mut end = terminal_end_of(rt, alloc, connection, line, trace)?;
     let mut delay = SocketDelay::new(rt, alloc, connection, served.extras.delay);
     let broke = serve(alloc, &mut end, served, &mut delay).err();
-    if is_broken(&end, trace) {
+    if is_broken(rt, alloc, &end, trace) {
         return Err(EndFault::Trace);
     }
     Ok(broke)
