@@ -192,6 +192,15 @@ def field(content, loose):
     return {**said, **value_of(bmp, value)}, 1 + head + size
 
 
+class Hidden(int):
+    """The number of bytes that are hidden. The bytes themselves are its `content`."""
+
+    def __new__(cls, content):
+        size = super().__new__(cls, len(content))
+        size.content = bytes(content)
+        return size
+
+
 def value_of(bmp, value):
     if bmp == AMOUNT:
         return {"value": int(value.hex())}
@@ -199,7 +208,7 @@ def value_of(bmp, value):
         return code_of(value[0])
     if bmp in TEXTS:
         return {"text": quoted(value)}
-    return {"hidden": len(value)} if bmp in HIDDEN else {"content": upper(value)}
+    return {"hidden": Hidden(value)} if bmp in HIDDEN else {"content": upper(value)}
 
 
 def fields(content, loose):

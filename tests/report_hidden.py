@@ -14,13 +14,15 @@ import sys
 
 import json_model
 from common import EXAMPLES, TOP, Checks, program
-from report_model import MOVES_MONEY, WITH_PASSWORD
+from journal_model import ACK, AUTHORISATION, COMPLETION, STATUS, digits, message
+from report_model import MOVES_MONEY, WITH_PASSWORD, is_masked
 
 PROGRAM = program(sys.argv[1:])
 SEED, ROUNDS, PASSWORD = 20261130, 3, 3
-# A report shows, or judges by, the result code, the amount, the numbers of a payment, the currency, and the totals by card.
-SHOWN = {0x04, 0x0B, 0x27, 0x37, 0x49, 0x60, 0x87}
-AMOUNT = 0x04
+# A report shows, or judges by, the result code, the amount, the numbers of a payment, the currency, the totals by card, and the type
+# and the name of the card. It shows the number of a card only if the terminal masked it.
+SHOWN = {0x04, 0x0B, 0x27, 0x37, 0x49, 0x60, 0x87, 0x8A, 0x8B}
+AMOUNT, CARD_NUMBER = 0x04, 0x22
 LENGTH_DIGITS = {"LL": 2, "LLL": 3}
 check = Checks()
 
@@ -78,7 +80,9 @@ def hidden(data):
     if control == "0600":
         first += 2
     for bmp, places in fields(data, start + first):
-        if bmp not in SHOWN:
+        if bmp == CARD_NUMBER:
+            found += [] if is_masked(bytes(data[at] for at in places)) else [(at, True) for at in places]
+        elif bmp not in SHOWN:
             found += [(at, bmp in json_model.DIGITS) for at in places]
     return found
 
@@ -138,6 +142,13 @@ class Trace:
         return b"\n".join(rows) + b"\n", count
 
 
+def payment_with(number):
+    """A payment with this card number."""
+    status = b"\x27\0\x04" + digits(500, 6) + b"\x22\xF0\xF8" + bytes.fromhex(number) + b"\x0B" + digits(17, 3) + b"\x87" + digits(17, 2) + b"\x8B\xF0\xF4VISA"
+    said = ((">", message(AUTHORISATION, b"\x04" + digits(500, 6))), ("<", ACK), ("<", message(STATUS, status)), ("<", message(COMPLETION)))
+    return "".join(f"{sign} {one.hex()}\n" for sign, one in said).encode()
+
+
 def reports(trace):
     found = [subprocess.run([PROGRAM, "report", *words], input=trace, capture_output=True, timeout=60) for words in ([], ["--json"])]
     return [(one.returncode, one.stdout) for one in found]
@@ -146,14 +157,15 @@ def reports(trace):
 def main():
     chance, bytes_hidden, shows = random.Random(SEED), 0, 0
     folders = (EXAMPLES, EXAMPLES / "messages", TOP / "tests/data/report", TOP / "tests/data/real")
-    traces = [path for folder in folders for path in sorted(folder.glob("*.trace"))]
-    for path in traces:
-        trace = Trace(path.read_bytes())
-        wanted = reports(path.read_bytes())
+    traces = {path.name: path.read_bytes() for folder in folders for path in sorted(folder.glob("*.trace"))}
+    traces["a card number"], masked = payment_with("4761739001010010"), payment_with("4761EEEEEEEE0010")
+    check("reports show masked card numbers alone", b"..0010" in reports(masked)[0][1] and b"0010" not in reports(traces["a card number"])[0][1], True)
+    for name, text in traces.items():
+        trace, wanted = Trace(text), reports(text)
         for number in range(ROUNDS):
             other, count = trace.replaced(chance, hidden)
             bytes_hidden += count
-            check(f"{path.name} with other hidden bytes, {number}", reports(other), wanted)
+            check(f"{name} with other hidden bytes, {number}", reports(other), wanted)
         shows += reports(trace.replaced(chance, shown)[0]) != wanted
     check("reports show amounts", shows > len(traces) / 3, True)
     print(f"report_hidden: {len(traces)} traces, {bytes_hidden} hidden bytes replaced, {shows} traces with other amounts differ; {check.verdict}")

@@ -19,8 +19,8 @@ WITH_PASSWORD = {"0625", "0631"}
 CONTROLS = {"Registration": "0600", "Authorisation": "0601", "Reversal": "0630", "EndOfDay": "0650"}
 ALREADY_REVERSED = "B4"
 DECLINES, GOOD = "declines", "good"
-CHECKS = ("PaymentUnclear", "ReversalRefused", "CloseUnclear", "CloseRefused", "CloseDiffers")
-TOTALS = "60"
+CHECKS = ("PaymentUnclear", "PaidAlike", "ReversalRefused", "CloseUnclear", "CloseRefused", "CloseDiffers")
+TOTALS, CARD_NUMBER, CARD_TYPE, CARD_NAME = "60", "22", "8A", "8B"
 # Whether an order adds its amount to the terminal's total, or takes it from the total.
 SIGNS = {"0604": 1, "0609": 1, "0621": 1, "0624": 1, "0631": -1}
 
@@ -54,6 +54,23 @@ def totals_of(status):
     if content is None or len(content) != 106 or not all(content[at + 2:at + 14].isdecimal() for at in range(8, 106, 14)):
         return None
     return content
+
+
+def is_masked(number):
+    """Whether a card number hides at least four of its digits and shows at most ten. The filler F may stand at its end."""
+    digits = number.hex().upper()
+    return len(number) <= 10 and bool(re.fullmatch("[0-9E]*F*", digits)) and digits.count("E") >= 4 and sum(map(str.isdecimal, digits)) <= 10
+
+
+def card_of(status):
+    """The card that a status names: its name, or else that of its type, and its masked number."""
+    fields = [field for field in status.get("fields", ()) if field["bmp"] == CARD_NUMBER]
+    number = fields[0]["hidden"].content if len(fields) == 1 else b""
+    texts = [field["text"] for field in status.get("fields", ()) if field["bmp"] == CARD_NAME]
+    name = re.findall(r"\\x..|.", texts[0]) if len(texts) == 1 else []
+    name = "".join(one for one in name if one != r"\x7F" and not re.match(r"\\x[01]", one)) if len(name) <= 24 else ""
+    found = {"card": name or json_model.CARD_TYPES.get(only(status, CARD_TYPE)), "card_number": number.hex().upper().rstrip("F") if is_masked(number) else None}
+    return found if any(found.values()) else {}
 
 
 def explained(differs, items):
@@ -118,7 +135,7 @@ class Order:
         self.first = self.last = message["line"]
         self.amount = amount_of(message)
         self.receipt = only(message, RECEIPT)
-        self.accepted, self.statuses, self.approval, self.outcome, self.last_status = False, [], None, None, {}
+        self.accepted, self.statuses, self.approval, self.outcome, self.last_status, self.card = False, [], None, None, {}, {}
 
     @property
     def is_of_money(self):
@@ -147,6 +164,8 @@ class Order:
     def noted(self, status, book):
         self.statuses.append((*self.class_of(status, book), only(status, RECEIPT)))
         self.last_status = status
+        if only(status, RESULT) == "00":
+            self.card = self.card or card_of(status)
         if self.approval is None and only(status, RESULT) == "00" and amount_of(status):
             self.approval = {"amount": amount_of(status), "line": status["line"], "receipt": only(status, RECEIPT),
                              "trace": int(only(status, TRACE)) if only(status, TRACE) else None}
@@ -264,13 +283,27 @@ class Report(Audit):
     def looks(self):
         for at, order in enumerate(self.orders):
             case = self.case_of(order, self.orders[at + 1:])
-            if case:
+            if case == "PaidAlike":
+                yield case, at, self.repeated(order)
+            elif case:
                 again = [later for later, one in enumerate(self.orders) if later > at and order.kind == one.kind == "payment"
                          and one.amount == order.amount and one.outcome[0] in ("paid", "unclear")]
                 yield case, at, again[0] if again else None
 
+    def stands(self, order):
+        return order.outcome[0] == "paid" and not self.book[order.entry]["reversed"] and order.card.get("card_number")
+
+    def repeated(self, order):
+        """The last payment before this one with the same card, if both stand and have one amount."""
+        if not self.stands(order):
+            return None
+        before = [at for at, one in enumerate(self.orders[:self.orders.index(order)]) if self.stands(one) and one.card["card_number"] == order.card["card_number"]]
+        return before[-1] if before and self.orders[before[-1]].amount == order.amount else None
+
     def case_of(self, order, later):
         word, why = order.outcome
+        if self.repeated(order) is not None:
+            return "PaidAlike"
         if order.kind == "payment" and word == "unclear":
             if order.approval is None:
                 return "PaymentUnclear"
@@ -324,7 +357,7 @@ class Report(Audit):
         numbers, taking = entry or order.approval or {}, [
             at for at, one in enumerate(self.orders, 1) if entry and one.kind == "reversal" and one.entry == order.entry and one.outcome[0] == "reversed"]
         doubt = entry and entry["doubt"]
-        return {"amount": order.amount, "approved": order.approval and order.approval["amount"], "payment": self.number_of(order),
+        return {"amount": order.amount, "approved": order.approval and order.approval["amount"], **order.card, "payment": self.number_of(order),
                 "receipt": numbers.get("receipt"), "trace": numbers.get("trace"), "reversed_by": taking[0] if taking else None,
                 "reversal_unclear": doubt if doubt != ALREADY_REVERSED else None, "taken_back": doubt == ALREADY_REVERSED or None}
 

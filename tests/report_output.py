@@ -35,6 +35,22 @@ def run(words, trace):
     return done.returncode, done.stdout.decode(), done.stderr.decode()
 
 
+def card(number, name=None, card_type=None):
+    fields = b"\x22" + length(bytes.fromhex(number)) if number else b""
+    fields += b"" if name is None else b"\x8B" + length(name)
+    return fields + (b"" if card_type is None else bytes([0x8A, card_type]))
+
+
+def length(content):
+    return bytes([0xF0 + len(content) // 10, 0xF0 + len(content) % 10]) + content
+
+
+# Two cards of which the number is masked, and others that are odd in one way.
+GIROCARD, VISA = card("6726EEEEEEEE12340F", b"girocard\0"), card("4761EEEEEEEE0010", b"VISA", 10)
+CARDS = (GIROCARD, GIROCARD, VISA, VISA, card("6726EEEEEEEE1234FF", None, 5), card("67E6EEE23FF0"), card("6726123456781234", b"girocard"), card("67EEEEEEEEEEEEEEEEEEEE1F"),
+         card("67EEE1", b"\x94 \"\\<b>&amp;\x7F"), card("123456EEEE123456", b"x" * 24), card("12345EEEEE12345F", b"x" * 25), GIROCARD + VISA, card("", b"\0\x1F", 0xFF), card("EEEE"), card("", None, 6))
+
+
 class Day(Dialogue):
     """A dialogue with reversals and ends of day that the terminal answers."""
 
@@ -44,6 +60,11 @@ class Day(Dialogue):
 
     def odd(self, chance_of_it=0.1):
         return super().odd(chance_of_it / 4)
+
+    def say(self, sign, data):
+        if sign == "<" and data[:2] == STATUS and len(data) > 3 and self.chance.random() < 0.7:
+            data = message(STATUS, data[3:] + self.chance.choice(CARDS))
+        super().say(sign, data)
 
     def step(self):
         self.chance.choice((self.pay, self.pay, self.pay, self.reverse, self.reverse, self.close, self.other, self.lose))()
@@ -126,8 +147,8 @@ def times():
 
 # ---- a trace for each case, and one that just misses it
 
-def approving(amount, number, original=None):
-    more = b"" if original is None else b"\x37" + digits(original, 3)
+def approving(amount, number, original=None, card=b""):
+    more = card if original is None else b"\x37" + digits(original, 3)
     return message(STATUS, b"\x27\0\x04" + digits(amount, 6) + b"\x0B" + digits(number, 3) + more + b"\x87" + digits(number, 2))
 
 
@@ -156,12 +177,21 @@ def by_card(*sums):
     return message(STATUS, b"\x60\xF0\xF5\xF3" + digits(1, 2) + digits(9, 2) + groups)
 
 
+def paid_with(card, amount, number):
+    return paid(amount, number, approving(amount, number, card=card), message(COMPLETION))
+
+
 LOST, DONE, DECLINED = ("!", None), message(COMPLETION), message(STATUS, b"\x27\x6C")
 TAKEN_BACK = (ACK, approving(500, 2, 1), DONE)
 CASES = [
     ("ApprovedNotCompleted", [*paid(500, 1, approving(500, 1)), LOST], [*paid(500, 1), LOST]),
     ("OtherAmount", [*paid(500, 1, approving(550, 1), DONE)], [*paid(550, 1)]),
     ("PaymentUnclear", [*paid(500, 1, DONE)], [*paid(500, 1, DECLINED, DONE)]),
+    ("PaidAlike", [*paid_with(GIROCARD, 500, 1), *paid_with(VISA, 500, 2), *paid_with(GIROCARD, 500, 3)], [*paid_with(GIROCARD, 500, 1), *paid_with(VISA, 500, 2)]),
+    ("PaidAlike", [*paid_with(VISA, 500, 1), *paid(500, 2), *paid_with(VISA, 500, 3)], [*paid_with(VISA, 500, 1), *paid_with(VISA, 700, 2), *paid_with(VISA, 500, 3)]),
+    ("PaidAlike", [*paid_with(GIROCARD, 500, 1), *paid_with(GIROCARD, 500, 3), *reversed_by(2, *TAKEN_BACK)],
+     [*paid_with(GIROCARD, 500, 1), *reversed_by(1, *TAKEN_BACK), *paid_with(GIROCARD, 500, 3)]),
+    ("PaidAlike", [*paid_with(card("6726EEEE1234"), 500, 1), *paid_with(card("6726EEEE1234FF"), 500, 2)], [*paid_with(card("67261EEE1234"), 500, 1), *paid_with(card("67261EEE1234"), 500, 2)]),
     ("ReversalUnclear", [*paid(500, 1), *reversed_by(1, ACK), LOST], [*paid(500, 1), *reversed_by(1, ACK), LOST, *reversed_by(1, *TAKEN_BACK)]),
     ("ReversalUnclear", [*paid(500, 1), *reversed_by(1, ACK)], [*paid(500, 1), *reversed_by(7, ACK)]),
     ("TakenBackBefore", [*paid(500, 1), *reversed_by(1, message(ABORT, b"\xB4"))], [*paid(500, 1), *reversed_by(1, *TAKEN_BACK), *reversed_by(1, message(ABORT, b"\xB4"))]),

@@ -67,7 +67,7 @@ footer{margin-top:3.5rem;border-top:1px solid var(--line);padding-top:1.2rem;col
 .t thead{position:absolute;clip-path:inset(50%);width:1px;height:1px;overflow:hidden}
 .t tr{display:grid;grid-template-columns:auto 1fr auto;gap:0 .7rem;padding:.6rem 0;border-bottom:1px solid var(--line)}
 .t td{padding:0;border:0;white-space:normal}
-.t .i{grid-area:1/1}.t .cd{grid-area:1/1/2/3}.t .am{grid-area:1/3}
+.t .i{grid-area:1/1}.t .cd{grid-area:1/1/2/3}.t .ca{grid-area:1/2}.t .am{grid-area:1/3}
 .t .ids{grid-area:2/1/3/3;color:var(--soft);font-size:.88rem}
 .t .rc{grid-area:2/3;text-align:right;color:var(--soft);font-size:.88rem}
 .t .oc{grid-area:3/1/4/3;font-size:.92rem}.t .ln{grid-area:3/3;text-align:right;font-size:.88rem}

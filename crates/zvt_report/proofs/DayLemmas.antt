@@ -33,6 +33,7 @@ row_by book unclear c end heard =
       outcome = outcome_at book unclear c.currency (judged_as c.order) end;
       approval = first_approval heard;
       time = None;
+      card = None;
     }
 
 day-snoc : (closed : List Chapter) (c : Chapter) → day_in (closed ++ c ∷ []) ≡ day_after (day_in closed) c
@@ -56,7 +57,7 @@ unfinished : (book : List Entry) (unclear : List (ℕ × Cause)) (o : OpenOrder)
     → row_of book unclear (chap o.currency o.sent o.first answers) ≡ row_at o o.last (Unclear Unfinished)
 unfinished book unclear o answers e last approval =
     ap (λ x. row_by book unclear (chap o.currency o.sent o.first answers) x (heeded answers x)) e
-    ∙ ap₂ (λ l a. record { order = o.sent; first = o.first; last = l; outcome = Unclear Unfinished; approval = a; time = None }) (sym last) (sym approval)
+    ∙ ap₂ (λ l a. record { order = o.sent; first = o.first; last = l; outcome = Unclear Unfinished; approval = a; time = None; card = None }) (sym last) (sym approval)
 
 pub judged-close : (cs : List Chapter) (d : DayValue) (open_order : Option OpenOrder) → IsJudged cs d open_order → closed_day d open_order ≡ day_in cs
 judged-close cs d None r = r.all
@@ -150,8 +151,8 @@ finished d o answers n e q order heard approval =
     let end : Option Ended = Some (record { before = happenings answers; by = n.happening }) in
     ap (λ x. row_by d.book d.unclear c x (heeded (answers ++ n ∷ []) x)) (reached answers n e q)
     ∙ ap (row_by d.book d.unclear c end) (heeded-all answers n)
-    ∙ ap (λ l. record { order = o.sent; first = o.first; last = l; outcome = outcome_at d.book d.unclear o.currency (judged_as o.sent) end; approval = first_approval (answers ++ n ∷ []); time = None }) (last_line-snoc o.first answers n)
-    ∙ ap (λ a. record { order = o.sent; first = o.first; last = n.line; outcome = outcome_at d.book d.unclear o.currency (judged_as o.sent) end; approval = a; time = None }) (approval-ended (list_any is_positive (happenings answers)) answers n q ∙ sym approval)
+    ∙ ap (λ l. record { order = o.sent; first = o.first; last = l; outcome = outcome_at d.book d.unclear o.currency (judged_as o.sent) end; approval = first_approval (answers ++ n ∷ []); time = None; card = None }) (last_line-snoc o.first answers n)
+    ∙ ap (λ a. record { order = o.sent; first = o.first; last = n.line; outcome = outcome_at d.book d.unclear o.currency (judged_as o.sent) end; approval = a; time = None; card = None }) (approval-ended (list_any is_positive (happenings answers)) answers n q ∙ sym approval)
     ∙ ap (λ (st : Statuses). row_at o n.line (outcome_by d.book (judged_as o.sent) st n.happening)) (sym heard)
     ∙ ap (λ (x : Order). row_at o n.line (outcome_by d.book x o.running.statuses n.happening)) (sym order)
 

@@ -8,8 +8,9 @@ use Rattle.zvt_till.specs.declared.happenings.Sent.{Sent}
 use Rattle.zvt_till.specs.declared.happenings.Sent.TheVariants.{Register, Pay, Reverse, CloseDay, Cancel, Foreign}
 use Rattle.zvt_till.specs.declared.outcomes.Outcome.{Outcome}
 use Rattle.zvt_till.specs.declared.outcomes.Outcome.TheVariants.{Registered, Paid, Declined, Refused, Aborted, Unclear, Reversed, DayClosed}
+use Rattle.zvt_report.specs.Alike.{is_marked, repeated_at, repeated_payments}
 use Rattle.zvt_report.specs.Differing.{differs_at}
-use Rattle.zvt_report.specs.Looks.{EachPaymentIsLookedAt, EachReversalIsLookedAt, case_as, decides, is_marked, is_of_payment, is_of_reversal, is_unclear_by, looks_from, open_by, open_places, paid_again, payment_case, payments_looked_at, reversals_looked_at, unclear_places}
+use Rattle.zvt_report.specs.Looks.{EachPaymentIsLookedAt, EachReversalIsLookedAt, case_as, decides, is_of_payment, is_of_reversal, is_unclear_by, looks_from, open_by, open_places, other_payment, paid_again, payment_case, payments_looked_at, reversals_looked_at, unclear_places}
 use Rattle.zvt_report.specs.declared.cases.Case.{Case}
 use Rattle.zvt_report.specs.declared.cases.Case.TheVariants.{ApprovedNotCompleted, OtherAmount, ReversalRefused, ReversalUnclear, TakenBackBefore}
 use Rattle.zvt_report.specs.declared.cases.Look.{Look}
@@ -22,14 +23,14 @@ abbrev place_if : (Case → Bool) → ℕ → Option Case → List ℕ
 place_if test place None = []
 place_if test place (Some case) = cond (test case) (place ∷ []) []
 
-abbrev look_if : Option ℕ → ℕ → Option Case → Option Look
-look_if again place case = option_map (λ (c : Case). record { case = c; order = place; again = again }) case
+abbrev look_if : (Case → Option ℕ) → ℕ → Option Case → Option Look
+look_if again place case = option_map (λ (c : Case). record { case = c; order = place; again = again c }) case
 
-payments-cons : (again : Option ℕ) (place : ℕ) (case : Option Case) (more : List Look) → payments_looked_at (cons_option (look_if again place case) more) ≡ place_if is_of_payment place case ++ payments_looked_at more
+payments-cons : (again : Case → Option ℕ) (place : ℕ) (case : Option Case) (more : List Look) → payments_looked_at (cons_option (look_if again place case) more) ≡ place_if is_of_payment place case ++ payments_looked_at more
 payments-cons again place None more = refl
 payments-cons again place (Some case) more = refl
 
-reversals-cons : (again : Option ℕ) (place : ℕ) (case : Option Case) (more : List Look) → reversals_looked_at (cons_option (look_if again place case) more) ≡ place_if is_of_reversal place case ++ reversals_looked_at more
+reversals-cons : (again : Case → Option ℕ) (place : ℕ) (case : Option Case) (more : List Look) → reversals_looked_at (cons_option (look_if again place case) more) ≡ place_if is_of_reversal place case ++ reversals_looked_at more
 reversals-cons again place None more = refl
 reversals-cons again place (Some case) more = refl
 
@@ -53,45 +54,47 @@ undecided-payment : (place : ℕ) (decided : Bool) → place_if is_of_payment pl
 undecided-payment place true = refl
 undecided-payment place false = refl
 
-payment-at : (book : List Entry) (differs : Bool) (place : ℕ) (later : List OrderRow) (approval : Option Approval) (outcome : Outcome) (order : Sent)
-    → place_if is_of_payment place (case_as book differs later approval outcome order) ≡ cond (is_unclear_by order outcome) (place ∷ []) []
-payment-at book differs place later approval outcome (Register c) = refl
-payment-at book differs place later approval Registered (Pay a) = refl
-payment-at book differs place later approval (Paid t r) (Pay a) = refl
-payment-at book differs place later approval (Declined k) (Pay a) = refl
-payment-at book differs place later approval (Refused k) (Pay a) = refl
-payment-at book differs place later approval (Aborted k) (Pay a) = refl
-payment-at book differs place later approval (Unclear x) (Pay a) = payment-looks place a approval
-payment-at book differs place later approval Reversed (Pay a) = refl
-payment-at book differs place later approval DayClosed (Pay a) = refl
-payment-at book differs place later approval Registered (Reverse e) = refl
-payment-at book differs place later approval (Paid t r) (Reverse e) = refl
-payment-at book differs place later approval (Declined k) (Reverse e) = refl
-payment-at book differs place later approval (Refused k) (Reverse e) = refused-payment place (k == already_reversed) (is_marked book e) (list_any (decides e) later)
-payment-at book differs place later approval (Aborted k) (Reverse e) = refused-payment place (k == already_reversed) (is_marked book e) (list_any (decides e) later)
-payment-at book differs place later approval (Unclear x) (Reverse e) = undecided-payment place (list_any (decides e) later)
-payment-at book differs place later approval Reversed (Reverse e) = refl
-payment-at book differs place later approval DayClosed (Reverse e) = refl
-payment-at book differs place later approval Registered CloseDay = refl
-payment-at book differs place later approval (Paid t r) CloseDay = refl
-payment-at book differs place later approval (Declined k) CloseDay = refl
-payment-at book differs place later approval (Refused k) CloseDay = refl
-payment-at book differs place later approval (Aborted k) CloseDay = refl
-payment-at book differs place later approval (Unclear x) CloseDay = refl
-payment-at book differs place later approval Reversed CloseDay = refl
-payment-at book true place later approval DayClosed CloseDay = refl
-payment-at book false place later approval DayClosed CloseDay = refl
-payment-at book differs place later approval outcome Cancel = refl
-payment-at book differs place later approval outcome Foreign = refl
+payment-at : (book : List Entry) (differs : Bool) (repeats : Option ℕ) (place : ℕ) (later : List OrderRow) (approval : Option Approval) (outcome : Outcome) (order : Sent)
+    → place_if is_of_payment place (case_as book differs repeats later approval outcome order) ≡ cond (is_unclear_by order outcome) (place ∷ []) []
+payment-at book differs repeats place later approval outcome (Register c) = refl
+payment-at book differs repeats place later approval Registered (Pay a) = refl
+payment-at book differs None place later approval (Paid t r) (Pay a) = refl
+payment-at book differs (Some earlier) place later approval (Paid t r) (Pay a) = refl
+payment-at book differs repeats place later approval (Declined k) (Pay a) = refl
+payment-at book differs repeats place later approval (Refused k) (Pay a) = refl
+payment-at book differs repeats place later approval (Aborted k) (Pay a) = refl
+payment-at book differs repeats place later approval (Unclear x) (Pay a) = payment-looks place a approval
+payment-at book differs repeats place later approval Reversed (Pay a) = refl
+payment-at book differs repeats place later approval DayClosed (Pay a) = refl
+payment-at book differs repeats place later approval Registered (Reverse e) = refl
+payment-at book differs repeats place later approval (Paid t r) (Reverse e) = refl
+payment-at book differs repeats place later approval (Declined k) (Reverse e) = refl
+payment-at book differs repeats place later approval (Refused k) (Reverse e) = refused-payment place (k == already_reversed) (is_marked book e) (list_any (decides e) later)
+payment-at book differs repeats place later approval (Aborted k) (Reverse e) = refused-payment place (k == already_reversed) (is_marked book e) (list_any (decides e) later)
+payment-at book differs repeats place later approval (Unclear x) (Reverse e) = undecided-payment place (list_any (decides e) later)
+payment-at book differs repeats place later approval Reversed (Reverse e) = refl
+payment-at book differs repeats place later approval DayClosed (Reverse e) = refl
+payment-at book differs repeats place later approval Registered CloseDay = refl
+payment-at book differs repeats place later approval (Paid t r) CloseDay = refl
+payment-at book differs repeats place later approval (Declined k) CloseDay = refl
+payment-at book differs repeats place later approval (Refused k) CloseDay = refl
+payment-at book differs repeats place later approval (Aborted k) CloseDay = refl
+payment-at book differs repeats place later approval (Unclear x) CloseDay = refl
+payment-at book differs repeats place later approval Reversed CloseDay = refl
+payment-at book true repeats place later approval DayClosed CloseDay = refl
+payment-at book false repeats place later approval DayClosed CloseDay = refl
+payment-at book differs repeats place later approval outcome Cancel = refl
+payment-at book differs repeats place later approval outcome Foreign = refl
 
-payments-from : (book : List Entry) (closings : List (Option Closing)) (place : ℕ) (rows : List OrderRow) → payments_looked_at (looks_from book closings place rows) ≡ unclear_places place rows
-payments-from book closings place [] = refl
-payments-from book closings place (row ∷ later) =
-    payments-cons (paid_again row.order (place + 1) later) place (case_as book (differs_at closings place) later row.approval row.outcome row.order) (looks_from book closings (place + 1) later)
-    ∙ ap₂ (λ x y. x ++ y) (payment-at book (differs_at closings place) place later row.approval row.outcome row.order) (payments-from book closings (place + 1) later)
+payments-from : (book : List Entry) (closings : List (Option Closing)) (repeated : List (Option ℕ)) (place : ℕ) (rows : List OrderRow) → payments_looked_at (looks_from book closings repeated place rows) ≡ unclear_places place rows
+payments-from book closings repeated place [] = refl
+payments-from book closings repeated place (row ∷ later) =
+    payments-cons (λ (c : Case). other_payment c (repeated_at repeated place) (paid_again row.order (place + 1) later)) place
+    (case_as book (differs_at closings place) (repeated_at repeated place) later row.approval row.outcome row.order) (looks_from book closings repeated (place + 1) later)
+    ∙ ap₂ (λ x y. x ++ y) (payment-at book (differs_at closings place) (repeated_at repeated place) place later row.approval row.outcome row.order) (payments-from book closings repeated (place + 1) later)
 
 pub each_payment_is_looked_at : EachPaymentIsLookedAt
-each_payment_is_looked_at book closings rows = payments-from book closings 0 rows
+each_payment_is_looked_at book closings rows = payments-from book closings (repeated_payments book rows) 0 rows
 
 -- ---- reversals
 
@@ -113,42 +116,44 @@ undecided-reversal : (place : ℕ) (decided : Bool) → place_if is_of_reversal 
 undecided-reversal place true = refl
 undecided-reversal place false = refl
 
-reversal-at : (book : List Entry) (differs : Bool) (place : ℕ) (later : List OrderRow) (approval : Option Approval) (outcome : Outcome) (order : Sent)
-    → place_if is_of_reversal place (case_as book differs later approval outcome order) ≡ cond (open_by order outcome later) (place ∷ []) []
-reversal-at book differs place later approval outcome (Register c) = refl
-reversal-at book differs place later approval Registered (Pay a) = refl
-reversal-at book differs place later approval (Paid t r) (Pay a) = refl
-reversal-at book differs place later approval (Declined k) (Pay a) = refl
-reversal-at book differs place later approval (Refused k) (Pay a) = refl
-reversal-at book differs place later approval (Aborted k) (Pay a) = refl
-reversal-at book differs place later approval (Unclear x) (Pay a) = payment-no-reversal place a approval
-reversal-at book differs place later approval Reversed (Pay a) = refl
-reversal-at book differs place later approval DayClosed (Pay a) = refl
-reversal-at book differs place later approval Registered (Reverse e) = refl
-reversal-at book differs place later approval (Paid t r) (Reverse e) = refl
-reversal-at book differs place later approval (Declined k) (Reverse e) = refl
-reversal-at book differs place later approval (Refused k) (Reverse e) = refused-reversal place (k == already_reversed) (is_marked book e) (list_any (decides e) later)
-reversal-at book differs place later approval (Aborted k) (Reverse e) = refused-reversal place (k == already_reversed) (is_marked book e) (list_any (decides e) later)
-reversal-at book differs place later approval (Unclear x) (Reverse e) = undecided-reversal place (list_any (decides e) later)
-reversal-at book differs place later approval Reversed (Reverse e) = refl
-reversal-at book differs place later approval DayClosed (Reverse e) = refl
-reversal-at book differs place later approval Registered CloseDay = refl
-reversal-at book differs place later approval (Paid t r) CloseDay = refl
-reversal-at book differs place later approval (Declined k) CloseDay = refl
-reversal-at book differs place later approval (Refused k) CloseDay = refl
-reversal-at book differs place later approval (Aborted k) CloseDay = refl
-reversal-at book differs place later approval (Unclear x) CloseDay = refl
-reversal-at book differs place later approval Reversed CloseDay = refl
-reversal-at book true place later approval DayClosed CloseDay = refl
-reversal-at book false place later approval DayClosed CloseDay = refl
-reversal-at book differs place later approval outcome Cancel = refl
-reversal-at book differs place later approval outcome Foreign = refl
+reversal-at : (book : List Entry) (differs : Bool) (repeats : Option ℕ) (place : ℕ) (later : List OrderRow) (approval : Option Approval) (outcome : Outcome) (order : Sent)
+    → place_if is_of_reversal place (case_as book differs repeats later approval outcome order) ≡ cond (open_by order outcome later) (place ∷ []) []
+reversal-at book differs repeats place later approval outcome (Register c) = refl
+reversal-at book differs repeats place later approval Registered (Pay a) = refl
+reversal-at book differs None place later approval (Paid t r) (Pay a) = refl
+reversal-at book differs (Some earlier) place later approval (Paid t r) (Pay a) = refl
+reversal-at book differs repeats place later approval (Declined k) (Pay a) = refl
+reversal-at book differs repeats place later approval (Refused k) (Pay a) = refl
+reversal-at book differs repeats place later approval (Aborted k) (Pay a) = refl
+reversal-at book differs repeats place later approval (Unclear x) (Pay a) = payment-no-reversal place a approval
+reversal-at book differs repeats place later approval Reversed (Pay a) = refl
+reversal-at book differs repeats place later approval DayClosed (Pay a) = refl
+reversal-at book differs repeats place later approval Registered (Reverse e) = refl
+reversal-at book differs repeats place later approval (Paid t r) (Reverse e) = refl
+reversal-at book differs repeats place later approval (Declined k) (Reverse e) = refl
+reversal-at book differs repeats place later approval (Refused k) (Reverse e) = refused-reversal place (k == already_reversed) (is_marked book e) (list_any (decides e) later)
+reversal-at book differs repeats place later approval (Aborted k) (Reverse e) = refused-reversal place (k == already_reversed) (is_marked book e) (list_any (decides e) later)
+reversal-at book differs repeats place later approval (Unclear x) (Reverse e) = undecided-reversal place (list_any (decides e) later)
+reversal-at book differs repeats place later approval Reversed (Reverse e) = refl
+reversal-at book differs repeats place later approval DayClosed (Reverse e) = refl
+reversal-at book differs repeats place later approval Registered CloseDay = refl
+reversal-at book differs repeats place later approval (Paid t r) CloseDay = refl
+reversal-at book differs repeats place later approval (Declined k) CloseDay = refl
+reversal-at book differs repeats place later approval (Refused k) CloseDay = refl
+reversal-at book differs repeats place later approval (Aborted k) CloseDay = refl
+reversal-at book differs repeats place later approval (Unclear x) CloseDay = refl
+reversal-at book differs repeats place later approval Reversed CloseDay = refl
+reversal-at book true repeats place later approval DayClosed CloseDay = refl
+reversal-at book false repeats place later approval DayClosed CloseDay = refl
+reversal-at book differs repeats place later approval outcome Cancel = refl
+reversal-at book differs repeats place later approval outcome Foreign = refl
 
-reversals-from : (book : List Entry) (closings : List (Option Closing)) (place : ℕ) (rows : List OrderRow) → reversals_looked_at (looks_from book closings place rows) ≡ open_places place rows
-reversals-from book closings place [] = refl
-reversals-from book closings place (row ∷ later) =
-    reversals-cons (paid_again row.order (place + 1) later) place (case_as book (differs_at closings place) later row.approval row.outcome row.order) (looks_from book closings (place + 1) later)
-    ∙ ap₂ (λ x y. x ++ y) (reversal-at book (differs_at closings place) place later row.approval row.outcome row.order) (reversals-from book closings (place + 1) later)
+reversals-from : (book : List Entry) (closings : List (Option Closing)) (repeated : List (Option ℕ)) (place : ℕ) (rows : List OrderRow) → reversals_looked_at (looks_from book closings repeated place rows) ≡ open_places place rows
+reversals-from book closings repeated place [] = refl
+reversals-from book closings repeated place (row ∷ later) =
+    reversals-cons (λ (c : Case). other_payment c (repeated_at repeated place) (paid_again row.order (place + 1) later)) place
+    (case_as book (differs_at closings place) (repeated_at repeated place) later row.approval row.outcome row.order) (looks_from book closings repeated (place + 1) later)
+    ∙ ap₂ (λ x y. x ++ y) (reversal-at book (differs_at closings place) (repeated_at repeated place) place later row.approval row.outcome row.order) (reversals-from book closings repeated (place + 1) later)
 
 pub each_reversal_is_looked_at : EachReversalIsLookedAt
-each_reversal_is_looked_at book closings rows = reversals-from book closings 0 rows
+each_reversal_is_looked_at book closings rows = reversals-from book closings (repeated_payments book rows) 0 rows

@@ -6,7 +6,8 @@ use Rattle.json.specs.Print.{escape, escape_byte, quoted}
 use Rattle.serde_json.specs.Data.{Members, member}
 use Rattle.serde_json.specs.Written.{comma_if, compact_text, members_text}
 use Rattle.zvt_json.specs.Strings.{line_text}
-use Rattle.zvt_json.proofs.EscapeLemmas.{command_plain, meaning_plain}
+use Rattle.zvt_json.proofs.EscapeLemmas.{command_plain, meaning_plain, word_plain as table_plain}
+use Rattle.zvt_text.specs.Meanings.{card_type_name, card_types}
 use Rattle.zvt_text.specs.Writing.{Adds}
 use Rattle.zvt_till.specs.Names.{cause_name}
 use Rattle.zvt_till.specs.declared.outcomes.Cause.{Cause}
@@ -34,6 +35,7 @@ unfolding escape_byte
 case_plain case_of.ApprovedNotCompleted = refl
 case_plain case_of.OtherAmount = refl
 case_plain case_of.PaymentUnclear = refl
+case_plain case_of.PaidAlike = refl
 case_plain case_of.ReversalUnclear = refl
 case_plain case_of.TakenBackBefore = refl
 case_plain case_of.ReversalRefused = refl
@@ -70,6 +72,10 @@ ending_plain ending.Aborted = refl
 ending_plain ending.Refused = refl
 ending_plain ending.Unclear = refl
 
+card_type_plain : (card_type : ℕ) → escape (unwrap_or (card_type_name card_type) []) ≡ unwrap_or (card_type_name card_type) []
+unfolding card_type_name
+card_type_plain card_type = table_plain card_types card_type refl
+
 pub word_plain : (w : Word) → escape (word_text w) ≡ word_text w
 word_plain (word.Case c) = case_plain c
 word_plain (word.Weight w) = weight_plain w
@@ -77,6 +83,7 @@ word_plain (word.Cause c) = cause_plain c
 word_plain (word.Ending e) = ending_plain e
 word_plain (word.Meaning code) = meaning_plain code
 word_plain (word.Command high low) = command_plain high low
+word_plain (word.CardType card_type) = card_type_plain card_type
 
 name_plain : (n : Name) → escape (name_text n) ≡ name_text n
 unfolding escape_byte
@@ -86,6 +93,8 @@ name_plain name.Approved = refl
 name_plain name.Bad = refl
 name_plain name.Book = refl
 name_plain name.Booked = refl
+name_plain name.Card = refl
+name_plain name.CardNumber = refl
 name_plain name.Case = refl
 name_plain name.Cause = refl
 name_plain name.Code = refl
@@ -129,13 +138,18 @@ object_plain object_of.Summary = refl
 
 -- ---- what is written
 
+-- what JSON makes of a text, between quotation marks
+pub quoted_as : (r : Result (Unit {0}) AllocError) (old t u new w e : List ℕ)
+    → t ≡ old ++ 34 ∷ [] → u ≡ t ++ e → escape w ≡ e → Adds r u new (34 ∷ []) → OnOk r (new ≡ old ++ quoted w)
+quoted_as (Ok done) old t u new w e first second same third =
+    third ∙ ap (λ (l : List ℕ). l ++ 34 ∷ []) second ∙ ap (λ (l : List ℕ). (l ++ e) ++ 34 ∷ []) first ∙ append_assoc (old ++ 34 ∷ []) e (34 ∷ [])
+    ∙ append_assoc old (34 ∷ []) (e ++ 34 ∷ []) ∙ ap (λ (l : List ℕ). old ++ 34 ∷ (l ++ 34 ∷ [])) (sym same)
+quoted_as (Err refused) old t u new w e first second same third = tt
+
 -- a plain word between quotation marks
 pub quoted_said : (r : Result (Unit {0}) AllocError) (old t u new w : List ℕ)
     → t ≡ old ++ 34 ∷ [] → u ≡ t ++ w → escape w ≡ w → Adds r u new (34 ∷ []) → OnOk r (new ≡ old ++ quoted w)
-quoted_said (Ok done) old t u new w first second plain third =
-    third ∙ ap (λ (l : List ℕ). l ++ 34 ∷ []) second ∙ ap (λ (l : List ℕ). (l ++ w) ++ 34 ∷ []) first ∙ append_assoc (old ++ 34 ∷ []) w (34 ∷ [])
-    ∙ append_assoc old (34 ∷ []) (w ++ 34 ∷ []) ∙ ap (λ (l : List ℕ). old ++ 34 ∷ (l ++ 34 ∷ [])) (sym plain)
-quoted_said (Err refused) old t u new w first second plain third = tt
+quoted_said r old t u new w first second plain third = quoted_as r old t u new w w first second plain third
 
 named : (later : Bool) (n text more : List ℕ) → (comma_if later ++ ((34 ∷ n ++ 34 ∷ 58 ∷ []) ++ text)) ++ more ≡ comma_if later ++ ((34 ∷ (n ++ 34 ∷ [])) ++ 58 ∷ (text ++ more))
 named later n text more = simp append_assoc

@@ -14,8 +14,11 @@ use Rattle.zvt_till.specs.declared.outcomes.Cause.{Cause}
 use Rattle.zvt_till.specs.declared.outcomes.Outcome.{Outcome}
 use Rattle.zvt_report.specs.Members.{name_text, object_value, orders_value, said, value_data}
 use Rattle.zvt_report.specs.Objects.{again, close_members, code, code_of, command, look_members, maybe_cause, maybe_count, maybe_currency, maybe_receipt, other_members, payment_members, plain_members, reversal_members, summary_members, true_if, words}
+use Rattle.zvt_report.specs.CardObjects.{card_value, maybe_card, maybe_card_number}
+use Rattle.zvt_report.specs.Cards.{card_number}
 use Rattle.zvt_report.specs.CloseObjects.{book_member, difference_member, differs_member, explained_member, orders_of, receipts_member, receipts_of, stated_member}
 use Rattle.zvt_report.specs.Reading.{ObjectsReadBack, ReadsBack}
+use Rattle.zvt_report.specs.declared.cards.Card.{Card}
 use Rattle.zvt_report.specs.declared.card_totals.CardTotals.{CardTotals}
 use Rattle.zvt_report.specs.declared.closings.Closing.{Closing}
 use Rattle.zvt_report.specs.declared.explaining.Explained.{Explained}
@@ -107,6 +110,8 @@ value_ordered (value.Receipts first last) = refl
 value_ordered (value.Orders orders) = orders_ordered orders
 value_ordered (value.Currency currency) = refl
 value_ordered (value.Word w) = refl
+value_ordered (value.CardName name) = refl
+value_ordered (value.CardNumber number) = refl
 
 said_ordered : (ms : List (Option Member)) (ns before : List Name) (found : Members) → AreNamed ms ns → in_order before ns ≡ true → Covers before found → members_ordered (said ms) found ≡ true
 said_ordered [] ns before found named order covers = refl
@@ -148,6 +153,8 @@ value_shallow (value.Receipts first last) = omega arith
 value_shallow (value.Orders orders) = orders_shallow orders
 value_shallow (value.Currency currency) = omega arith
 value_shallow (value.Word w) = omega arith
+value_shallow (value.CardName name) = omega arith
+value_shallow (value.CardNumber number) = omega arith
 
 said_shallow : (ms : List (Option Member)) → members_depth (said ms) ≤ 1
 said_shallow [] = omega arith
@@ -173,6 +180,20 @@ cause_named n (Some cause) = refl
 receipt_named : (receipt : Option (List ℕ)) → IsNamed (maybe_receipt receipt) name.Receipt
 receipt_named None = tt
 receipt_named (Some receipt) = refl
+
+valued : (n : Name) (v : Option Value) → IsNamed (option_map (λ (w : Value). record { name = n; value = w }) v) n
+valued n None = tt
+valued n (Some v) = refl
+
+card_named : (card : Option Card) → IsNamed (maybe_card card) name.Card
+card_named card = valued name.Card (option_and_then (λ (c : Card). card_value c.card_type c.name) card)
+
+numbered : (number : Option (List ℕ)) → IsNamed (option_map (λ (n : List ℕ). record { name = name.CardNumber; value = value.CardNumber n }) number) name.CardNumber
+numbered None = tt
+numbered (Some number) = refl
+
+card_number_named : (card : Option Card) → IsNamed (maybe_card_number card) name.CardNumber
+card_number_named card = numbered (card_number card)
 
 currency_named : (currency : Option ℕ) → IsNamed (maybe_currency currency) name.Currency
 currency_named None = tt
@@ -261,7 +282,7 @@ abbrev names_of_look : List Name
 names_of_look = name.Again ∷ name.Case ∷ name.Cause ∷ name.Lines ∷ name.Order ∷ name.Payment ∷ name.Weight ∷ []
 
 abbrev names_of_payment : List Name
-names_of_payment = name.Amount ∷ name.Approved ∷ name.Cause ∷ name.Code ∷ name.Lines ∷ name.Order ∷ name.Outcome ∷ name.Payment ∷ name.Receipt ∷ name.ReversalUnclear ∷ name.ReversedBy ∷ name.TakenBack ∷ name.Trace ∷ name.Words ∷ []
+names_of_payment = name.Amount ∷ name.Approved ∷ name.Card ∷ name.CardNumber ∷ name.Cause ∷ name.Code ∷ name.Lines ∷ name.Order ∷ name.Outcome ∷ name.Payment ∷ name.Receipt ∷ name.ReversalUnclear ∷ name.ReversedBy ∷ name.TakenBack ∷ name.Trace ∷ name.Words ∷ []
 
 abbrev names_of_reversal : List Name
 names_of_reversal = name.Amount ∷ name.Cause ∷ name.Code ∷ name.Lines ∷ name.Order ∷ name.Outcome ∷ name.Payment ∷ name.Receipt ∷ name.Words ∷ []
@@ -279,7 +300,7 @@ pub objects_read_back : ObjectsReadBack
 objects_read_back = (
   (λ tally currency books messages looks. read_named object_of.Summary (summary_members tally currency books messages looks) names_of_summary (refl, (refl, (currency_named currency, (refl, (refl, (refl, (refl, (refl, (refl, (refl, (refl, (refl, tt)))))))))))) refl),
   (λ rows look row. read_named object_of.Look (look_members rows look row) names_of_look (again_named look.again, (refl, (cause_named name.Cause _, (refl, (refl, (count_named name.Payment _, (refl, tt))))))) refl),
-  (λ books place row amount. read_named object_of.Payment (payment_members books place row amount) names_of_payment (refl, (count_named name.Approved _, (cause_named name.Cause _, (code_named row.outcome, (refl, (refl, (refl, (count_named name.Payment _, (receipt_named _, (cause_named name.ReversalUnclear _, (count_named name.ReversedBy _, (true_named name.TakenBack _, (count_named name.Trace _, (words_named row.outcome, tt)))))))))))))) refl),
+  (λ books place row amount. read_named object_of.Payment (payment_members books place row amount) names_of_payment (refl, (count_named name.Approved _, (card_named row.card, (card_number_named row.card, (cause_named name.Cause _, (code_named row.outcome, (refl, (refl, (refl, (count_named name.Payment _, (receipt_named _, (cause_named name.ReversalUnclear _, (count_named name.ReversedBy _, (true_named name.TakenBack _, (count_named name.Trace _, (words_named row.outcome, tt)))))))))))))))) refl),
   (λ books place row message. read_named object_of.Reversal (reversal_members books place row message) names_of_reversal (count_named name.Amount _, (cause_named name.Cause _, (code_named row.outcome, (refl, (refl, (refl, (count_named name.Payment _, (receipt_named message.receipt, (words_named row.outcome, tt))))))))) refl),
   (λ place row message. read_named object_of.Other (other_members place row message) names_of_other (count_named name.Amount _, (cause_named name.Cause _, (code_named row.outcome, (refl, (refl, (command_named message, (refl, (refl, (words_named row.outcome, tt))))))))) refl),
   (λ closing place row. read_named object_of.Close (close_members closing place row) names_of_close (book_named closing, (cause_named name.Cause _, (code_named row.outcome, (differs_named closing, (explained_named closing, (refl, (refl, (refl, (receipts_named closing, (stated_named closing, (words_named row.outcome, tt))))))))))) refl),

@@ -1,6 +1,7 @@
 -- What a hearing becomes by an event, and what was stated after all events.
 use Rattle.std.proofs.Common.{◌≡◌, ℕ, Bool, true, false, cond, ◌||◌, List, [], ◌∷◌, ◌++◌, Option, Some, None, IfSome, fold, map, refl, sym, ◌∙◌, ap, ap₂, append_assoc}
 use Rattle.std.specs.List.{cons_option, list_any}
+use Rattle.std.specs.Option.{option_or}
 use Rattle.std.specs.Prelude.{is_some}
 use Rattle.zvt_stream.specs.declared.head.Head.{Head}
 use Rattle.zvt_grammar.specs.declared.why.Why.{Why}
@@ -14,7 +15,8 @@ use Rattle.zvt_trace.specs.TraceEvent as trace_event
 use Rattle.zvt_trace.specs.declared.direction.Direction.{Direction}
 use Rattle.zvt_trace.specs.declared.direction.Direction.TheVariants.{FromTill, FromTerminal}
 use Rattle.zvt_report.specs.Reported.{beginning}
-use Rattle.zvt_report.specs.Statements.{Begins, Ends, States, accepts, after_status, answered, attends, attention, begins, closed_by, declines_by, ends_by, heard_statuses, latest, no_statement, opened, stated, stated_by, stated_with, statements_of, stating, statuses_in, total_by, totals_of}
+use Rattle.zvt_report.specs.Statements.{Begins, Ends, States, accepts, after_status, answered, attends, attention, begins, card_by, closed_by, declines_by, ends_by, first_card, heard_statuses, latest, no_statement, opened, stated, stated_by, stated_with, statements_of, stating, statuses_in, total_by, totals_of}
+use Rattle.zvt_report.specs.declared.cards.Card.{Card}
 use Rattle.zvt_report.specs.declared.statements.Attention.{Attention}
 use Rattle.zvt_report.specs.declared.statements.Hearing.{Hearing}
 use Rattle.zvt_report.specs.declared.statements.Statement.{Statement}
@@ -29,12 +31,21 @@ or_assoc : (a b c : Bool) → ((a || b) || c) ≡ (a || (b || c))
 or_assoc true b c = refl
 or_assoc false b c = refl
 
+or_first : (a b c : Option Card) → option_or (option_or a b) c ≡ option_or a (option_or b c)
+or_first None b c = refl
+or_first (Some card) b c = refl
+
+or_none : (a : Option Card) → option_or a None ≡ a
+or_none None = refl
+or_none (Some card) = refl
+
 after_all : (s : Statement) (heard : List (List Field))
-    → fold after_status s heard ≡ record { declines = s.declines || list_any declines_by heard; total = latest s.total total_by heard; totals = latest s.totals totals_of heard }
-after_all s [] = ap (λ (d : Bool). record { declines = d; total = s.total; totals = s.totals }) (sym (or_false s.declines))
+    → fold after_status s heard ≡ record { declines = s.declines || list_any declines_by heard; total = latest s.total total_by heard; totals = latest s.totals totals_of heard; card = option_or s.card (first_card heard) }
+after_all s [] = ap₂ (λ (d : Bool) (c : Option Card). record { declines = d; total = s.total; totals = s.totals; card = c }) (sym (or_false s.declines)) (sym (or_none s.card))
 after_all s (f ∷ heard) =
     after_all (after_status s f) heard
-    ∙ ap (λ (d : Bool). record { declines = d; total = latest (total_by f) total_by heard; totals = latest (totals_of f) totals_of heard }) (or_assoc s.declines (declines_by f) (list_any declines_by heard))
+    ∙ ap₂ (λ (d : Bool) (c : Option Card). record { declines = d; total = latest (total_by f) total_by heard; totals = latest (totals_of f) totals_of heard; card = c })
+    (or_assoc s.declines (declines_by f) (list_any declines_by heard)) (or_first s.card (card_by f) (first_card heard))
 
 all_stated_by : (heard : List (List Field)) → fold after_status no_statement heard ≡ stated_by heard
 all_stated_by heard = after_all no_statement heard

@@ -79,7 +79,7 @@ closings_text decimals closings rows = closings_from decimals closings rows 0 ro
 -- ---- rows worked by hand
 
 abbrev a_close : OrderRow
-a_close = record { order = CloseDay; first = 346; last = 366; outcome = DayClosed; approval = None; time = None }
+a_close = record { order = CloseDay; first = 346; last = 366; outcome = DayClosed; approval = None; time = None; card = None }
 
 abbrev a_closing : (booked taken_back : ℕ) → Closing
 a_closing booked taken_back =

@@ -119,13 +119,13 @@ closings book statements messages rows = closings_from book statements messages 
 -- ---- rows worked by hand
 
 abbrev a_row : Sent → Outcome → OrderRow
-a_row order outcome = record { order = order; first = 1; last = 2; outcome = outcome; approval = None; time = None }
+a_row order outcome = record { order = order; first = 1; last = 2; outcome = outcome; approval = None; time = None; card = None }
 
 abbrev an_entry : (amount : ℕ) → Entry
 an_entry amount = record { amount = amount; trace = 17; receipt = None; reversed = true; doubt = No }
 
 abbrev totalled : (total : ℕ) → Statement
-totalled total = record { declines = false; total = Some total; totals = None }
+totalled total = record { declines = false; total = Some total; totals = None; card = None }
 
 abbrev a_closing : (stated booked taken_back : ℕ) → Closing
 a_closing stated booked taken_back = record { stated = Some stated; totals = None; booked = booked; taken_back = taken_back; covered = Some (stated + taken_back); explained = Nothing }

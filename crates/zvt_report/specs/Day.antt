@@ -58,6 +58,7 @@ row_of book unclear c =
       outcome = outcome_at book unclear c.currency (judged_as c.order) (ended c);
       approval = first_approval (heeded c.answers (ended c));
       time = None;
+      card = None;
     }
 
 -- the book with its marks, the unclear payments, and a row for each order

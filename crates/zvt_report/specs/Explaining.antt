@@ -132,7 +132,7 @@ no_set : explain 0 400 (item 500 true 1 ∷ []) ≡ Nothing
 no_set = refl
 
 abbrev a_row : Sent → Outcome → OrderRow
-a_row order outcome = record { order = order; first = 1; last = 2; outcome = outcome; approval = Some (record { line = 2; amount = 700; trace = None; receipt = None }); time = None }
+a_row order outcome = record { order = order; first = 1; last = 2; outcome = outcome; approval = Some (record { line = 2; amount = 700; trace = None; receipt = None }); time = None; card = None }
 
 abbrev a_message : (low : ℕ) → Option ℕ → OrderMessage
 a_message low amount = record { high = 0x06; low = low; amount = amount; receipt = None }

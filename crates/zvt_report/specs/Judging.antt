@@ -50,7 +50,7 @@ goes_on book unclear o n =
 
 -- its row, if it ends like this at this line
 abbrev pub row_at : OpenOrder → (last : ℕ) → Outcome → OrderRow
-row_at o last outcome = record { order = o.sent; first = o.first; last = last; outcome = outcome; approval = o.approval; time = None }
+row_at o last outcome = record { order = o.sent; first = o.first; last = last; outcome = outcome; approval = o.approval; time = None; card = None }
 
 -- ---- the day so far
 

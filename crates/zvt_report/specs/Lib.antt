@@ -2,10 +2,14 @@ pub mod Chapters
 pub mod Day
 pub mod Judging
 pub mod Laws
+pub mod Alike
 pub mod Looks
 pub mod Naming
 pub mod Reported
 pub mod CardTotals
+pub mod Cards
+pub mod CardTexts
+pub mod CardObjects
 pub mod Statements
 pub mod Settling
 pub mod Explaining

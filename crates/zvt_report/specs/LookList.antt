@@ -100,10 +100,10 @@ looks_text decimals book rows (look ∷ looks) = listed_looks decimals book rows
 
 abbrev a_payment : (amount first : ℕ) → OrderRow
 a_payment amount first =
-    record { order = Pay amount; first = first; last = first + 8; outcome = Unclear Line; approval = Some (record { line = first + 6; amount = amount; trace = Some 20; receipt = Some (0 ∷ 8 ∷ []) }); time = None }
+    record { order = Pay amount; first = first; last = first + 8; outcome = Unclear Line; approval = Some (record { line = first + 6; amount = amount; trace = Some 20; receipt = Some (0 ∷ 8 ∷ []) }); time = None; card = None }
 
 abbrev an_end : OrderRow
-an_end = record { order = CloseDay; first = 10; last = 16; outcome = Unclear Line; approval = None; time = Some (moment 2026 11 28 18 30 1 0) }
+an_end = record { order = CloseDay; first = 10; last = 16; outcome = Unclear Line; approval = None; time = Some (moment 2026 11 28 18 30 1 0); card = None }
 
 -- the end of day is the first order, and not urgent
 urgent_first :

@@ -9,9 +9,10 @@ use Rattle.zvt_till.specs.declared.happenings.Sent.TheVariants.{Register, Pay, R
 use Rattle.zvt_till.specs.declared.outcomes.Cause.TheVariants.{Line, NoStatus}
 use Rattle.zvt_till.specs.declared.outcomes.Outcome.{Outcome}
 use Rattle.zvt_till.specs.declared.outcomes.Outcome.TheVariants.{Registered, Paid, Declined, Refused, Aborted, Unclear, Reversed, DayClosed}
+use Rattle.zvt_report.specs.Alike.{is_marked, repeated_at, repeated_payments}
 use Rattle.zvt_report.specs.Differing.{differs_at}
 use Rattle.zvt_report.specs.declared.cases.Case.{Case}
-use Rattle.zvt_report.specs.declared.cases.Case.TheVariants.{ApprovedNotCompleted, OtherAmount, PaymentUnclear, ReversalUnclear, TakenBackBefore, ReversalRefused, CloseUnclear, CloseRefused, CloseDiffers}
+use Rattle.zvt_report.specs.declared.cases.Case.TheVariants.{ApprovedNotCompleted, OtherAmount, PaymentUnclear, PaidAlike, ReversalUnclear, TakenBackBefore, ReversalRefused, CloseUnclear, CloseRefused, CloseDiffers}
 use Rattle.zvt_report.specs.declared.cases.Look.{Look}
 use Rattle.zvt_report.specs.declared.cases.Weight.{Weight}
 use Rattle.zvt_report.specs.declared.cases.Weight.TheVariants.{Act, Check}
@@ -54,10 +55,6 @@ decides_as Foreign outcome place = false
 abbrev pub decides : (place : ℕ) → OrderRow → Bool
 decides place row = decides_as row.order row.outcome place
 
--- the entry at this place is marked as reversed
-abbrev pub is_marked : List Entry → (place : ℕ) → Bool
-is_marked book place = elim (slice_get book place) [ None ↦ false | Some entry ↦ entry.reversed ]
-
 -- ---- one row
 
 -- an unclear payment: by the first approval that the terminal stated for it
@@ -92,24 +89,30 @@ close_case differs (Unclear cause) = Some CloseUnclear
 close_case differs Reversed = None
 close_case differs DayClosed = cond differs (Some CloseDiffers) None
 
-abbrev pub unclear_case : (amount : ℕ) → Option Approval → Outcome → Option Case
-unclear_case amount approval Registered = None
-unclear_case amount approval (Paid trace receipt) = None
-unclear_case amount approval (Declined code) = None
-unclear_case amount approval (Refused code) = None
-unclear_case amount approval (Aborted code) = None
-unclear_case amount approval (Unclear cause) = Some (payment_case amount approval)
-unclear_case amount approval Reversed = None
-unclear_case amount approval DayClosed = None
+-- a booked payment, which repeats an earlier one or not
+abbrev pub alike_case : (repeats : Option ℕ) → Option Case
+alike_case None = None
+alike_case (Some earlier) = Some PaidAlike
 
--- why to look at an order, in this book, before these later rows
-abbrev pub case_as : List Entry → (differs : Bool) → (later : List OrderRow) → Option Approval → Outcome → Sent → Option Case
-case_as book differs later approval outcome (Register c) = None
-case_as book differs later approval outcome (Pay a) = unclear_case a approval outcome
-case_as book differs later approval outcome (Reverse e) = reversal_case book e (list_any (decides e) later) outcome
-case_as book differs later approval outcome CloseDay = close_case differs outcome
-case_as book differs later approval outcome Cancel = None
-case_as book differs later approval outcome Foreign = None
+-- a payment
+abbrev pub paid_case : (amount : ℕ) → (repeats : Option ℕ) → Option Approval → Outcome → Option Case
+paid_case amount repeats approval Registered = None
+paid_case amount repeats approval (Paid trace receipt) = alike_case repeats
+paid_case amount repeats approval (Declined code) = None
+paid_case amount repeats approval (Refused code) = None
+paid_case amount repeats approval (Aborted code) = None
+paid_case amount repeats approval (Unclear cause) = Some (payment_case amount approval)
+paid_case amount repeats approval Reversed = None
+paid_case amount repeats approval DayClosed = None
+
+-- why to look at an order, in this book, before these later rows; a payment repeats an earlier one or not
+abbrev pub case_as : List Entry → (differs : Bool) → (repeats : Option ℕ) → (later : List OrderRow) → Option Approval → Outcome → Sent → Option Case
+case_as book differs repeats later approval outcome (Register c) = None
+case_as book differs repeats later approval outcome (Pay a) = paid_case a repeats approval outcome
+case_as book differs repeats later approval outcome (Reverse e) = reversal_case book e (list_any (decides e) later) outcome
+case_as book differs repeats later approval outcome CloseDay = close_case differs outcome
+case_as book differs repeats later approval outcome Cancel = None
+case_as book differs repeats later approval outcome Foreign = None
 
 -- the first later payment of the same amount that is booked or unclear; the first later row has this place
 abbrev pub paid_again : Sent → (place : ℕ) → (later : List OrderRow) → Option ℕ
@@ -120,14 +123,29 @@ paid_again CloseDay place later = None
 paid_again Cancel place later = None
 paid_again Foreign place later = None
 
-abbrev pub look_at : List Entry → List (Option Closing) → (place : ℕ) → OrderRow → (later : List OrderRow) → Option Look
-look_at book closings place row later =
-    option_map (λ case. record { case = case; order = place; again = paid_again row.order (place + 1) later }) (case_as book (differs_at closings place) later row.approval row.outcome row.order)
+-- the other payment of a case: the one before it with the same card, or the one after it
+abbrev pub other_payment : Case → (repeats again : Option ℕ) → Option ℕ
+other_payment ApprovedNotCompleted repeats again = again
+other_payment OtherAmount repeats again = again
+other_payment PaymentUnclear repeats again = again
+other_payment PaidAlike repeats again = repeats
+other_payment ReversalUnclear repeats again = again
+other_payment TakenBackBefore repeats again = again
+other_payment ReversalRefused repeats again = again
+other_payment CloseUnclear repeats again = again
+other_payment CloseRefused repeats again = again
+other_payment CloseDiffers repeats again = again
+
+abbrev pub look_at : List Entry → List (Option Closing) → List (Option ℕ) → (place : ℕ) → OrderRow → (later : List OrderRow) → Option Look
+look_at book closings repeated place row later =
+    option_map (λ case. record { case = case; order = place; again = other_payment case (repeated_at repeated place) (paid_again row.order (place + 1) later) })
+    (case_as book (differs_at closings place) (repeated_at repeated place) later row.approval row.outcome row.order)
 
 abbrev pub weight_of : Case → Weight
 weight_of ApprovedNotCompleted = Act
 weight_of OtherAmount = Act
 weight_of PaymentUnclear = Check
+weight_of PaidAlike = Check
 weight_of ReversalUnclear = Act
 weight_of TakenBackBefore = Act
 weight_of ReversalRefused = Check
@@ -137,13 +155,13 @@ weight_of CloseDiffers = Check
 
 -- ---- all rows
 
-abbrev pub looks_from : List Entry → List (Option Closing) → (place : ℕ) → List OrderRow → List Look
-looks_from book closings place [] = []
-looks_from book closings place (row ∷ later) = cons_option (look_at book closings place row later) (looks_from book closings (place + 1) later)
+abbrev pub looks_from : List Entry → List (Option Closing) → List (Option ℕ) → (place : ℕ) → List OrderRow → List Look
+looks_from book closings repeated place [] = []
+looks_from book closings repeated place (row ∷ later) = cons_option (look_at book closings repeated place row later) (looks_from book closings repeated (place + 1) later)
 
 -- in the order of the rows
 abbrev pub looks : List Entry → List (Option Closing) → List OrderRow → List Look
-looks book closings rows = looks_from book closings 0 rows
+looks book closings rows = looks_from book closings (repeated_payments book rows) 0 rows
 
 -- ---- laws
 
@@ -160,6 +178,7 @@ abbrev pub is_of_payment : Case → Bool
 is_of_payment ApprovedNotCompleted = true
 is_of_payment OtherAmount = true
 is_of_payment PaymentUnclear = true
+is_of_payment PaidAlike = false
 is_of_payment ReversalUnclear = false
 is_of_payment TakenBackBefore = false
 is_of_payment ReversalRefused = false
@@ -167,12 +186,12 @@ is_of_payment CloseUnclear = false
 is_of_payment CloseRefused = false
 is_of_payment CloseDiffers = false
 
--- the places of these looks that are about a payment
+-- the places of these looks that are about an unclear payment
 abbrev pub payments_looked_at : List Look → List ℕ
 payments_looked_at [] = []
 payments_looked_at (look ∷ more) = cond (is_of_payment look.case) (look.order ∷ []) [] ++ payments_looked_at more
 
--- each unclear payment is looked at once, and no other payment is
+-- each unclear payment is looked at once, and no other payment is called unclear
 abbrev pub EachPaymentIsLookedAt : Type 0
 EachPaymentIsLookedAt = (book : List Entry) (closings : List (Option Closing)) (rows : List OrderRow) → payments_looked_at (looks book closings rows) ≡ unclear_places 0 rows
 
@@ -198,6 +217,7 @@ abbrev pub is_of_reversal : Case → Bool
 is_of_reversal ApprovedNotCompleted = false
 is_of_reversal OtherAmount = false
 is_of_reversal PaymentUnclear = false
+is_of_reversal PaidAlike = false
 is_of_reversal ReversalUnclear = true
 is_of_reversal TakenBackBefore = false
 is_of_reversal ReversalRefused = false
@@ -217,7 +237,7 @@ EachReversalIsLookedAt = (book : List Entry) (closings : List (Option Closing)) 
 -- ---- rows worked by hand
 
 abbrev a_row : Sent → Outcome → Option Approval → OrderRow
-a_row order outcome approval = record { order = order; first = 1; last = 2; outcome = outcome; approval = approval; time = None }
+a_row order outcome approval = record { order = order; first = 1; last = 2; outcome = outcome; approval = approval; time = None; card = None }
 
 abbrev approved : ℕ → Option Approval
 approved amount = Some (record { line = 2; amount = amount; trace = Some 20; receipt = None })
@@ -238,6 +258,12 @@ an_entry reversed = record { amount = 500; trace = 1; receipt = None; reversed =
 -- a second reversal decided what the first one left open
 decided_later : looks (an_entry true ∷ []) [] (a_row (Reverse 0) (Unclear Line) None ∷ a_row (Reverse 0) Reversed None ∷ a_row (Reverse 0) (Aborted 0xB4) None ∷ []) ≡ []
 decided_later = refl
+
+abbrev by_card : OrderRow
+by_card = record { order = Pay 500; first = 1; last = 2; outcome = Paid 1 None; approval = None; time = None; card = Some (record { card_type = None; name = None; number = Some (0x12 ∷ []) }) }
+
+paid_alike : looks (an_entry false ∷ an_entry false ∷ []) [] (by_card ∷ by_card ∷ []) ≡ looked PaidAlike 1 (Some 0) ∷ []
+paid_alike = refl
 
 taken_back_before : looks (an_entry false ∷ []) [] (a_row (Reverse 0) (Unclear Line) None ∷ a_row (Reverse 0) (Refused 0xB4) None ∷ a_row CloseDay (Aborted 0x6C) None ∷ []) ≡ looked TakenBackBefore 1 None ∷ looked CloseRefused 2 None ∷ []
 taken_back_before = refl

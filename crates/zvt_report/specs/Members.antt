@@ -7,10 +7,11 @@ use Rattle.serde_json.specs.Data.{Data, string, boolean, number, negative, array
 use Rattle.serde_json.specs.Written.{comma_if, compact_text}
 use Rattle.zvt_json.specs.Strings.{count_value, byte_value, hex_value, line_text}
 use Rattle.zvt_text.specs.MessageTexts.{four_digits}
-use Rattle.zvt_text.specs.Meanings.{command_name, meaning_of}
+use Rattle.zvt_text.specs.Meanings.{card_type_name, command_name, meaning_of}
 use Rattle.zvt_trace.specs.Marks.{moment_text}
 use Rattle.zvt_till.specs.Names.{cause_name}
 use Rattle.zvt_till.specs.declared.outcomes.Cause.TheVariants.{NoStatus}
+use Rattle.zvt_report.specs.CardTexts.{characters, number_text}
 use Rattle.zvt_report.specs.Words.{case_name, ending_name, weight_name}
 use Rattle.zvt_report.specs.declared.explaining.Explained.{Explained}
 use Rattle.zvt_report.specs.declared.explaining.Explained.TheVariants as explained
@@ -40,6 +41,8 @@ name_text name.Approved = codes "approved"
 name_text name.Bad = codes "bad"
 name_text name.Book = codes "book"
 name_text name.Booked = codes "booked"
+name_text name.Card = codes "card"
+name_text name.CardNumber = codes "card_number"
 name_text name.Case = codes "case"
 name_text name.Cause = codes "cause"
 name_text name.Code = codes "code"
@@ -83,6 +86,7 @@ word_text (word.Cause cause) = cause_name cause
 word_text (word.Ending ending) = ending_name ending
 word_text (word.Meaning code) = unwrap_or (meaning_of code) []
 word_text (word.Command high low) = unwrap_or (command_name high low) []
+word_text (word.CardType card_type) = unwrap_or (card_type_name card_type) []
 
 abbrev pub lines_value : (first last : ℕ) → Data
 lines_value first last = array (item (count_value first) (item (count_value last) no_items))
@@ -118,6 +122,8 @@ value_data (value.Orders orders) = orders_value orders
 value_data (value.Currency currency) = string (four_digits currency)
 value_data (value.Moment moment) = string (moment_text moment)
 value_data (value.Word w) = string (word_text w)
+value_data (value.CardName letters) = string (characters (codes "\\x") letters)
+value_data (value.CardNumber masked) = string (number_text masked)
 
 -- the members that have a value
 abbrev pub said : List (Option Member) → Members
@@ -158,6 +164,11 @@ a_close : object_text object_of.Close (of name.Book (value.Difference 500 200) �
     ≡ codes "{\"close\":{\"book\":300,\"differs\":-500,\"receipts\":[\"0005\",\"0015\"]}}\n"
 unfolding object_text digits escape_byte encode_with
 a_close = refl
+
+a_card : object_text object_of.Payment (of name.Card (value.CardName (codes "a\\" ++ 0 ∷ [])) ∷ of name.CardNumber (value.CardNumber (0x67 ∷ 0xEE ∷ 0x1F ∷ [])) ∷ [])
+    ≡ codes "{\"payment\":{\"card\":\"a\\\\x5C\",\"card_number\":\"67EE1\"}}\n"
+unfolding object_text digits escape_byte encode_with
+a_card = refl
 
 no_member : object_text object_of.Close (None ∷ []) ≡ codes "{\"close\":{}}\n"
 unfolding object_text escape_byte

@@ -18,6 +18,7 @@ use Rattle.zvt_till.specs.declared.outcomes.Outcome.{Outcome}
 use Rattle.zvt_till.specs.declared.outcomes.Outcome.TheVariants as outcome
 use Rattle.zvt_trace.specs.Marks.{moment}
 use Rattle.zvt_trace.specs.declared.fault.Tally.{Tally}
+use Rattle.zvt_report.specs.CardObjects.{maybe_card, maybe_card_number}
 use Rattle.zvt_report.specs.CloseObjects.{book_member, differs_member, explained_member, receipts_member, stated_member}
 use Rattle.zvt_report.specs.Differing.{closing_at}
 use Rattle.zvt_report.specs.Day.{DayValue}
@@ -152,6 +153,8 @@ abbrev pub payment_members : DayValue → Place → OrderRow → (amount : ℕ) 
 payment_members books place row amount =
     count name.Amount amount
     ∷ maybe_count name.Approved (approved_of row)
+    ∷ maybe_card row.card
+    ∷ maybe_card_number row.card
     ∷ maybe_cause name.Cause (cause_of row.outcome)
     ∷ code row.outcome
     ∷ lines row
@@ -332,7 +335,7 @@ report_json tally currency times books messages closings looks =
 -- ---- rows worked by hand
 
 abbrev a_row : Sent → ℕ → ℕ → Outcome → Option Approval → OrderRow
-a_row order first last outcome approval = record { order = order; first = first; last = last; outcome = outcome; approval = approval; time = None }
+a_row order first last outcome approval = record { order = order; first = first; last = last; outcome = outcome; approval = approval; time = None; card = None }
 
 abbrev a_message : ℕ → Option ℕ → Option (List ℕ) → OrderMessage
 a_message low amount receipt = record { high = 0x06; low = low; amount = amount; receipt = receipt }

@@ -98,9 +98,9 @@ an_entry = record { amount = 1500; trace = 25; receipt = Some (0 ∷ 0x13 ∷ []
 
 two_orders :
     others_text Two (an_entry ∷ []) (a_registration ∷ a_refund ∷ a_reversal ∷ [])
-    (record { order = Register None; first = 4; last = 10; outcome = Registered; approval = None; time = None }
-    ∷ record { order = Foreign; first = 184; last = 202; outcome = DayClosed; approval = None; time = None }
-    ∷ record { order = Reverse 0; first = 288; last = 302; outcome = Reversed; approval = None; time = Some (moment 2026 11 28 16 41 12 0) }
+    (record { order = Register None; first = 4; last = 10; outcome = Registered; approval = None; time = None; card = None }
+    ∷ record { order = Foreign; first = 184; last = 202; outcome = DayClosed; approval = None; time = None; card = None }
+    ∷ record { order = Reverse 0; first = 288; last = 302; outcome = Reversed; approval = None; time = Some (moment 2026 11 28 16 41 12 0); card = None }
     ∷ [])
     ≡ codes "\nReversals and other orders that move money\n"
     ++ codes "  Time          Amount     Receipt    Lines          Order\n"

@@ -56,7 +56,7 @@ closings_section decimals closings rows =
 -- ---- a row worked by hand
 
 a_difference : render (closing_rows Two (Some (record { stated = Some 17212; totals = None; booked = 15713; taken_back = 1500; covered = Some 18712; explained = Nothing }) ∷ []) 0
-    (record { order = CloseDay; first = 346; last = 366; outcome = DayClosed; approval = None; time = None } ∷ []))
+    (record { order = CloseDay; first = 346; last = 366; outcome = DayClosed; approval = None; time = None; card = None } ∷ []))
     ≡ codes "<tr><td class=\"n am\">172.12</td><td class=\"n am\">142.13</td><td class=\"n am\">29.99</td><td class=\"ln\">346-366</td></tr>"
 unfolding amount_text attribute_text closing_row digits end_tag escaped lines_cell start_tag
 a_difference = refl

@@ -80,7 +80,7 @@ looks_section decimals books looks = both look_heading (items_or_none decimals b
 -- ---- a row worked by hand
 
 abbrev an_end : OrderRow
-an_end = record { order = CloseDay; first = 10; last = 16; outcome = Unclear Line; approval = None; time = Some (moment 2026 11 28 18 30 1 0) }
+an_end = record { order = CloseDay; first = 10; last = 16; outcome = Unclear Line; approval = None; time = Some (moment 2026 11 28 18 30 1 0); card = None }
 
 an_item : render (item Two None an_end None CloseUnclear)
     ≡ codes "<li class=\"check\"><span class=\"sev\">Check</span><h3>End of day unclear</h3><span class=\"at\">18:30:01, lines 10-16</span>"

@@ -12,6 +12,7 @@ use Rattle.zvt_till.specs.declared.happenings.Sent.{Sent}
 use Rattle.zvt_till.specs.declared.happenings.Sent.TheVariants.{Pay}
 use Rattle.zvt_till.specs.declared.outcomes.Outcome.TheVariants.{Paid}
 use Rattle.zvt_report.specs.Amounts.{amount_text}
+use Rattle.zvt_report.specs.CardTexts.{card_or_nothing}
 use Rattle.zvt_report.specs.Day.{DayValue}
 use Rattle.zvt_report.specs.Kinds.{kind_of}
 use Rattle.zvt_report.specs.Objects.{amount_at, approved_of, entry_at, message_at, receipt_by, trace_by}
@@ -21,6 +22,7 @@ use Rattle.zvt_report.specs.PaymentTable.{explained, outcome_text, payment_text}
 use Rattle.zvt_report.specs.Places.{counted, no_counts, payments_in, place_after}
 use Rattle.zvt_report.specs.Times.{have_times}
 use Rattle.zvt_report.specs.Tones.{outcome_tone, payment_tone, row_class}
+use Rattle.zvt_report.specs.declared.cards.Card.{Card}
 use Rattle.zvt_report.specs.declared.currencies.Decimals.{Decimals}
 use Rattle.zvt_report.specs.declared.currencies.Decimals.TheVariants.{Two}
 use Rattle.zvt_report.specs.declared.kinds.OrderKind.{OrderKind}
@@ -39,7 +41,10 @@ table head body = element Table ((Class, codes "t") ∷ []) (both (element Thead
 unfoldable pub payment_columns : (timed : Bool) → Html
 payment_columns timed =
     all (column (codes "i n") (codes "#") ∷ time_heading timed ∷ column (codes "n am") (codes "Amount") ∷ column (codes "ids") (codes "Trace") ∷ column (codes "rc") (codes "Receipt")
-    ∷ column (codes "oc") (codes "Outcome") ∷ column (codes "ln") (codes "Lines") ∷ [])
+    ∷ column (codes "ca") (codes "Card") ∷ column (codes "oc") (codes "Outcome") ∷ column (codes "ln") (codes "Lines") ∷ [])
+
+unfoldable pub card_cell : Option Card → Html
+card_cell card = leaf Td (codes "ca") (card_or_nothing card)
 
 unfoldable pub number_cell : (number : ℕ) → Html
 number_cell number = leaf Td (codes "i n") (decimal number)
@@ -52,7 +57,7 @@ unfoldable pub payment_row : (timed : Bool) → Decimals → (number : ℕ) → 
 payment_row timed decimals number entry row amount =
     element Tr (class_of (row_class (payment_tone entry row.outcome)))
     (all (number_cell number ∷ time_cell timed row.time ∷ amount_cell decimals (Some amount) ∷ trace_cell (trace_by row.outcome row.approval) ∷ receipt_cell (receipt_by row.outcome row.approval)
-    ∷ payment_end entry row ∷ lines_cell row.first row.last ∷ []))
+    ∷ card_cell row.card ∷ payment_end entry row ∷ lines_cell row.first row.last ∷ []))
 
 -- the row of an order, if it is a payment
 unfoldable pub payment_of : (timed : Bool) → Decimals → List Entry → Place → OrderRow → Sent → Html
@@ -133,10 +138,11 @@ others_section decimals books messages = cond (has_rows messages 0 books.orders)
 
 -- ---- a row worked by hand
 
+-- with a card name that looks like a tag
 abbrev a_payment : OrderRow
-a_payment = record { order = Pay 1234; first = 12; last = 38; outcome = Paid 17 (Some (0 ∷ 5 ∷ [])); approval = None; time = Some (moment 2026 11 28 8 14 3 0) }
+a_payment = record { order = Pay 1234; first = 12; last = 38; outcome = Paid 17 (Some (0 ∷ 5 ∷ [])); approval = None; time = Some (moment 2026 11 28 8 14 3 0); card = Some (record { card_type = None; name = Some (codes "<b>"); number = None }) }
 
 a_row : render (payment_row true Two 1 None a_payment 1234)
-    ≡ codes "<tr><td class=\"i n\">1</td><td class=\"tm\">08:14:03</td><td class=\"n am\">12.34</td><td class=\"ids\">000017</td><td class=\"rc\">0005</td><td class=\"oc\"><span class=\"dot c-ok\">paid</span></td><td class=\"ln\">12-38</td></tr>"
-unfolding amount_cell amount_text attribute_text digits encode_with end_tag escaped explained lines_cell number_cell outcome_cell outcome_text payment_end payment_row payment_text receipt_cell start_tag time_cell trace_cell
+    ≡ codes "<tr><td class=\"i n\">1</td><td class=\"tm\">08:14:03</td><td class=\"n am\">12.34</td><td class=\"ids\">000017</td><td class=\"rc\">0005</td><td class=\"ca\">&lt;b&gt;</td><td class=\"oc\"><span class=\"dot c-ok\">paid</span></td><td class=\"ln\">12-38</td></tr>"
+unfolding amount_cell amount_text attribute_text card_cell card_or_nothing digits encode_with end_tag escaped explained lines_cell number_cell outcome_cell outcome_text payment_end payment_row payment_text receipt_cell start_tag time_cell trace_cell
 a_row = refl

@@ -11,9 +11,23 @@ use Rattle.zvt_till.specs.declared.happenings.Sent.TheVariants.{Register, Pay, R
 use Rattle.zvt_till.specs.declared.outcomes.Outcome.{Outcome}
 use Rattle.zvt_till.specs.declared.outcomes.Outcome.TheVariants.{Registered, Paid, Declined, Refused, Aborted, Unclear, Reversed, DayClosed}
 use Rattle.zvt_report.specs.Amounts.{amount_text}
+use Rattle.zvt_report.specs.Objects.{receipt_by}
 use Rattle.zvt_report.specs.declared.currencies.Decimals.{Decimals}
 use Rattle.zvt_report.specs.declared.rows.Approval.{Approval}
 use Rattle.zvt_report.specs.declared.rows.OrderRow.{OrderRow}
+
+-- the receipt number of a payment, or that it is one
+abbrev pub payment_name : Option (List ℕ) → List ℕ
+payment_name None = codes "a payment"
+payment_name (Some receipt) = codes "receipt " ++ encode_upper receipt
+
+-- a booked payment, and where its order stands
+unfoldable pub payment_at : OrderRow → List ℕ
+payment_at row = payment_name (receipt_by row.outcome row.approval) ++ codes " (line " ++ decimal row.first ++ codes ")"
+
+unfoldable pub maybe_payment_at : Option OrderRow → List ℕ
+maybe_payment_at None = []
+maybe_payment_at (Some row) = payment_at row
 
 -- the amount of a payment, or of the payment that a reversal takes back
 abbrev pub amount_of : Option Entry → Sent → Option ℕ

@@ -109,7 +109,7 @@ PlacesNameEntries = (notes : List Noted) → booked_places (places (day_of notes
 -- ---- rows worked by hand
 
 abbrev a_row : Sent → Outcome → OrderRow
-a_row order outcome = record { order = order; first = 1; last = 2; outcome = outcome; approval = None; time = None }
+a_row order outcome = record { order = order; first = 1; last = 2; outcome = outcome; approval = None; time = None; card = None }
 
 abbrev a_place : ℕ → Option ℕ → Option ℕ → Place
 a_place order payment entry = record { order = order; payment = payment; entry = entry }

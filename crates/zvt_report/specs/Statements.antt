@@ -1,6 +1,7 @@
 -- What the terminal's status informations say about an order.
 use Rattle.std.specs.Prelude.{◌≡◌, ℕ, ◌==◌, Bool, true, false, not, cond, ◌||◌, List, [], ◌∷◌, ◌++◌, Option, Some, None, is_some, fold, map, refl}
 use Rattle.std.specs.List.{cons_option, list_any}
+use Rattle.std.specs.Option.{option_or}
 use Rattle.zvt_field.specs.Grammar.{Field, plain}
 use Rattle.zvt_field.specs.Named.{content_of, result_of}
 use Rattle.zvt_apdu.specs.Kinds.{kind_of}
@@ -17,8 +18,10 @@ use Rattle.zvt_trace.specs.TraceEvent as trace_event
 use Rattle.zvt_trace.specs.declared.direction.Direction.{Direction}
 use Rattle.zvt_trace.specs.declared.direction.Direction.TheVariants.{FromTill, FromTerminal}
 use Rattle.zvt_report.specs.CardTotals.{total_in, totals_in}
+use Rattle.zvt_report.specs.Cards.{card_in}
 use Rattle.zvt_report.specs.Reported.{beginning}
 use Rattle.zvt_report.specs.declared.card_totals.CardTotals.{CardTotals}
+use Rattle.zvt_report.specs.declared.cards.Card.{Card}
 use Rattle.zvt_report.specs.declared.statements.Attention.{Attention}
 use Rattle.zvt_report.specs.declared.statements.Hearing.{Hearing}
 use Rattle.zvt_report.specs.declared.statements.Statement.{Statement}
@@ -102,9 +105,22 @@ total_by fields = total_in (content_of 0x04 fields)
 abbrev pub totals_of : List Field → Option CardTotals
 totals_of fields = totals_in (content_of 0x60 fields)
 
+-- the card, if the result code is there once and is 00
+abbrev pub card_if : Option ℕ → List Field → Option Card
+card_if None fields = None
+card_if (Some code) fields = cond (code == 0) (card_in (content_of 0x8A fields) (content_of 0x8B fields) (content_of 0x22 fields)) None
+
+abbrev pub card_by : List Field → Option Card
+card_by fields = card_if (result_of fields) fields
+
+-- the first card that one of these statuses names
+abbrev pub first_card : List (List Field) → Option Card
+first_card [] = None
+first_card (fields ∷ more) = option_or (card_by fields) (first_card more)
+
 -- what these statuses say about their order
 abbrev pub stated_by : List (List Field) → Statement
-stated_by heard = record { declines = list_any declines_by heard; total = latest None total_by heard; totals = latest None totals_of heard }
+stated_by heard = record { declines = list_any declines_by heard; total = latest None total_by heard; totals = latest None totals_of heard; card = first_card heard }
 
 -- the statement about each order
 abbrev pub statements_of : List At → List Statement
@@ -113,10 +129,10 @@ statements_of events = map stated_by (answered events)
 -- ---- event by event
 
 abbrev pub no_statement : Statement
-no_statement = record { declines = false; total = None; totals = None }
+no_statement = record { declines = false; total = None; totals = None; card = None }
 
 abbrev pub after_status : Statement → List Field → Statement
-after_status before fields = record { declines = before.declines || declines_by fields; total = total_by fields; totals = totals_of fields }
+after_status before fields = record { declines = before.declines || declines_by fields; total = total_by fields; totals = totals_of fields; card = option_or before.card (card_by fields) }
 
 abbrev pub stated_with : Statement → Option (List Field) → Statement
 stated_with before None = before
@@ -165,9 +181,18 @@ from_terminal line m = on line (trace_event.message FromTerminal m)
 -- the last status counts; what comes after the completion does not
 a_close : statements_of (on 1 (trace_event.message FromTill (end_of_day (0 ∷ 0 ∷ 0 ∷ []) [])) ∷ from_terminal 2 (a_total 0x01) ∷ from_terminal 3 (a_total 0x02)
     ∷ from_terminal 4 (completion []) ∷ from_terminal 5 (a_total 0x03) ∷ [])
-    ≡ record { declines = false; total = Some 502; totals = None } ∷ []
+    ≡ record { declines = false; total = Some 502; totals = None; card = None } ∷ []
 a_close = refl
 
 a_decline : statements_of (on 1 (trace_event.message FromTill (end_of_day (0 ∷ 0 ∷ 0 ∷ []) [])) ∷ from_terminal 2 (status (plain 0x27 (0x6C ∷ []) ∷ [])) ∷ from_terminal 3 (a_total 0x02) ∷ [])
-    ≡ record { declines = true; total = Some 502; totals = None } ∷ []
+    ≡ record { declines = true; total = Some 502; totals = None; card = None } ∷ []
 a_decline = refl
+
+-- of two cards the first one counts, and none of a status that declines
+abbrev a_named_card : (result letter : ℕ) → Message
+a_named_card result letter = status (plain 0x27 (result ∷ []) ∷ plain 0x8B (letter ∷ []) ∷ [])
+
+its_card : map (λ (s : Statement). s.card) (statements_of (on 1 (trace_event.message FromTill (end_of_day (0 ∷ 0 ∷ 0 ∷ []) [])) ∷ from_terminal 2 (a_named_card 0x6C 65) ∷ from_terminal 3 (a_named_card 0x00 66)
+    ∷ from_terminal 4 (a_named_card 0x00 67) ∷ []))
+    ≡ card_in None (Some (66 ∷ [])) None ∷ []
+its_card = refl

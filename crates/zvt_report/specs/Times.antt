@@ -52,6 +52,7 @@ timed_row z times row =
       outcome = row.outcome;
       approval = row.approval;
       time = option_map (shown_in z) (time_at times row.first);
+      card = row.card;
     }
 
 abbrev pub timed_rows : Zone → List Timed → List OrderRow → List OrderRow
@@ -128,7 +129,7 @@ unfolding back_note bad_note clock_notes count_text digits
 a_bad_mark = refl
 
 abbrev a_row : (first : ℕ) → (time : Option Moment) → OrderRow
-a_row first time = record { order = CloseDay; first = first; last = 20; outcome = DayClosed; approval = None; time = time }
+a_row first time = record { order = CloseDay; first = first; last = 20; outcome = DayClosed; approval = None; time = time; card = None }
 
 two_rows : timed_rows (zone false 60) some_times (a_row 3 None ∷ a_row 12 None ∷ []) ≡ a_row 3 None ∷ a_row 12 (Some (moment 2026 11 29 0 10 5 0)) ∷ []
 two_rows = refl

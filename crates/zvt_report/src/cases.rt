@@ -1,10 +1,11 @@
 //! The orders that a person should look at, and why.
 ghost use Rattle.std.specs.Prelude.{◌≡◌, ◌+◌, ◌<◌, ◌^◌, IfOk, length};
 ghost use Rattle.std.specs.List.{list_any, position};
-ghost use Rattle.zvt_report.specs.Looks.{case_as, close_case, decides, decides_by, is_marked, look_at};
-ghost use Rattle.zvt_report.specs.Looks.{looks, may_pay, paid_again, payment_case, refused_case, reversal_case};
-ghost use Rattle.zvt_report.specs.Looks.{unclear_case};
+ghost use Rattle.zvt_report.specs.Looks.{alike_case, case_as, close_case, decides, decides_by, look_at, looks};
+ghost use Rattle.zvt_report.specs.Looks.{may_pay, other_payment, paid_again, paid_case, payment_case, refused_case};
+ghost use Rattle.zvt_report.specs.Looks.{reversal_case};
 
+use crate::alike::{is_marked, repeated_at, repeated_payments};
 use crate::closings::Closing;
 use crate::differing::differs_at;
 use crate::rows::{Approval, OrderRow};
@@ -48,6 +49,8 @@ pub enum Case {
     OtherAmount,
     /// It is unknown whether the payment took place, and no approval of it was heard.
     PaymentUnclear,
+    /// The card paid the same amount again, and both payments are booked.
+    PaidAlike,
     /// It is unknown whether the payment was taken back.
     ReversalUnclear,
     /// The terminal says that it had taken the payment back before.
@@ -75,6 +78,7 @@ impl Case {
             Case::ApprovedNotCompleted => "ApprovedNotCompleted",
             Case::OtherAmount => "OtherAmount",
             Case::PaymentUnclear => "PaymentUnclear",
+            Case::PaidAlike => "PaidAlike",
             Case::ReversalUnclear => "ReversalUnclear",
             Case::TakenBackBefore => "TakenBackBefore",
             Case::ReversalRefused => "ReversalRefused",
@@ -94,6 +98,7 @@ impl Case {
             | Case::ReversalUnclear
             | Case::TakenBackBefore => Weight::Act,
             Case::PaymentUnclear
+            | Case::PaidAlike
             | Case::ReversalRefused
             | Case::CloseUnclear
             | Case::CloseRefused
@@ -108,7 +113,8 @@ pub struct Look {
     pub case: Case,
     /// The index of the order's row, counted from 0.
     pub order: usize,
-    /// The index of the first later payment of the same amount that is booked or unclear.
+    /// The index of the first later payment of the same amount that is booked or unclear, or of the earlier payment that
+    /// this one is like.
     pub again: Option<usize>,
 }
 
@@ -140,16 +146,6 @@ fn decides(place: usize, row: &OrderRow) -> bool
     match &row.order {
         Sent::Reverse(own) => *own == place && decides_by(&row.outcome),
         _ => false,
-    }
-}
-
-/// Whether the entry at this place is marked as reversed.
-fn is_marked(book: &[Entry], place: usize) -> bool
-    ensures { result ≡ is_marked book.now place }
-{
-    match book.get(place) {
-        Some(entry) => entry.reversed,
-        None => false,
     }
 }
 
@@ -205,23 +201,45 @@ fn close_case(differs: bool, outcome: &Outcome) -> Option<Case>
     }
 }
 
-/// Returns why to look at a payment.
-fn unclear_case(amount: Amount, approval: &Option<Approval>, outcome: &Outcome) -> Option<Case>
-    ensures { result ≡ unclear_case amount approval.now outcome.now }
+/// Returns why to look at a booked payment, which repeats an earlier one or not.
+fn alike_case(repeats: Option<usize>) -> Option<Case>
+    ensures { result ≡ alike_case repeats }
+{
+    match repeats {
+        Some(_) => Some(Case::PaidAlike),
+        None => None,
+    }
+}
+
+/// Returns why to look at a payment, which repeats an earlier one or not.
+fn paid_case(
+    amount: Amount,
+    repeats: Option<usize>,
+    approval: &Option<Approval>,
+    outcome: &Outcome,
+) -> Option<Case>
+    ensures { result ≡ paid_case amount repeats approval.now outcome.now }
 {
     match outcome {
         Outcome::Unclear(_) => Some(payment_case(amount, approval)),
+        Outcome::Paid { .. } => alike_case(repeats),
         _ => None,
     }
 }
 
 /// Returns why to look at an order, given the book and the later orders. `differs` says whether the total of an end of
-/// day differs from the book.
-fn case_of(book: &[Entry], differs: bool, row: &OrderRow, later: &[OrderRow]) -> Option<Case>
-    ensures { result ≡ case_as book.now differs later.now row.now.approval row.now.outcome row.now.order }
+/// day differs from the book, and `repeats` which payment a payment repeats.
+fn case_of(
+    book: &[Entry],
+    differs: bool,
+    repeats: Option<usize>,
+    row: &OrderRow,
+    later: &[OrderRow],
+) -> Option<Case>
+    ensures { result ≡ case_as book.now differs repeats later.now row.now.approval row.now.outcome row.now.order }
 {
     match &row.order {
-        Sent::Pay(amount) => unclear_case(*amount, &row.approval, &row.outcome),
+        Sent::Pay(amount) => paid_case(*amount, repeats, &row.approval, &row.outcome),
         Sent::Reverse(place) => {
             let decided = is_decided(*place, later);
             reversal_case(book, *place, decided, &row.outcome)
@@ -258,21 +276,42 @@ fn paid_again(order: &Sent, place: usize, later: &[OrderRow]) -> Option<usize>
     Some(place + skipped)
 }
 
+/// Returns the place of the other payment of a case: the one that it repeats, or the first later one. The first later
+/// order has this place.
+fn other_payment(
+    case: Case,
+    repeats: Option<usize>,
+    order: &Sent,
+    place: usize,
+    later: &[OrderRow],
+) -> Option<usize>
+    requires { place + length later.now < 2 ^ 64 }
+    ensures { result ≡ other_payment case repeats (paid_again order.now place later.now) }
+{
+    match case {
+        Case::PaidAlike => repeats,
+        _ => paid_again(order, place, later),
+    }
+}
+
 /// Returns why to look at the order at this place, if there is a reason.
 fn look_at(
     book: &[Entry],
     closings: &[Option<Closing>],
+    repeated: &[Option<usize>],
     place: usize,
     row: &OrderRow,
     later: &[OrderRow],
 ) -> Option<Look>
     requires { place + length later.now + 1 < 2 ^ 64 }
-    ensures { result ≡ look_at book.now closings.now place row.now later.now }
+    ensures { result ≡ look_at book.now closings.now repeated.now place row.now later.now }
 {
+    let repeats = repeated_at(repeated, place);
+    let case = case_of(book, differs_at(closings, place), repeats, row, later)?;
     Some(Look {
-        case: case_of(book, differs_at(closings, place), row, later)?,
+        case,
         order: place,
-        again: paid_again(&row.order, place + 1, later),
+        again: other_payment(case, repeats, &row.order, place + 1, later),
     })
 }
 
@@ -285,11 +324,12 @@ pub fn looks(
 ) -> Result<Vec<Look>, AllocError>
     ensures { IfOk result (λ found. found.items ≡ looks book.now closings.now rows.now) }
 {
+    let repeated = repeated_payments(alloc, book, rows)?;
     let mut found = Vec::new(alloc);
     let mut rest = rows;
     let mut place = 0;
     'rows: while let [row, later @ ..] = rest {
-        if let Some(look) = look_at(book, closings, place, row, later) {
+        if let Some(look) = look_at(book, closings, repeated.as_slice(), place, row, later) {
             found.push(look)?;
         }
         rest = later;

@@ -124,6 +124,7 @@ impl OpenOrder {
             outcome,
             approval: self.approval,
             time: None,
+            card: None,
         }
     }
 }

@@ -29,7 +29,7 @@ pub fn sums_make_booked()
     ensures { SumsMakeBooked }
 {}
 
-/// A person is told to look at each unclear payment once, and at no other payment.
+/// A person is told to look at each unclear payment once, and no other payment is called unclear.
 pub fn each_payment_is_looked_at()
     ensures { EachPaymentIsLookedAt }
 {}

@@ -1,9 +1,12 @@
 //! The report of a trace: what became of each order of a till, and the book that is left.
 #![tactic(auto)]
 
+mod alike;
 mod amounts;
 mod books;
+mod card_texts;
 mod card_totals;
+mod cards;
 mod cases;
 mod close_object;
 mod close_table;
@@ -18,6 +21,7 @@ mod form;
 mod kinds;
 pub mod laws;
 mod look_list;
+mod member_orders;
 mod members;
 mod naming;
 mod objects;
@@ -54,6 +58,7 @@ mod zones;
 
 pub use books::DayBooks;
 pub use card_totals::{CardGroup, CardTotals};
+pub use cards::Card;
 pub use cases::{Case, Look, Weight, looks};
 pub use closings::Closing;
 pub use day::Day;

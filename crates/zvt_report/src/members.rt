@@ -6,12 +6,13 @@ ghost use Rattle.zvt_json.specs.Strings.{hex_value};
 ghost use Rattle.zvt_text.specs.MessageTexts.{four_digits};
 ghost use Rattle.zvt_trace.specs.Marks.{moment_text};
 ghost use Rattle.zvt_report.specs.Members.{difference_value, lines_value, member_text, name_text, object_text};
-ghost use Rattle.zvt_report.specs.Members.{order_value, orders_value, receipts_value, said, value_data, word_text};
-ghost use Rattle.zvt_report.specs.declared.explaining.Explained.TheVariants as explained;
+ghost use Rattle.zvt_report.specs.Members.{receipts_value, said, value_data, word_text};
 
+use crate::card_texts::{quoted_name, quoted_number, type_words};
 use crate::cases::{Case, Weight};
 use crate::endings::Ending;
 use crate::explaining::Explained;
+use crate::member_orders::write_orders;
 use std::alloc::AllocError;
 use zvt_bcd::Currency;
 use zvt_text::{Text, command_name, meaning};
@@ -59,6 +60,8 @@ pub(crate) enum Name {
     Bad,
     Book,
     Booked,
+    Card,
+    CardNumber,
     Case,
     Cause,
     Code,
@@ -111,6 +114,8 @@ impl Name {
             Name::Bad => "bad",
             Name::Book => "book",
             Name::Booked => "booked",
+            Name::Card => "card",
+            Name::CardNumber => "card_number",
             Name::Case => "case",
             Name::Cause => "cause",
             Name::Code => "code",
@@ -161,6 +166,8 @@ pub(crate) enum Word {
     Meaning(u8),
     /// The name of the command with these control bytes, or no text if it has none.
     Command(u8, u8),
+    /// The name of this card type, or no text if it has none.
+    CardType(u8),
 }
 
 impl Word {
@@ -178,6 +185,7 @@ impl Word {
             Word::Ending(ending) => ending.name(),
             Word::Meaning(code) => meaning(code).unwrap_or(""),
             Word::Command(high, low) => command_name(high, low).unwrap_or(""),
+            Word::CardType(card_type) => type_words(card_type),
         }
     }
 }
@@ -203,6 +211,10 @@ pub(crate) enum Value {
     Currency(Currency),
     Moment(Moment),
     Word(Word),
+    /// The name of a card.
+    CardName([u8; 24]),
+    /// A masked card number.
+    CardNumber([u8; 10]),
 }
 
 /// A member of an object.
@@ -287,6 +299,8 @@ fn write_value(text: &mut Text, value: &Value) -> Result<(), AllocError>
         Value::Currency(currency) => write_currency(text, *currency),
         Value::Moment(moment) => write_moment(text, moment),
         Value::Word(word) => write_word(text, *word),
+        Value::CardName(name) => quoted_name(text, name.as_slice()),
+        Value::CardNumber(number) => quoted_number(text, number.as_slice()),
     }
 }
 
@@ -311,58 +325,6 @@ fn write_receipts(text: &mut Text, first: &[u8], last: &[u8]) -> Result<(), Allo
     text.push(b',')?;
     write_bytes(text, last)?;
     text.push(b']')
-}
-
-/// Writes the number of the order with this index, counted from 1.
-fn write_order(text: &mut Text, order: usize) -> Result<(), AllocError>
-    ensures { OnOk result (text.new ≡ text.old ++ compact_text (order_value order)) }
-{
-    text.number(order as u128 + 1)
-}
-
-/// Writes the numbers of two orders as an array.
-fn write_pair(text: &mut Text, a: usize, b: usize) -> Result<(), AllocError>
-    ensures { OnOk result (text.new ≡ text.old ++ compact_text (orders_value (explained.Two a b))) }
-{
-    text.push(b'[')?;
-    write_order(text, a)?;
-    text.push(b',')?;
-    write_order(text, b)?;
-    text.push(b']')
-}
-
-/// Writes the numbers of three orders as an array.
-fn write_triple(text: &mut Text, a: usize, b: usize, c: usize) -> Result<(), AllocError>
-    ensures { OnOk result (text.new ≡ text.old ++ compact_text (orders_value (explained.Three a b c))) }
-{
-    text.push(b'[')?;
-    write_order(text, a)?;
-    text.push(b',')?;
-    write_order(text, b)?;
-    text.push(b',')?;
-    write_order(text, c)?;
-    text.push(b']')
-}
-
-/// Writes the number of one order as an array.
-fn write_single(text: &mut Text, a: usize) -> Result<(), AllocError>
-    ensures { OnOk result (text.new ≡ text.old ++ compact_text (orders_value (explained.One a))) }
-{
-    text.push(b'[')?;
-    write_order(text, a)?;
-    text.push(b']')
-}
-
-/// Writes the numbers of orders as an array.
-fn write_orders(text: &mut Text, orders: &Explained) -> Result<(), AllocError>
-    ensures { OnOk result (text.new ≡ text.old ++ compact_text (orders_value orders.now)) }
-{
-    match orders {
-        Explained::One(a) => write_single(text, *a),
-        Explained::Two(a, b) => write_pair(text, *a, *b),
-        Explained::Three(a, b, c) => write_triple(text, *a, *b, *c),
-        Explained::Nothing | Explained::Empty | Explained::Several => text.word(b"[]"),
-    }
 }
 
 /// Writes two lines as an array.

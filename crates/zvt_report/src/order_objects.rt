@@ -9,8 +9,8 @@ use crate::books::DayBooks;
 use crate::members::{Name, Object, write_object};
 use crate::parts::{
     amount_at, approved_of, cause_of, code, command, control, count, ending, lines, maybe_amount,
-    maybe_cause, maybe_count, maybe_receipt, maybe_trace, payment_for, receipt_by, reversed_at,
-    taken_back_at, trace_by, true_if, unclear_at, words,
+    maybe_card, maybe_card_number, maybe_cause, maybe_count, maybe_receipt, maybe_trace,
+    payment_for, receipt_by, reversed_at, taken_back_at, trace_by, true_if, unclear_at, words,
 };
 use crate::places::Place;
 use crate::rows::{OrderMessage, OrderRow};
@@ -35,6 +35,8 @@ pub(crate) fn payment(
     let members = [
         count(Name::Amount, amount.get()),
         maybe_amount(Name::Approved, approved_of(row)),
+        maybe_card(&row.card),
+        maybe_card_number(&row.card),
         maybe_cause(Name::Cause, cause_of(&row.outcome)),
         code(&row.outcome),
         lines(row),

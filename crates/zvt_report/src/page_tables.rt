@@ -1,11 +1,13 @@
 //! Writes the tables of a page.
 ghost use Rattle.std.specs.Prelude.{◌≡◌, ◌++◌, OnOk};
 ghost use Rattle.zvt_page.specs.Html.{render};
-ghost use Rattle.zvt_report.specs.PageTables.{number_cell, payment_columns, payment_end, payment_of, payment_row};
-ghost use Rattle.zvt_report.specs.PageTables.{payment_rows, payments_or_none, payments_section, payments_table};
+ghost use Rattle.zvt_report.specs.PageTables.{card_cell, number_cell, payment_columns, payment_end, payment_of};
+ghost use Rattle.zvt_report.specs.PageTables.{payment_row, payment_rows, payments_or_none, payments_section, payments_table};
 ghost use Rattle.zvt_report.specs.Places.{no_counts};
 
 use crate::books::DayBooks;
+use crate::card_texts::card_or_nothing;
+use crate::cards::Card;
 use crate::currencies::Decimals;
 use crate::page_parts::{
     amount_cell, column, lines_cell, outcome_cell, receipt_cell, table_body, table_end,
@@ -33,6 +35,7 @@ fn payment_columns(page: &mut Text, timed: bool) -> Result<(), AllocError>
     column(page, b"n am", b"Amount")?;
     column(page, b"ids", b"Trace")?;
     column(page, b"rc", b"Receipt")?;
+    column(page, b"ca", b"Card")?;
     column(page, b"oc", b"Outcome")?;
     column(page, b"ln", b"Lines")
 }
@@ -45,6 +48,16 @@ fn number_cell(page: &mut Text, note: &mut Text, number: usize) -> Result<(), Al
     note.clear();
     note.number(number)?;
     leaf(page, Element::Td, b"i n", note.bytes())
+}
+
+/// Writes the cell of a payment's card.
+#[tactic(auto, unfolding(crate::specs::PageTables::card_cell))]
+fn card_cell(page: &mut Text, note: &mut Text, card: &Option<Card>) -> Result<(), AllocError>
+    ensures { OnOk result (page.new ≡ page.old ++ render (card_cell card.now)) }
+{
+    note.clear();
+    card_or_nothing(note, card)?;
+    leaf(page, Element::Td, b"ca", note.bytes())
 }
 
 /// Writes how a payment ended.
@@ -86,6 +99,7 @@ fn payment_row(
     amount_cell(page, note, decimals, &Some(amount))?;
     trace_cell(page, note, &trace_by(&row.outcome, &row.approval))?;
     receipt_cell(page, note, &receipt_by(&row.outcome, &row.approval))?;
+    card_cell(page, note, &row.card)?;
     payment_end(page, note, entry, row)?;
     lines_cell(page, note, row.first, row.last)?;
     end(page, Element::Tr)

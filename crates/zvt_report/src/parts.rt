@@ -1,11 +1,15 @@
 //! The members of the objects of a report.
 ghost use Rattle.std.specs.Prelude.{◌≡◌};
+ghost use Rattle.std.specs.Option.{option_and_then};
+ghost use Rattle.zvt_report.specs.CardObjects.{card_value, maybe_card, maybe_card_number};
 ghost use Rattle.zvt_report.specs.Objects.{amount_at, approved_of, cause_of, code, code_of, command};
 ghost use Rattle.zvt_report.specs.Objects.{control, count, ending, lines, maybe_cause, maybe_count};
 ghost use Rattle.zvt_report.specs.Objects.{maybe_currency, maybe_receipt, payment_for, receipt_by};
 ghost use Rattle.zvt_report.specs.Objects.{reversed_at, said_as, taken_back_at, trace_by, true_if, unclear_at, words};
+ghost use Rattle.zvt_report.specs.declared.cards.Card.{Card};
 ghost use Rattle.zvt_report.specs.declared.members.Name.TheVariants as name;
 
+use crate::cards::{Card, card_number};
 use crate::endings::ending_of;
 use crate::members::{Member, Name, Value, Word};
 use crate::places;
@@ -164,6 +168,41 @@ pub(crate) fn maybe_receipt(receipt: Option<[u8; 2]>) -> Option<Member>
     ensures { result ≡ maybe_receipt receipt }
 {
     said_as(Name::Receipt, Value::Bytes(receipt?))
+}
+
+/// Returns the name of a card, or else of its type.
+fn card_value(card_type: &Option<u8>, name: &Option<[u8; 24]>) -> Option<Value>
+    ensures { result ≡ card_value card_type.now name.now }
+{
+    match (card_type, name) {
+        (_, Some(name)) => Some(Value::CardName(*name)),
+        (Some(card_type), None) => Some(Value::Word(Word::CardType(*card_type))),
+        (None, None) => None,
+    }
+}
+
+/// Returns the value of a card's name, if it has one.
+fn card_name(card: &Option<Card>) -> Option<Value>
+    ensures { result ≡ option_and_then (λ (c : Card). card_value c.card_type c.name) card.now }
+{
+    match card {
+        Some(card) => card_value(&card.card_type, &card.name),
+        None => None,
+    }
+}
+
+/// Returns the member of a card's name, if it has one.
+pub(crate) fn maybe_card(card: &Option<Card>) -> Option<Member>
+    ensures { result ≡ maybe_card card.now }
+{
+    said_as(Name::Card, card_name(card)?)
+}
+
+/// Returns the member of a card's masked number, if it has one.
+pub(crate) fn maybe_card_number(card: &Option<Card>) -> Option<Member>
+    ensures { result ≡ maybe_card_number card.now }
+{
+    said_as(Name::CardNumber, Value::CardNumber(card_number(card)?))
 }
 
 /// Returns the member of a currency, if there is one.

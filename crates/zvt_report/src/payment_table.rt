@@ -1,14 +1,16 @@
 //! Writes the table of the payments.
 ghost use Rattle.std.specs.Prelude.{◌≡◌, ◌++◌, OnOk};
 ghost use Rattle.zvt_report.specs.Objects.{entry_at};
-ghost use Rattle.zvt_report.specs.PaymentTable.{doubt_text, entry_text, explained, fraction_blanks, lines_column};
-ghost use Rattle.zvt_report.specs.PaymentTable.{outcome_text, payment_columns, payment_heading, payment_line};
+ghost use Rattle.zvt_report.specs.PaymentTable.{card_column, doubt_text, entry_text, explained, fraction_blanks};
+ghost use Rattle.zvt_report.specs.PaymentTable.{lines_column, outcome_text, payment_columns, payment_heading, payment_line};
 ghost use Rattle.zvt_report.specs.PaymentTable.{payment_row, payment_text, payments_from, payments_text};
 ghost use Rattle.zvt_report.specs.PaymentTable.{receipt_column, trace_column, unclear_reversal};
 ghost use Rattle.zvt_report.specs.Places.{no_counts};
 
 use crate::amounts::amount_column;
-use crate::columns::{left, right, zeros};
+use crate::card_texts::card_or_dash;
+use crate::cards::Card;
+use crate::columns::{left, repeat, right, zeros};
 use crate::currencies::Decimals;
 use crate::endings::ending_of;
 use crate::parts::{receipt_by, trace_by};
@@ -21,6 +23,9 @@ use zvt_bcd::{Amount, Trace};
 use zvt_text::{Text, hexadecimal, result_words};
 use zvt_till::{Cause, Doubt, Entry, Outcome, Sent};
 use zvt_trace::Moment;
+
+/// The width of the column of the cards.
+const CARD_WIDTH: usize = 25;
 
 /// Writes the blanks above the decimal point and the digits after it.
 #[tactic(auto, unfolding(crate::specs::PaymentTable::fraction_blanks))]
@@ -60,6 +65,17 @@ pub(crate) fn receipt_column(text: &mut Text, receipt: &Option<[u8; 2]>) -> Resu
         }
         None => text.word(b"-        "),
     }
+}
+
+/// Writes a card in its column, and a dash if there is none.
+#[tactic(auto, unfolding(crate::specs::PaymentTable::card_column))]
+fn card_column(text: &mut Text, card: &Option<Card>) -> Result<(), AllocError>
+    ensures { OnOk result (text.new ≡ text.old ++ card_column card.now) }
+{
+    let start = text.size();
+    card_or_dash(text, card)?;
+    let size = text.size() - start;
+    repeat(text, b' ', CARD_WIDTH.saturating_sub(size))
 }
 
 /// Writes the lines of an order in their column, with the hyphens below each other.
@@ -187,6 +203,7 @@ fn payment_row(
     let trace = &trace_by(&row.outcome, &row.approval);
     let receipt = &receipt_by(&row.outcome, &row.approval);
     payment_columns(text, decimals, number, &row.time, amount, trace, receipt)?;
+    card_column(text, &row.card)?;
     lines_column(text, row.first, row.last)?;
     payment_text(text, entry, row)?;
     text.push(b'\n')
@@ -252,7 +269,7 @@ fn payment_heading(text: &mut Text, decimals: Decimals) -> Result<(), AllocError
 {
     text.word(b"Payments\n   #  Time          Amount")?;
     fraction_blanks(text, decimals)?;
-    text.word(b"  Trace   Receipt    Lines          Outcome\n")
+    text.word(b"  Trace   Receipt  Card                       Lines          Outcome\n")
 }
 
 /// Writes the table of the payments.

@@ -2,13 +2,14 @@
 ghost use Rattle.std.specs.Prelude.{◌≡◌, ◌++◌, OnOk, option_map};
 ghost use Rattle.zvt_till.specs.declared.entries.Entry.{Entry};
 ghost use Rattle.zvt_report.specs.Phrases.{again_part, amount_of, amount_or_dash, approval_part};
-ghost use Rattle.zvt_report.specs.Phrases.{approved_receipt, counted_part, entry_part, numbers_part, paid_again_by};
-ghost use Rattle.zvt_report.specs.Phrases.{own_receipt, paid_numbers};
+ghost use Rattle.zvt_report.specs.Phrases.{approved_receipt, counted_part, entry_part, maybe_payment_at, numbers_part};
+ghost use Rattle.zvt_report.specs.Phrases.{own_receipt, paid_again_by, paid_numbers, payment_at, payment_name};
 ghost use Rattle.zvt_report.specs.Phrases.{reason, receipt_name, receipt_part, total_part, trace_part, twice_part};
 
 use crate::amounts::amount;
 use crate::columns::zeros;
 use crate::currencies::Decimals;
+use crate::parts::receipt_by;
 use crate::rows::{Approval, OrderRow};
 use std::alloc::AllocError;
 use zvt_bcd::{Amount, Trace};
@@ -121,7 +122,7 @@ pub(crate) fn approval_part(text: &mut Text, approval: &Option<Approval>) -> Res
 }
 
 /// Writes the receipt number of a payment to look for.
-fn receipt_name(text: &mut Text, receipt: &Option<[u8; 2]>) -> Result<(), AllocError>
+pub(crate) fn receipt_name(text: &mut Text, receipt: &Option<[u8; 2]>) -> Result<(), AllocError>
     ensures { OnOk result (text.new ≡ text.old ++ receipt_name receipt.now) }
 {
     match receipt {
@@ -130,6 +131,41 @@ fn receipt_name(text: &mut Text, receipt: &Option<[u8; 2]>) -> Result<(), AllocE
             hexadecimal(text, receipt)
         }
         None => text.word(b"this payment"),
+    }
+}
+
+/// Writes the receipt number of a payment, or that it is one.
+fn payment_name(text: &mut Text, receipt: &Option<[u8; 2]>) -> Result<(), AllocError>
+    ensures { OnOk result (text.new ≡ text.old ++ payment_name receipt.now) }
+{
+    match receipt {
+        Some(receipt) => {
+            text.word(b"receipt ")?;
+            hexadecimal(text, receipt)
+        }
+        None => text.word(b"a payment"),
+    }
+}
+
+/// Writes the receipt number of a booked payment, and in parentheses where its order stands.
+#[tactic(auto, unfolding(crate::specs::Phrases::payment_at))]
+pub(crate) fn payment_at(text: &mut Text, row: &OrderRow) -> Result<(), AllocError>
+    ensures { OnOk result (text.new ≡ text.old ++ payment_at row.now) }
+{
+    payment_name(text, &receipt_by(&row.outcome, &row.approval))?;
+    text.word(b" (line ")?;
+    text.number(row.first)?;
+    text.push(b')')
+}
+
+/// Writes the same of a payment, if there is one.
+#[tactic(auto, unfolding(crate::specs::Phrases::maybe_payment_at))]
+pub(crate) fn maybe_payment_at(text: &mut Text, row: &Option<OrderRow>) -> Result<(), AllocError>
+    ensures { OnOk result (text.new ≡ text.old ++ maybe_payment_at row.now) }
+{
+    match row {
+        Some(row) => payment_at(text, row),
+        None => Ok(()),
     }
 }
 

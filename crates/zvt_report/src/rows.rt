@@ -1,4 +1,5 @@
 //! The rows of a report.
+use crate::cards::Card;
 use zvt_bcd::{Amount, Trace};
 use zvt_till::{Outcome, Sent};
 use zvt_trace::Moment;
@@ -29,6 +30,8 @@ pub struct OrderRow {
     pub approval: Option<Approval>,
     /// The moment of the first line, if the trace has a time mark for it.
     pub time: Option<Moment>,
+    /// The card that the terminal named first in an approval.
+    pub card: Option<Card>,
 }
 
 /// What the message of an order says beside the order itself.

@@ -1,16 +1,18 @@
 //! Writes the sentences about an order that a person should look at: a title, what happened, and what to do.
 ghost use Rattle.std.specs.Prelude.{◌≡◌, ◌++◌, OnOk};
-ghost use Rattle.zvt_report.specs.Sentences.{account, advice, approved_account, approved_advice, close_account};
-ghost use Rattle.zvt_report.specs.Sentences.{fixed_advice, other_amount_account, other_amount_advice};
+ghost use Rattle.zvt_report.specs.Sentences.{account, advice, alike_account, alike_advice, approved_account};
+ghost use Rattle.zvt_report.specs.Sentences.{approved_advice, close_account, fixed_advice};
+ghost use Rattle.zvt_report.specs.Sentences.{other_amount_account, other_amount_advice};
 ghost use Rattle.zvt_report.specs.Sentences.{refused_account, reversal_account, taken_back_account, title};
 ghost use Rattle.zvt_report.specs.Sentences.{unclear_account, unclear_advice};
 
+use crate::card_texts::card_or_dash;
 use crate::cases::Case;
 use crate::currencies::Decimals;
-use crate::parts::approved_of;
+use crate::parts::{approved_of, receipt_by};
 use crate::phrases::{
     again_part, amount_of, amount_or_dash, approval_part, approved_receipt, counted_part,
-    entry_part, phrase, reason, twice_part,
+    entry_part, maybe_payment_at, payment_at, phrase, reason, receipt_name, twice_part,
 };
 use crate::rows::{Approval, OrderRow};
 use std::alloc::AllocError;
@@ -41,6 +43,7 @@ pub(crate) fn title(
             text.word(b" approved")
         }
         Case::PaymentUnclear => phrase(text, decimals, b"Payment of ", asked, b" unclear"),
+        Case::PaidAlike => phrase(text, decimals, b"", asked, b" paid twice with one card"),
         Case::ReversalUnclear => phrase(text, decimals, b"Reversal of ", asked, b" unclear"),
         Case::TakenBackBefore => phrase(text, decimals, b"", asked, b" already taken back"),
         Case::ReversalRefused => phrase(text, decimals, b"Reversal of ", asked, b" not done"),
@@ -107,6 +110,24 @@ fn unclear_account(
     reason(text, &row.outcome)?;
     text.word(b". The till heard no approval, but the terminal may have given one.")?;
     again_part(text, decimals, asked, again)
+}
+
+/// Writes how one card paid an amount twice.
+fn alike_account(
+    text: &mut Text,
+    decimals: Decimals,
+    asked: &Option<Amount>,
+    row: &OrderRow,
+    earlier: &Option<OrderRow>,
+) -> Result<(), AllocError>
+    ensures { OnOk result (text.new ≡ text.old ++ alike_account decimals asked.now row.now earlier.now) }
+{
+    card_or_dash(text, &row.card)?;
+    phrase(text, decimals, b" paid ", asked, b" twice: ")?;
+    maybe_payment_at(text, earlier)?;
+    text.word(b" and ")?;
+    payment_at(text, row)?;
+    text.word(b". Both are booked.")
 }
 
 /// Writes what happened to a reversal that is unclear.
@@ -197,6 +218,7 @@ pub(crate) fn account(
         Case::ApprovedNotCompleted => approved_account(text, decimals, asked, row, again),
         Case::OtherAmount => other_amount_account(text, decimals, asked, row, again),
         Case::PaymentUnclear => unclear_account(text, decimals, asked, row, again),
+        Case::PaidAlike => alike_account(text, decimals, asked, row, again),
         Case::ReversalUnclear => reversal_account(text, decimals, asked, entry, outcome),
         Case::TakenBackBefore => taken_back_account(text, decimals, asked, entry),
         Case::ReversalRefused => refused_account(text, decimals, asked, entry, outcome),
@@ -270,6 +292,15 @@ fn unclear_advice(
     }
 }
 
+/// Writes what to do about a payment that is like an earlier one.
+fn alike_advice(text: &mut Text, receipt: &Option<[u8; 2]>) -> Result<(), AllocError>
+    ensures { OnOk result (text.new ≡ text.old ++ alike_advice receipt.now) }
+{
+    text.word(b"Were these two sales, or was one sale charged twice? If it was one, take back ")?;
+    receipt_name(text, receipt)?;
+    text.push(b'.')
+}
+
 /// Returns what to do about an order in this case, if it depends on nothing else.
 fn fixed_advice(case: Case) -> &'static [u8]
     ensures { result.now ≡ fixed_advice case }
@@ -290,7 +321,8 @@ fn fixed_advice(case: Case) -> &'static [u8]
         Case::CloseDiffers => {
             b"Settle the unclear payments and reversals first. Then compare the payments with the terminal's receipts."
         }
-        Case::ApprovedNotCompleted | Case::OtherAmount | Case::PaymentUnclear => b"",
+        Case::ApprovedNotCompleted | Case::OtherAmount | Case::PaymentUnclear | Case::PaidAlike =>
+            b"",
     }
 }
 
@@ -311,6 +343,7 @@ pub(crate) fn advice(
         Case::PaymentUnclear => {
             unclear_advice(text, decimals, &amount_of(entry, &row.order), again)
         }
+        Case::PaidAlike => alike_advice(text, &receipt_by(&row.outcome, &row.approval)),
         _ => text.word(fixed_advice(case)),
     }
 }

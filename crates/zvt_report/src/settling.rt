@@ -1,9 +1,10 @@
 //! When an end of day counts as closed.
 ghost use Rattle.std.specs.Prelude.{◌≡◌, IfOk};
-ghost use Rattle.zvt_report.specs.Settling.{closed_if, declined_at, settled, settled_from, settled_outcome};
-ghost use Rattle.zvt_report.specs.Settling.{settled_row};
+ghost use Rattle.zvt_report.specs.Settling.{card_at, closed_if, declined_at, settled, settled_from};
+ghost use Rattle.zvt_report.specs.Settling.{settled_outcome, settled_row};
 
 use crate::books::DayBooks;
+use crate::cards::Card;
 use crate::rows::OrderRow;
 use crate::statements::Statement;
 use std::alloc::{AllocError, Global};
@@ -41,6 +42,16 @@ fn declined_at(statements: &[Statement], place: usize) -> bool
     }
 }
 
+/// Returns the card of the order at this place.
+fn card_at(statements: &[Statement], place: usize) -> Option<Card>
+    ensures { result ≡ card_at statements.now place }
+{
+    match statements.get(place) {
+        Some(statement) => statement.card,
+        None => None,
+    }
+}
+
 /// Returns the row of an order at this place after what was stated about it.
 fn settled_row(statements: &[Statement], place: usize, row: &OrderRow) -> OrderRow
     ensures { result ≡ settled_row statements.now place row.now }
@@ -52,6 +63,7 @@ fn settled_row(statements: &[Statement], place: usize, row: &OrderRow) -> OrderR
         outcome: settled_outcome(&row.order, &row.outcome, declined_at(statements, place)),
         approval: row.approval,
         time: row.time,
+        card: card_at(statements, place),
     }
 }
 

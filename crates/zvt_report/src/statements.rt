@@ -4,9 +4,10 @@
 ghost use Rattle.std.specs.Prelude.{◌≡◌};
 ghost use Rattle.std.specs.Option.{option_copied};
 ghost use Rattle.zvt_field.specs.Named.{content_of};
-ghost use Rattle.zvt_report.specs.Statements.{declines_by, stating};
+ghost use Rattle.zvt_report.specs.Statements.{card_by, declines_by, stating};
 
 use crate::card_totals::{CardTotals, total_in, totals_in};
+use crate::cards::{Card, card_in};
 use std::alloc::{AllocError, Global};
 use zvt_apdu::{ApduView, Kind};
 use zvt_field::FieldsView;
@@ -15,8 +16,17 @@ use zvt_till::{Happening, Heard, ends, heard_view};
 /// The BMP of an amount.
 const AMOUNT: u8 = 0x04;
 
+/// The BMP of a card number.
+const CARD_NUMBER: u8 = 0x22;
+
 /// The BMP of the totals by card.
 const TOTALS: u8 = 0x60;
+
+/// The BMP of a card type.
+const CARD_TYPE: u8 = 0x8A;
+
+/// The BMP of a card name.
+const CARD_NAME: u8 = 0x8B;
 
 /// What the status informations of an order say.
 #[derive(Clone, Copy, Debug, PartialEq, Eq)]
@@ -27,6 +37,8 @@ pub struct Statement {
     pub total: Option<u64>,
     /// The totals by card in the last one, if it has them exactly once.
     pub totals: Option<CardTotals>,
+    /// The card that the first one with result 00 names, of those that name one.
+    pub card: Option<Card>,
 }
 
 impl Statement {
@@ -41,6 +53,7 @@ impl Statement {
             declines: false,
             total: None,
             totals: None,
+            card: None,
         }
     }
 
@@ -52,6 +65,7 @@ impl Statement {
             declines: self.declines || declines_by(fields),
             total: total_in(content_of(fields, AMOUNT)),
             totals: totals_in(content_of(fields, TOTALS)),
+            card: self.card.or(card_by(fields)),
         }
     }
 }
@@ -63,6 +77,20 @@ fn declines_by(fields: &FieldsView<'_>) -> bool
     match fields.result() {
         Some(code) => code != 0,
         None => false,
+    }
+}
+
+/// Returns the card that a status with these fields names, if its result is 00.
+fn card_by(fields: &FieldsView<'_>) -> Option<Card>
+    ensures { result ≡ card_by fields.now }
+{
+    match fields.result() {
+        Some(0) => card_in(
+            content_of(fields, CARD_TYPE),
+            content_of(fields, CARD_NAME),
+            content_of(fields, CARD_NUMBER),
+        ),
+        _ => None,
     }
 }
 

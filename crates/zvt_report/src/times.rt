@@ -98,6 +98,7 @@ fn timed_row(zone: Zone, times: &[Timed], row: &OrderRow) -> OrderRow
         outcome: row.outcome,
         approval: row.approval,
         time: time_of(zone, times, row),
+        card: row.card,
     }
 }
 
