@@ -2,7 +2,7 @@
 use Rattle.std.specs.Prelude.{ℕ, List, [], ◌∷◌, ◌++◌, codes, Option, Some, None}
 use Rattle.std.specs.Fmt.{decimal}
 use Rattle.hex.specs.Hex.{encode_upper}
-use Rattle.zvt_page.specs.Html.{Html, element, text, leaf}
+use Rattle.zvt_page.specs.Html.{Html, attributes_of, element, text, leaf}
 use Rattle.zvt_page.specs.declared.elements.Attribute.TheVariants.{Class, Scope}
 use Rattle.zvt_page.specs.declared.elements.Element.TheVariants.{Span, Td, Th}
 use Rattle.zvt_report.specs.Amounts.{amount_text}
@@ -13,7 +13,7 @@ use Rattle.zvt_text.specs.Numbers.{zero_padded}
 
 -- the heading of a column
 unfoldable pub column : (class title : List ℕ) → Html
-column class title = element Th ((Class, class) ∷ (Scope, codes "col") ∷ []) (text title)
+column class title = element Th (attributes_of class (Some (Scope, codes "col"))) (text title)
 
 -- an amount; an empty cell if there is none
 abbrev pub amount_or_nothing : Decimals → Option ℕ → List ℕ

@@ -19,8 +19,7 @@ use crate::text::footer;
 use std::alloc::{AllocError, Global};
 use zvt_bcd::Currency;
 use zvt_page::{
-    Attribute, Element, document_end, document_start, end, escaped, leaf, start, start_both,
-    start_with,
+    Attribute, Element, document_end, document_start, end, escaped, leaf, start,
 };
 use zvt_text::Text;
 use zvt_trace::Tally;
@@ -64,7 +63,7 @@ fn page_head(
 ) -> Result<(), AllocError>
     ensures { OnOk result (page.new ≡ page.old ++ render (page_head name.now money.now)) }
 {
-    start(page, Element::Header)?;
+    start(page, Element::Header, b"", None)?;
     leaf(page, Element::H1, b"", heading(name))?;
     note.clear();
     amounts_in(note, money)?;
@@ -77,7 +76,7 @@ fn page_head(
 fn page_foot(page: &mut Text, note: &mut Text, tally: Tally) -> Result<(), AllocError>
     ensures { OnOk result (page.new ≡ page.old ++ render (page_foot tally)) }
 {
-    start(page, Element::Footer)?;
+    start(page, Element::Footer, b"", None)?;
     note.clear();
     footer(note, tally)?;
     leaf(page, Element::P, b"", note.bytes())?;
@@ -89,7 +88,7 @@ fn page_foot(page: &mut Text, note: &mut Text, tally: Tally) -> Result<(), Alloc
 fn skip_link(page: &mut Text) -> Result<(), AllocError>
     ensures { OnOk result (page.new ≡ page.old ++ render skip_link) }
 {
-    start_both(page, Element::A, b"skip", Attribute::Href, b"#look")?;
+    start(page, Element::A, b"skip", Some((Attribute::Href, b"#look")))?;
     escaped(page, b"Skip to what needs a look")?;
     end(page, Element::A)
 }
@@ -137,7 +136,7 @@ fn page_of(
         ++ render (page_of name.now money.now tally books.now messages.now closings.now looks.now)) }
 {
     skip_link(page)?;
-    start_with(page, Element::Main, Attribute::Class, b"page")?;
+    start(page, Element::Main, b"page", None)?;
     sections(
         page, note, name, money, tally, books, messages, closings, looks,
     )?;

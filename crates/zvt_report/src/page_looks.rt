@@ -13,7 +13,7 @@ use crate::page_parts::from_to;
 use crate::rows::OrderRow;
 use crate::sentences::{account, advice, title};
 use std::alloc::AllocError;
-use zvt_page::{Attribute, Element, end, escaped, leaf, start_with};
+use zvt_page::{Attribute, Element, end, escaped, leaf, start};
 use zvt_text::Text;
 use zvt_till::Entry;
 
@@ -116,7 +116,7 @@ fn item(
     ensures { OnOk result (page.new ≡ page.old ++ render (item decimals entry.now row.now again.now case)) }
 {
     let weight = case.weight();
-    start_with(page, Element::Li, Attribute::Class, weight_class(weight))?;
+    start(page, Element::Li, weight_class(weight), None)?;
     leaf(page, Element::Span, b"sev", weight_word(weight))?;
     title_part(page, note, decimals, entry, row, again, case)?;
     lines_part(page, note, row.first, row.last)?;
@@ -203,7 +203,7 @@ fn items_or_none(
             b"Nothing in this trace needs a look.",
         );
     }
-    start_with(page, Element::Ol, Attribute::Class, b"look")?;
+    start(page, Element::Ol, b"look", None)?;
     items(page, note, decimals, book, rows, true, looks)?;
     items(page, note, decimals, book, rows, false, looks)?;
     end(page, Element::Ol)
@@ -214,7 +214,7 @@ fn items_or_none(
 fn look_heading(page: &mut Text) -> Result<(), AllocError>
     ensures { OnOk result (page.new ≡ page.old ++ render look_heading) }
 {
-    start_with(page, Element::H2, Attribute::Id, b"look")?;
+    start(page, Element::H2, b"", Some((Attribute::Id, b"look")))?;
     escaped(page, b"Look at these")?;
     end(page, Element::H2)
 }

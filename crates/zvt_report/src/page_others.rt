@@ -22,7 +22,7 @@ use crate::rows::{OrderMessage, OrderRow};
 use crate::tones::outcome_tone;
 use std::alloc::AllocError;
 use zvt_bcd::Amount;
-use zvt_page::{Element, end, leaf, start_in};
+use zvt_page::{Element, end, leaf, start};
 use zvt_text::Text;
 use zvt_till::Entry;
 
@@ -59,7 +59,12 @@ fn row_start(
     ensures { OnOk result (page.new ≡ page.old ++ (start_tag Element.Tr
         (class_of (row_class (outcome_tone row.now.outcome))) ++ render (amount_cell decimals amount.now))) }
 {
-    start_in(page, Element::Tr, outcome_tone(&row.outcome).row_class())?;
+    start(
+        page,
+        Element::Tr,
+        outcome_tone(&row.outcome).row_class(),
+        None,
+    )?;
     amount_cell(page, note, decimals, amount)
 }
 
