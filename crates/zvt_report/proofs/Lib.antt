@@ -19,3 +19,5 @@ pub mod ReadLemmas
 pub mod PlaceLemmas
 pub mod WrittenLemmas
 pub mod WrappingLemmas
+pub mod DialogueLemmas
+pub mod PageLemmas

@@ -41,3 +41,5 @@ pub mod PageTables
 pub mod PageCards
 pub mod Page
 pub mod PageClosings
+pub mod PageEvents
+pub mod Dialogue

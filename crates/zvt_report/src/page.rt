@@ -1,7 +1,7 @@
 //! Writes the report of a trace as a page.
 ghost use Rattle.std.specs.Prelude.{◌≡◌, ◌++◌, OnOk};
 ghost use Rattle.zvt_page.specs.Html.{render};
-ghost use Rattle.zvt_report.specs.Page.{amounts_in, heading, page_foot, page_head, page_of, report_page, sections};
+ghost use Rattle.zvt_report.specs.Page.{amounts_in, heading, page_foot, page_head, page_with, report_page, sections};
 ghost use Rattle.zvt_report.specs.Page.{skip_link, unit_words};
 
 use crate::books::DayBooks;
@@ -18,9 +18,7 @@ use crate::summary::unit;
 use crate::text::footer;
 use std::alloc::{AllocError, Global};
 use zvt_bcd::Currency;
-use zvt_page::{
-    Attribute, Element, document_end, document_start, end, escaped, leaf, start,
-};
+use zvt_page::{Attribute, Element, document_end, document_start, end, escaped, leaf, start};
 use zvt_text::Text;
 use zvt_trace::Tally;
 
@@ -93,21 +91,20 @@ fn skip_link(page: &mut Text) -> Result<(), AllocError>
     end(page, Element::A)
 }
 
-/// Writes the sections of a page.
+/// Writes the sections of a page, up to the dialogue.
 #[tactic(auto, unfolding(crate::specs::Page::sections))]
 fn sections(
     page: &mut Text,
     note: &mut Text,
     name: &[u8],
     money: &Option<Money>,
-    tally: Tally,
     books: &DayBooks,
     messages: &[OrderMessage],
     closings: &[Option<Closing>],
     looks: &[Look],
 ) -> Result<(), AllocError>
     ensures { OnOk result (page.new ≡ page.old
-        ++ render (sections name.now money.now tally books.now messages.now closings.now looks.now)) }
+        ++ render (sections name.now money.now books.now messages.now closings.now looks.now)) }
 {
     let decimals = decimals_of(money);
     page_head(page, note, name, money)?;
@@ -115,13 +112,12 @@ fn sections(
     looks_section(page, note, decimals, books, looks)?;
     payments_section(page, note, decimals, books)?;
     others_section(page, note, decimals, books, messages)?;
-    closings_section(page, note, decimals, closings, books.orders.as_slice())?;
-    page_foot(page, note, tally)
+    closings_section(page, note, decimals, closings, books.orders.as_slice())
 }
 
-/// Writes the body of a page. The texts are put together in `note`, whose own text is lost.
-#[tactic(auto, unfolding(crate::specs::Page::page_of))]
-fn page_of(
+/// Writes the body of a page with this dialogue. The texts are put together in `note`, whose own text is lost.
+#[tactic(auto, unfolding(crate::specs::Page::page_with))]
+fn page_with(
     page: &mut Text,
     note: &mut Text,
     name: &[u8],
@@ -131,19 +127,21 @@ fn page_of(
     messages: &[OrderMessage],
     closings: &[Option<Closing>],
     looks: &[Look],
+    dialogue: &[u8],
 ) -> Result<(), AllocError>
     ensures { OnOk result (page.new ≡ page.old
-        ++ render (page_of name.now money.now tally books.now messages.now closings.now looks.now)) }
+        ++ page_with name.now money.now tally books.now messages.now closings.now looks.now dialogue.now) }
 {
     skip_link(page)?;
     start(page, Element::Main, b"page", None)?;
-    sections(
-        page, note, name, money, tally, books, messages, closings, looks,
-    )?;
+    sections(page, note, name, money, books, messages, closings, looks)?;
+    page.word(dialogue)?;
+    page_foot(page, note, tally)?;
     end(page, Element::Main)
 }
 
-/// Writes the report of the trace in the file of this name, as a page. Fails only if memory runs out.
+/// Writes the report of the trace in the file of this name as a page, with this section of the dialogue. Fails only if
+/// memory runs out.
 pub(crate) fn write(
     alloc: Global,
     page: &mut Text,
@@ -154,15 +152,16 @@ pub(crate) fn write(
     messages: &[OrderMessage],
     closings: &[Option<Closing>],
     looks: &[Look],
+    dialogue: &[u8],
 ) -> Result<(), AllocError>
     ensures { OnOk result (page.new ≡ page.old
-        ++ report_page name.now tally currency books.now messages.now closings.now looks.now) }
+        ++ report_page name.now tally currency books.now messages.now closings.now looks.now dialogue.now) }
 {
     let mut note = Text::new(alloc);
     let money = money_of(currency);
     document_start(page, heading(name))?;
-    page_of(
-        page, &mut note, name, &money, tally, books, messages, closings, looks,
+    page_with(
+        page, &mut note, name, &money, tally, books, messages, closings, looks, dialogue,
     )?;
     document_end(page)
 }
