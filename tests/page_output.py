@@ -5,8 +5,9 @@
 
 PROGRAM is the one that `rt ci` built, unless another is named. The traces are those of examples/, tests/data/report and
 tests/data/real. A page is well formed, names no other file and runs nothing, its links lead somewhere, it has a row for each payment and
-an item for each case, and its style sheet has no rule that no page uses. The pages of the traces in tests/data/report are those beside
-them; `--store` writes them anew, so look at them before you commit them. The status is 1 if anything differs.
+an item for each case, its dialogue is what `show --safe --explain --open` writes, and its style sheet has no rule that no page uses. Text
+has enough contrast in every theme, and a keyboard reaches everything. The pages of the traces in tests/data/report are those beside them;
+`--store` writes them anew, so look at them before you commit them. The status is 1 if anything differs.
 """
 import json
 import os
@@ -25,6 +26,8 @@ PROGRAM = program(WORDS)
 STORED = TOP / "tests/data/report"
 POLICY = "default-src 'none'; style-src 'unsafe-inline'; base-uri 'none'; form-action 'none'"
 VOID = {"meta"}
+SPEAKERS = {"till", "terminal", "bad", "lost"}
+MOST = 2000  # messages of a trace whose dialogue is shown whole, and events on a page
 ELEMENTS = {"html", "head", "meta", "title", "style", "body", "a", "main", "header", "h1", "h2", "h3", "p", "dl", "div", "dt", "dd", "ol", "li", "span", "table", "thead", "tbody", "tr", "th", "td", "footer"}
 ATTRIBUTES = {"lang", "charset", "name", "content", "http-equiv", "class", "href", "id", "scope"}
 check = Checks()
@@ -123,6 +126,109 @@ def agrees(name, trace, page):
         check(f"the hours of {name}", text.startswith(page.texts("p", "meta")[0]), True)
 
 
+def events(page):
+    """The items of the dialogue: class, id, line and text of each."""
+    found = []
+    for one in page.elements:
+        tag, name = one["tag"], one["attributes"].get("class")
+        if tag == "li" and name in SPEAKERS:
+            found.append({"class": name, "id": one["attributes"].get("id"), "line": 0, "text": ""})
+        elif found and tag == "span" and name == "ln":
+            found[-1]["line"] = int(one["text"])
+        elif found and tag == "div" and name is None and "li" in one["in"]:
+            found[-1]["text"] += one["text"] + "\n"
+    return found
+
+
+def told(trace):
+    """What `show` writes of a trace: the class, the line and the text of each event."""
+    text = run(["show", "--safe", "--explain", "--open"], trace)[1]
+    objects = [json.loads(line) for line in run(["show", "--json", "--open"], trace)[1].splitlines()]
+    blocks = re.findall(r"^[<>!].*\n(?:(?![<>!]).*\n)*", text, re.M)
+    classes = ["lost" if block[0] == "!" else "bad" if re.match("[<>] (refused|stopped|resumed|truncated) ?", block) else "till" if block[0] == ">" else "terminal" for block in blocks]
+    check("the blocks of show", ("".join(blocks), len(blocks)), (text, len(objects)))
+    return [{"class": name, "line": one["line"], "text": block} for name, one, block in zip(classes, objects, blocks)]
+
+
+def dialogue(name, trace, page):
+    """The dialogue is the safe text of each event, and the first event of a line has its id."""
+    found, wanted, seen = events(page), told(trace), set()
+    for one in wanted:
+        one["id"] = None if one["line"] in seen else f"l{one['line']}"
+        seen.add(one["line"])
+    check(f"the dialogue of {name}", found, wanted)
+    check(f"the heading of the dialogue of {name}", page.texts("h2").count("Dialogue"), 1)
+
+
+def long_day():
+    """Of a long trace, the page shows the orders that need a look, and says so."""
+    part = (STORED / "twice.trace").read_bytes()
+    few, many = part * 2, part * 60
+    status, text, _ = run(["report", "--html"], many)
+    page = Page(text)
+    well_formed("a long trace", page)
+    objects = [json.loads(line) for line in run(["report", "--json"], many)[1].splitlines()]
+    cases = [one["look"] for one in objects if "look" in one]
+    orders = {one["order"]: one["lines"] for each in objects for one in each.values() if isinstance(one, dict) and "order" in one and "lines" in one and "case" not in one}
+    ranges = [orders[one["order"]] for one in cases]
+    messages = sum(one["class"] in ("till", "terminal") for one in told(many))
+    wanted = [one for one in told(many) if any(first <= one["line"] <= last for first, last in ranges)][:MOST]
+    check("a long trace is long", (status, messages > MOST, 0 < len(wanted) <= MOST), (0, True, True))
+    check("the part of a long dialogue", [(one["line"], one["text"]) for one in events(page)], [(one["line"], one["text"]) for one in wanted])
+    check("the note of a long dialogue", [note[:42] for note in page.texts("p", "meta")][1:], ["The trace has more than 2000 messages. Onl"])
+    check("no note of a short dialogue", len(Page(run(["report", "--html"], few)[1]).texts("p", "meta")), 1)
+    losses = Page(run(["report", "--html"], b"!\n" * (MOST + 5))[1])
+    check("a flood of losses", (len(events(losses)), [note[:23] for note in losses.texts("p", "meta")][1:]), (MOST, ["No more than 2000 events"[:23]]))
+
+
+def luminance(colour):
+    """The relative luminance of a colour, by WCAG 2."""
+    digits = colour[1:] if len(colour) == 7 else "".join(2 * digit for digit in colour[1:])
+    parts = [int(digits[at:at + 2], 16) / 255 for at in (0, 2, 4)]
+    red, green, blue = [part / 12.92 if part <= 0.04045 else ((part + 0.055) / 1.055) ** 2.4 for part in parts]
+    return 0.2126 * red + 0.7152 * green + 0.0722 * blue
+
+
+def contrast(one, other):
+    """The contrast of two colours, from 1 to 21."""
+    bright, dark = sorted((luminance(one), luminance(other)), reverse=True)
+    return (bright + 0.05) / (dark + 0.05)
+
+
+def themes(style):
+    """The colours of each theme: light, dark and paper. A theme has the colours of the light one that it doesn't set."""
+    found = []
+    for block in re.findall(r":root\{([^}]*)\}", style):
+        found.append(dict(found[0] if found else {}, **dict(re.findall(r"--([a-z]+):(#[0-9a-f]{3,6})\b", block))))
+    return found
+
+
+def readable(style):
+    """Each colour of text has enough contrast with each colour behind it, in each theme."""
+    check("the contrast of black and white", round(contrast("#000", "#ffffff"), 2), 21.0)
+    behind = {"bg", "paper"}
+    check("the themes", len(themes(style)), 3)
+    rules = re.sub(r":root\{[^}]*\}", "", style)
+    text = set(re.findall(r"(?<![-a-z])color:var\(--([a-z]+)\)", rules))
+    check("the colours of text", text >= {"ink", "soft", "act", "check", "ok", "wire"} and not text & (behind | {"line"}), True)
+    check("colours beside the themes", re.findall(r"#[0-9a-f]{3,8}\b|rgb\(|hsl\(|opacity", rules), [])
+    check("backgrounds", set(re.findall(r"background:(?!none|currentColor|var\(--(?:bg|paper)\))[^;}]*", rules)), set())
+    for theme in themes(style):
+        low = [(name, other, round(contrast(theme[name], theme[other]), 2)) for name in sorted(text) for other in sorted(behind) if contrast(theme[name], theme[other]) < 4.5]
+        check(f"the contrast on {theme['bg']}", low, [])
+
+
+def reachable(name, page):
+    """A keyboard reaches all that can be chosen: links alone, and first the one that skips the summary."""
+    body = [one for one in page.elements if "body" in one["in"]]
+    check(f"the first link of {name}", (body[0]["tag"], body[0]["attributes"]), ("a", {"class": "skip", "href": "#look"}))
+    check(f"links without a target in {name}", [one for one in body if one["tag"] == "a" and "href" not in one["attributes"]], [])
+    check(f"links without words in {name}", [one for one in body if one["tag"] == "a" and not one["text"].strip()], [])
+    style, = page.texts("style")
+    check(f"the focus of {name}", (len(re.findall(r":focus-visible\{outline:2px solid var\(--[a-z]+\)", style)), re.findall(r"outline:(?:none|0)", style)), (1, []))
+    check(f"the skip link of {name} is seen", bool(re.search(r"\.skip:focus\{left:\d", style)), True)
+
+
 def of(name, trace):
     """The page of a trace from standard input, read."""
     status, text, reported = run(["report", "--html"], trace)
@@ -134,6 +240,8 @@ def of(name, trace):
     well_formed(name, page)
     check(f"the title of {name}", (page.texts("title"), page.texts("h1")), (["Report of a trace"], ["Report of a trace"]))
     agrees(name, trace, page)
+    dialogue(name, trace, page)
+    reachable(name, page)
     return page
 
 
@@ -181,6 +289,8 @@ def main():
     traces = {path.name: path.read_bytes() for folder in folders for path in sorted(folder.glob("*.trace"))}
     pages = [page for page in (of(name, trace) for name, trace in traces.items()) if page]
     used(pages)
+    readable(*pages[0].texts("style"))
+    long_day()
     stored()
     hostile()
     refused()

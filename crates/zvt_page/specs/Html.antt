@@ -1,5 +1,5 @@
 -- A page as a value, and how it is spelled.
-use Rattle.std.specs.Prelude.{◌≡◌, ℕ, ◌==◌, ◌||◌, nat_lt, Bool, cond, List, [], ◌∷◌, ◌++◌, codes, refl}
+use Rattle.std.specs.Prelude.{◌≡◌, ℕ, ◌==◌, ◌||◌, nat_lt, Bool, cond, List, [], ◌∷◌, ◌++◌, Option, Some, None, codes, refl}
 use Rattle.std.specs.List.{flat_map}
 use Rattle.zvt_page.specs.Names.{attribute_name, element_name}
 use Rattle.zvt_page.specs.declared.elements.Attribute.{Attribute}
@@ -25,6 +25,15 @@ all (part ∷ parts) = both part (all parts)
 abbrev pub class_of : List ℕ → List (Attribute × List ℕ)
 class_of [] = []
 class_of (letter ∷ class) = (Class, letter ∷ class) ∷ []
+
+abbrev pub other_of : Option (Attribute × List ℕ) → List (Attribute × List ℕ)
+other_of None = []
+other_of (Some other) = other ∷ []
+
+-- the class of an element, and another attribute if there is one
+abbrev pub attributes_of : (class : List ℕ) → (other : Option (Attribute × List ℕ)) → List (Attribute × List ℕ)
+attributes_of class None = class_of class
+attributes_of class (Some other) = class_of class ++ other ∷ []
 
 -- an element of this class that holds a text
 abbrev pub leaf : Element → (class characters : List ℕ) → Html

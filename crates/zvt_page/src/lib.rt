@@ -14,4 +14,4 @@ mod tags;
 pub use document::{document_end, document_start};
 pub use elements::{Attribute, Element};
 pub use escapes::escaped;
-pub use tags::{end, leaf, start, start_both, start_in, start_with};
+pub use tags::{end, leaf, start};

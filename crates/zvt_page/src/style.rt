@@ -56,6 +56,15 @@ border-bottom:1px solid var(--line);vertical-align:bottom}
 margin-right:.5rem;vertical-align:.06em}
 .dot.c-act::before{border-radius:1px;transform:rotate(45deg)}
 .dot.c-soft::before{background:none;border:1.5px solid currentColor}
+.dlg{list-style:none;margin:1rem 0 0;padding:0}
+.dlg li{display:flex;gap:.8rem;padding:.2rem 0;scroll-margin-top:1rem}
+.dlg .ln{min-width:5ch;text-align:right;color:var(--soft);font-size:.82rem;line-height:1.9}
+.say{flex:1;min-width:0;padding:.15rem .8rem;border-left:3px solid var(--line);
+font:.82rem/1.5 ui-monospace,SFMono-Regular,Menlo,Consolas,'DejaVu Sans Mono',monospace;white-space:pre-wrap;overflow-wrap:anywhere}
+.say div{padding-left:2ch;text-indent:-2ch}.say div:first-child{font-weight:620}
+.till .say{margin-right:16%;border-color:var(--wire)}.terminal .say{margin-left:16%;border-color:var(--ok)}
+.bad .say,.lost .say{border-color:var(--act);color:var(--act)}.lost .say{border-left-style:dashed}
+.dlg li:target .say{background:var(--paper);outline:2px solid var(--wire)}
 footer{margin-top:3.5rem;border-top:1px solid var(--line);padding-top:1.2rem;color:var(--soft);font-size:.88rem}
 @media(max-width:46rem){
 .page{padding:1.4rem 1rem 3rem}h1{font-size:1.5rem}h2{margin:2.2rem 0 .7rem}
@@ -71,6 +80,8 @@ footer{margin-top:3.5rem;border-top:1px solid var(--line);padding-top:1.2rem;col
 .t .ids{grid-area:2/1/3/3;color:var(--soft);font-size:.88rem}
 .t .rc{grid-area:2/3;text-align:right;color:var(--soft);font-size:.88rem}
 .t .oc{grid-area:3/1/4/3;font-size:.92rem}.t .ln{grid-area:3/3;text-align:right;font-size:.88rem}
+.dlg li{gap:.5rem}.dlg .ln{min-width:3ch}.say{padding:.1rem .5rem}
+.till .say{margin-right:0}.terminal .say{margin-left:1.2rem}
 .t .ids:not(:empty)::before{content:'trace '}.t .rc:not(:empty)::before{content:'receipt '}
 }
 @media print{
@@ -81,7 +92,8 @@ body{font-size:9.6pt}.page{max-width:none;padding:0}.skip{display:none}
 h1{font-size:17pt}h2{font-size:12pt;margin:1.6rem 0 .6rem;break-after:avoid}
 .cards div{padding:.6rem .8rem}.cards dd{font-size:12pt}
 .cards div:first-child dd:nth-of-type(1){font-size:16pt}
-.t td{padding-top:.25rem;padding-bottom:.25rem}.look li,.t tr,.cards{break-inside:avoid}
+.t td{padding-top:.25rem;padding-bottom:.25rem}.look li,.t tr,.cards,.dlg li{break-inside:avoid}
+.say{font-size:7.6pt;padding:0 .5rem}.dlg .ln{font-size:7.6pt;line-height:1.5}.dlg li{padding:.1rem 0}
 thead{display:table-header-group}
 }
 ";

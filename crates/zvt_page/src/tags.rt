@@ -1,7 +1,7 @@
 //! Writes the tags of elements.
-ghost use Rattle.std.specs.Prelude.{◌≡◌, ◌++◌, [], ◌∷◌, OnOk};
-ghost use Rattle.zvt_page.specs.Names.{element_name};
-ghost use Rattle.zvt_page.specs.Html.{attribute_text, class_of, end_tag, leaf, render, start_tag};
+ghost use Rattle.std.specs.Prelude.{◌≡◌, ◌++◌, option_map, OnOk};
+ghost use Rattle.zvt_page.specs.Html.{attribute_text, attributes_of, attributes_text, class_of, end_tag, leaf};
+ghost use Rattle.zvt_page.specs.Html.{other_of, render, start_tag};
 
 use crate::elements::{Attribute, Element};
 use crate::escapes::escaped;
@@ -20,65 +20,56 @@ fn attribute(text: &mut Text, attribute: Attribute, value: &[u8]) -> Result<(), 
     text.push(b'"')
 }
 
-/// Writes the begin of a start tag.
-fn opened(text: &mut Text, element: Element) -> Result<(), AllocError>
-    ensures { OnOk result (text.new ≡ text.old ++ (60 ∷ element_name element)) }
+/// Writes the attribute, if there is one.
+fn other_attribute(text: &mut Text, other: Option<(Attribute, &[u8])>) -> Result<(), AllocError>
+    ensures { OnOk result (text.new ≡ text.old
+        ++ attributes_text (other_of (option_map (λ a. (a.0, a.1.now)) other.entry))) }
 {
-    text.push(b'<')?;
-    text.word(element.name().as_bytes())
+    match other {
+        Some((name, value)) => attribute(text, name, value),
+        None => Ok(()),
+    }
 }
 
-/// Writes the start tag of an element without attributes.
-#[tactic(auto, unfolding(crate::specs::Html::start_tag))]
-pub fn start(text: &mut Text, element: Element) -> Result<(), AllocError>
-    ensures { OnOk result (text.new ≡ text.old ++ start_tag element []) }
+/// Writes the class of an element, unless it is empty.
+fn class_attribute(text: &mut Text, class: &[u8]) -> Result<(), AllocError>
+    ensures { OnOk result (text.new ≡ text.old ++ attributes_text (class_of class.now)) }
 {
-    opened(text, element)?;
-    text.push(b'>')
+    if class.is_empty() {
+        return Ok(());
+    }
+    attribute(text, Attribute::Class, class)
 }
 
-/// Writes the start tag of an element with one attribute.
-#[tactic(auto, unfolding(crate::specs::Html::start_tag))]
-pub fn start_with(
+/// Writes the attributes of an element, the class first.
+fn attributes(
     text: &mut Text,
-    element: Element,
-    name: Attribute,
-    value: &[u8],
+    class: &[u8],
+    other: Option<(Attribute, &[u8])>,
 ) -> Result<(), AllocError>
-    ensures { OnOk result (text.new ≡ text.old ++ start_tag element ((name, value.now) ∷ [])) }
+    ensures { OnOk result (text.new ≡ text.old
+        ++ attributes_text (attributes_of class.now (option_map (λ a. (a.0, a.1.now)) other.entry))) }
 {
-    opened(text, element)?;
-    attribute(text, name, value)?;
-    text.push(b'>')
+    class_attribute(text, class)?;
+    other_attribute(text, other)
 }
 
-/// Writes the start tag of an element of this class, with another attribute.
+/// Writes the start tag of an element of this class, with another attribute if there is one. An element whose class is
+/// empty has none.
 #[tactic(auto, unfolding(crate::specs::Html::start_tag))]
-pub fn start_both(
+pub fn start(
     text: &mut Text,
     element: Element,
     class: &[u8],
-    name: Attribute,
-    value: &[u8],
+    other: Option<(Attribute, &[u8])>,
 ) -> Result<(), AllocError>
     ensures { OnOk result (text.new ≡ text.old
-        ++ start_tag element ((Attribute.Class, class.now) ∷ (name, value.now) ∷ [])) }
+        ++ start_tag element (attributes_of class.now (option_map (λ a. (a.0, a.1.now)) other.entry))) }
 {
-    opened(text, element)?;
-    attribute(text, Attribute::Class, class)?;
-    attribute(text, name, value)?;
+    text.push(b'<')?;
+    text.word(element.name().as_bytes())?;
+    attributes(text, class, other)?;
     text.push(b'>')
-}
-
-/// Writes the start tag of an element of this class, or without a class if it is empty.
-pub fn start_in(text: &mut Text, element: Element, class: &[u8]) -> Result<(), AllocError>
-    ensures { OnOk result (text.new ≡ text.old ++ start_tag element (class_of class.now)) }
-{
-    if class.is_empty() {
-        start(text, element)
-    } else {
-        start_with(text, element, Attribute::Class, class)
-    }
 }
 
 /// Writes the end tag of an element.
@@ -100,7 +91,7 @@ pub fn leaf(
 ) -> Result<(), AllocError>
     ensures { OnOk result (text.new ≡ text.old ++ render (leaf element class.now characters.now)) }
 {
-    start_in(text, element, class)?;
+    start(text, element, class, None)?;
     escaped(text, characters)?;
     end(text, element)
 }

@@ -21,3 +21,5 @@ pub mod PlaceLemmas
 pub mod WrittenLemmas
 pub mod WrappingLemmas
 pub mod TimeLemmas
+pub mod DialogueLemmas
+pub mod PageLemmas

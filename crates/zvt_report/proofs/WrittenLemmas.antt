@@ -1,26 +1,43 @@
 -- What a report that is found and written answers.
 use Rattle.std.proofs.Common.{◌≡◌, ℕ, ◌≤◌, List, Option, Some, None, IfSome, Result, Ok, Err, length, subst, sym, ◌∙◌}
-use Rattle.std.specs.Io.KnownBytes.{Keeps}
 use Rattle.zvt_grammar.specs.Reading.{Reading}
 use Rattle.zvt_trace.specs.Written.{limit}
 use Rattle.zvt_trace.specs.declared.fault.TraceFault.{TraceFault}
 use Rattle.zvt_trace.specs.declared.fault.TraceFault.TheVariants.{Memory, Read, TooLong, Trace, Write}
 use Rattle.zvt_trace.specs.declared.listener.Scope.{Scope}
+use Rattle.zvt_audit.proofs.AuditLemmas.{keeps_same}
 use Rattle.zvt_report.specs.Reports.{AnswersReport}
-use Rattle.zvt_report.specs.Written.{AnswersFound, AnswersReadWritten, AnswersWritten, zone_for}
+use Rattle.zvt_report.specs.Dialogue.{AnswersDialogue, IsDialogue}
+use Rattle.zvt_report.specs.Written.{AnswersFound, AnswersReadWritten, AnswersWritten, looks_of, zone_for}
+use Rattle.zvt_report.specs.declared.cases.Look.{Look}
 use Rattle.zvt_report.specs.declared.form.ReportForm.{ReportForm}
 use Rattle.zvt_report.specs.declared.report.Report.{Report}
 use Rattle.zvt_report.specs.declared.written.ReportSummary.{ReportSummary}
 use Rattle.zvt_report.specs.declared.zones.Zone.{Zone}
 
-pub found_written : (r : Reading) (scope : Scope) (form : ReportForm) (zone : Zone) (name : List ℕ) (trace : List ℕ) (report : Report) (old new : Option (List ℕ)) (result : Result ReportSummary TraceFault)
-    → AnswersReport (zone_for form zone) r scope trace (Ok report) → AnswersFound form name report old new result → AnswersWritten r scope form zone name trace old new result
-found_written r scope form zone name trace report old new (Ok summary) answers (appends, is) = (report, answers, appends, is)
-found_written r scope form zone name trace report old new (Err Memory) answers kept = kept
-found_written r scope form zone name trace report old new (Err Write) answers prefix = (report, answers, prefix)
-found_written r scope form zone name trace report old new (Err (Trace number what)) answers never = absurd never
-found_written r scope form zone name trace report old new (Err TooLong) answers never = absurd never
-found_written r scope form zone name trace report old new (Err Read) answers never = absurd never
+-- the looks and the text of the dialogue are lent
+pub dialogue_is : (r : Reading) (scope : Scope) (form : ReportForm) (trace : List ℕ) (report : Report) (looks : List Look) (text lent : List ℕ)
+    → looks ≡ looks_of report → lent ≡ text → IsDialogue r scope trace form report looks text → IsDialogue r scope trace form report (looks_of report) lent
+dialogue_is r scope form trace report looks text lent same is dialogue =
+    subst (λ (t : List ℕ). IsDialogue r scope trace form report (looks_of report) t) (sym is) (subst (λ (l : List Look). IsDialogue r scope trace form report l text) same dialogue)
+
+pub found_written : (r : Reading) (scope : Scope) (form : ReportForm) (zone : Zone) (name : List ℕ) (trace : List ℕ) (report : Report) (dialogue : List ℕ) (old new : Option (List ℕ)) (result : Result ReportSummary TraceFault)
+    → AnswersReport (zone_for form zone) r scope trace (Ok report) → IsDialogue r scope trace form report (looks_of report) dialogue → AnswersFound form name report dialogue old new result → AnswersWritten r scope form zone name trace old new result
+found_written r scope form zone name trace report dialogue old new (Ok summary) answers is (appends, sum) = (report, answers, dialogue, is, appends, sum)
+found_written r scope form zone name trace report dialogue old new (Err Memory) answers is kept = kept
+found_written r scope form zone name trace report dialogue old new (Err Write) answers is prefix = (report, answers, dialogue, is, prefix)
+found_written r scope form zone name trace report dialogue old new (Err (Trace number what)) answers is never = absurd never
+found_written r scope form zone name trace report dialogue old new (Err TooLong) answers is never = absurd never
+found_written r scope form zone name trace report dialogue old new (Err Read) answers is never = absurd never
+
+-- the dialogue could not be read, before anything was written
+pub none_written : (r : Reading) (scope : Scope) (form : ReportForm) (zone : Zone) (name : List ℕ) (trace : List ℕ) (report : Report) (looks : List Look) (held : Option (List ℕ)) (fault : TraceFault)
+    → AnswersDialogue r scope trace form report looks (Err fault) → AnswersWritten r scope form zone name trace held held (Err fault)
+none_written r scope form zone name trace report looks held (Trace number what) broken = (broken, keeps_same held)
+none_written r scope form zone name trace report looks held Memory done = keeps_same held
+none_written r scope form zone name trace report looks held Write never = absurd never
+none_written r scope form zone name trace report looks held TooLong never = absurd never
+none_written r scope form zone name trace report looks held Read never = absurd never
 
 short_written : (r : Reading) (scope : Scope) (form : ReportForm) (zone : Zone) (name : List ℕ) (trace : List ℕ) (old new : Option (List ℕ)) (result : Result ReportSummary TraceFault)
     → length trace ≤ limit → AnswersWritten r scope form zone name trace old new result → AnswersReadWritten r scope form zone name trace old new result

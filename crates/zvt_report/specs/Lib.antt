@@ -48,3 +48,5 @@ pub mod PageClosings
 pub mod TimeMembers
 pub mod Times
 pub mod Zones
+pub mod PageEvents
+pub mod Dialogue

@@ -1,6 +1,6 @@
 -- The report of a trace as a page.
 use Rattle.std.specs.Prelude.{◌≡◌, ℕ, List, [], ◌∷◌, ◌++◌, codes, Option, Some, None, refl}
-use Rattle.zvt_page.specs.Document.{document}
+use Rattle.zvt_page.specs.Document.{document, document_end, document_start}
 use Rattle.zvt_page.specs.Html.{Html, nothing, element, text, leaf, all, both, attribute_text, end_tag, escaped, render, start_tag}
 use Rattle.zvt_page.specs.declared.elements.Attribute.TheVariants.{Class, Href}
 use Rattle.zvt_page.specs.declared.elements.Element.TheVariants.{A, Footer, H1, Header, Main, P}
@@ -48,19 +48,31 @@ page_foot tally times = element Footer [] (leaf P [] (footer tally ++ clock_note
 unfoldable pub skip_link : Html
 skip_link = element A ((Class, codes "skip") ∷ (Href, codes "#look") ∷ []) (text (codes "Skip to what needs a look"))
 
-unfoldable pub sections : (name : List ℕ) → Option Money → Tally → Times → DayValue → List OrderMessage → List (Option Closing) → List Look → Html
-sections name money tally times books messages closings looks =
+unfoldable pub sections : (name : List ℕ) → Option Money → Times → DayValue → List OrderMessage → List (Option Closing) → List Look → Html
+sections name money times books messages closings looks =
     all (page_head name money times ∷ cards (decimals_of money) books messages ∷ looks_section (decimals_of money) books looks ∷ payments_section (decimals_of money) books
-    ∷ others_section (decimals_of money) books messages ∷ closings_section (decimals_of money) closings books.orders ∷ page_foot tally times ∷ [])
+    ∷ others_section (decimals_of money) books messages ∷ closings_section (decimals_of money) closings books.orders ∷ [])
 
 -- the body of the page
-unfoldable pub page_of : (name : List ℕ) → Option Money → Tally → Times → DayValue → List OrderMessage → List (Option Closing) → List Look → Html
-page_of name money tally times books messages closings looks =
-    both skip_link (element Main ((Class, codes "page") ∷ []) (sections name money tally times books messages closings looks))
+unfoldable pub page_of : (name : List ℕ) → Option Money → Tally → Times → DayValue → List OrderMessage → List (Option Closing) → List Look → (dialogue : Html) → Html
+page_of name money tally times books messages closings looks dialogue =
+    both skip_link (element Main ((Class, codes "page") ∷ []) (both (sections name money times books messages closings looks) (both dialogue (page_foot tally times))))
 
-abbrev pub report_page : (name : List ℕ) → Tally → (currency : Option ℕ) → Times → DayValue → List OrderMessage → List (Option Closing) → List Look → List ℕ
-report_page name tally currency times books messages closings looks =
-    document (heading name) (page_of name (money_of currency) tally times books messages closings looks)
+-- the same with a dialogue that is spelled already
+unfoldable pub page_with : (name : List ℕ) → Option Money → Tally → Times → DayValue → List OrderMessage → List (Option Closing) → List Look → (dialogue : List ℕ) → List ℕ
+page_with name money tally times books messages closings looks dialogue =
+    render skip_link ++ (start_tag Main ((Class, codes "page") ∷ []) ++ (render (sections name money times books messages closings looks) ++ (dialogue ++ (render (page_foot tally times) ++ end_tag Main))))
+
+abbrev pub report_page : (name : List ℕ) → Tally → (currency : Option ℕ) → Times → DayValue → List OrderMessage → List (Option Closing) → List Look → (dialogue : List ℕ) → List ℕ
+report_page name tally currency times books messages closings looks dialogue =
+    document_start (heading name) ++ page_with name (money_of currency) tally times books messages closings looks dialogue ++ document_end
+
+-- A report is a document if its dialogue is part of one.
+abbrev pub ReportsAreDocuments : Type 0
+ReportsAreDocuments =
+    (name : List ℕ) (tally : Tally) (currency : Option ℕ) (times : Times) (books : DayValue) (messages : List OrderMessage) (closings : List (Option Closing)) (looks : List Look) (dialogue : Html)
+    → report_page name tally currency times books messages closings looks (render dialogue)
+    ≡ document (heading name) (page_of name (money_of currency) tally times books messages closings looks dialogue)
 
 -- ---- a row worked by hand
 

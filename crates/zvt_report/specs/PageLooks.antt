@@ -1,7 +1,7 @@
 -- The orders that a person should look at, on a page.
 use Rattle.std.specs.Prelude.{◌≡◌, ℕ, Bool, true, false, cond, List, [], ◌∷◌, ◌++◌, codes, Option, Some, None, slice_get, refl}
 use Rattle.std.specs.Fmt.{digits}
-use Rattle.zvt_page.specs.Html.{Html, nothing, both, element, text, leaf, all, attribute_text, end_tag, escaped, render, start_tag}
+use Rattle.zvt_page.specs.Html.{Html, nothing, both, class_of, element, text, leaf, all, attribute_text, end_tag, escaped, render, start_tag}
 use Rattle.zvt_page.specs.declared.elements.Attribute.TheVariants.{Class, Id}
 use Rattle.zvt_page.specs.declared.elements.Element.TheVariants.{H2, H3, Li, Ol, P, Span}
 use Rattle.zvt_till.specs.declared.entries.Entry.{Entry}
@@ -49,7 +49,7 @@ advice_part decimals entry row again case = leaf P (codes "do") (advice decimals
 -- one order: its weight, a title, its lines, what happened and what to do
 unfoldable pub item : Decimals → Option Entry → OrderRow → (again : Option OrderRow) → Case → Html
 item decimals entry row again case =
-    element Li ((Class, weight_class (weight_of case)) ∷ [])
+    element Li (class_of (weight_class (weight_of case)))
     (all (leaf Span (codes "sev") (weight_word (weight_of case)) ∷ title_part decimals entry row again case ∷ lines_part row
     ∷ account_part decimals entry row again case ∷ advice_part decimals entry row again case ∷ []))
 

@@ -2,7 +2,7 @@
 use Rattle.std.specs.Prelude.{ℕ, Bool, cond, List, [], ◌∷◌, ◌++◌, codes, Option, Some, None}
 use Rattle.std.specs.Fmt.{decimal}
 use Rattle.hex.specs.Hex.{encode_upper}
-use Rattle.zvt_page.specs.Html.{Html, nothing, element, text, leaf}
+use Rattle.zvt_page.specs.Html.{Html, nothing, attributes_of, element, text, leaf}
 use Rattle.zvt_page.specs.declared.elements.Attribute.TheVariants.{Class, Scope}
 use Rattle.zvt_page.specs.declared.elements.Element.TheVariants.{Span, Td, Th}
 use Rattle.zvt_report.specs.Amounts.{amount_text}
@@ -15,7 +15,7 @@ use Rattle.zvt_trace.specs.declared.moment.Moment.{Moment}
 
 -- the heading of a column
 unfoldable pub column : (class title : List ℕ) → Html
-column class title = element Th ((Class, class) ∷ (Scope, codes "col") ∷ []) (text title)
+column class title = element Th (attributes_of class (Some (Scope, codes "col"))) (text title)
 
 -- the column of times, if the table has one
 unfoldable pub time_heading : (timed : Bool) → Html

@@ -6,6 +6,7 @@ use Rattle.zvt_trace.specs.Written.{AppendsPrefix, limit}
 use Rattle.zvt_trace.specs.declared.fault.TraceFault.{TraceFault}
 use Rattle.zvt_trace.specs.declared.fault.TraceFault.TheVariants.{Memory, Read, TooLong, Trace, Write}
 use Rattle.zvt_trace.specs.declared.listener.Scope.{Scope}
+use Rattle.zvt_report.specs.Dialogue.{IsDialogue}
 use Rattle.zvt_report.specs.LookList.{urgent_count}
 use Rattle.zvt_report.specs.Looks.{looks}
 use Rattle.zvt_report.specs.Objects.{report_json}
@@ -28,39 +29,46 @@ zone_for Text zone = zone
 zone_for Json zone = utc
 zone_for Page zone = zone
 
--- the text, the objects or the page of a report with these looks; only the page has the name of the file
-abbrev pub report_in : ReportForm → (name : List ℕ) → Report → List Look → List ℕ
-report_in Text name report found = report_text report.tally report.currency report.times report.books report.messages.items report.closings.items found
-report_in Json name report found = report_json report.tally report.currency report.times report.books report.messages.items report.closings.items found
-report_in Page name report found = report_page name report.tally report.currency report.times report.books report.messages.items report.closings.items found
+-- the text, the objects or the page of a report with these looks; only the page has the name of the file and the dialogue
+abbrev pub report_in : ReportForm → (name : List ℕ) → Report → List Look → (dialogue : List ℕ) → List ℕ
+report_in Text name report found dialogue = report_text report.tally report.currency report.times report.books report.messages.items report.closings.items found
+report_in Json name report found dialogue = report_json report.tally report.currency report.times report.books report.messages.items report.closings.items found
+report_in Page name report found dialogue = report_page name report.tally report.currency report.times report.books report.messages.items report.closings.items found dialogue
 
--- with the looks that its orders need
-abbrev pub written : ReportForm → (name : List ℕ) → Report → List ℕ
-written form name report = report_in form name report (looks report.books.book report.closings.items report.books.orders)
+-- the looks that its orders need
+abbrev pub looks_of : Report → List Look
+looks_of report = looks report.books.book report.closings.items report.books.orders
+
+abbrev pub written : ReportForm → (name : List ℕ) → Report → (dialogue : List ℕ) → List ℕ
+written form name report dialogue = report_in form name report (looks_of report) dialogue
 
 -- ---- the summary
 
 abbrev pub summed_up : Report → ReportSummary
-summed_up report = record { tally = report.tally; acts = urgent_count (looks report.books.book report.closings.items report.books.orders); passed = report.passed }
+summed_up report = record { tally = report.tally; acts = urgent_count (looks_of report); passed = report.passed }
 
 -- ---- the answer
 
 -- What the writing of a report in that form answers. If a write failed, a prefix of the text is written.
-abbrev pub AnswersFound : ReportForm → (name : List ℕ) → Report → (old new : Option (List ℕ)) → Result ReportSummary TraceFault → Type 0
-AnswersFound form name report old new (Ok summary) = Appends old new (written form name report) × (summary ≡ summed_up report)
-AnswersFound form name report old new (Err Memory) = Keeps old new
-AnswersFound form name report old new (Err Write) = AppendsPrefix old new (written form name report)
-AnswersFound form name report old new (Err (Trace number what)) = ⊥
-AnswersFound form name report old new (Err TooLong) = ⊥
-AnswersFound form name report old new (Err Read) = ⊥
+abbrev pub AnswersFound : ReportForm → (name : List ℕ) → Report → (dialogue : List ℕ) → (old new : Option (List ℕ)) → Result ReportSummary TraceFault → Type 0
+AnswersFound form name report dialogue old new (Ok summary) = Appends old new (written form name report dialogue) × (summary ≡ summed_up report)
+AnswersFound form name report dialogue old new (Err Memory) = Keeps old new
+AnswersFound form name report dialogue old new (Err Write) = AppendsPrefix old new (written form name report dialogue)
+AnswersFound form name report dialogue old new (Err (Trace number what)) = ⊥
+AnswersFound form name report dialogue old new (Err TooLong) = ⊥
+AnswersFound form name report dialogue old new (Err Read) = ⊥
 
 -- What a report answers that is written in this form, by that reading of lengths, and with what a refusal leaves unread. If it
 -- fails, nothing is written, but of a write that failed a prefix of the text.
 abbrev pub AnswersWritten : Reading → Scope → ReportForm → Zone → (name : List ℕ) → (trace : List ℕ) → (old new : Option (List ℕ)) → Result ReportSummary TraceFault → Type 0
-AnswersWritten r scope form zone name trace old new (Ok summary) = (report : Report) × AnswersReport (zone_for form zone) r scope trace (Ok report) × Appends old new (written form name report) × (summary ≡ summed_up report)
+AnswersWritten r scope form zone name trace old new (Ok summary) =
+    (report : Report) × AnswersReport (zone_for form zone) r scope trace (Ok report) × (dialogue : List ℕ) × IsDialogue r scope trace form report (looks_of report) dialogue
+    × Appends old new (written form name report dialogue) × (summary ≡ summed_up report)
 AnswersWritten r scope form zone name trace old new (Err (Trace number what)) = AnswersReport (zone_for form zone) r scope trace (Err (Trace number what)) × Keeps old new
 AnswersWritten r scope form zone name trace old new (Err Memory) = Keeps old new
-AnswersWritten r scope form zone name trace old new (Err Write) = (report : Report) × AnswersReport (zone_for form zone) r scope trace (Ok report) × AppendsPrefix old new (written form name report)
+AnswersWritten r scope form zone name trace old new (Err Write) =
+    (report : Report) × AnswersReport (zone_for form zone) r scope trace (Ok report) × (dialogue : List ℕ) × IsDialogue r scope trace form report (looks_of report) dialogue
+    × AppendsPrefix old new (written form name report dialogue)
 AnswersWritten r scope form zone name trace old new (Err TooLong) = ⊥
 AnswersWritten r scope form zone name trace old new (Err Read) = ⊥
 

@@ -3,6 +3,7 @@ ghost use Rattle.zvt_report.specs.Laws.{DoubtsAreLeftOpen, EachOrderHasARow, Sam
 ghost use Rattle.zvt_report.specs.Looks.{EachPaymentIsLookedAt, EachReversalIsLookedAt};
 ghost use Rattle.zvt_report.specs.Naming.{ReversalsNameEntries};
 ghost use Rattle.zvt_report.specs.Reported.{EachOrderHasAMessage, EachReversalNamesAnEntry, SameBooksAsAudit};
+ghost use Rattle.zvt_report.specs.Page.{ReportsAreDocuments};
 ghost use Rattle.zvt_report.specs.Places.{PlacesNameEntries};
 ghost use Rattle.zvt_report.specs.Reading.{ObjectsReadBack};
 ghost use Rattle.zvt_report.specs.Wrapping.{BreaksOnlyAtBlanks, LinesFit};
@@ -87,4 +88,9 @@ pub fn breaks_only_at_blanks()
 /// No line of a sentence in the text of a report has more than 76 columns, unless it is one word.
 pub fn lines_fit()
     ensures { LinesFit }
+{}
+
+/// The page of a report is a document. Its dialogue is a part of it.
+pub fn reports_are_documents()
+    ensures { ReportsAreDocuments }
 {}

@@ -1,7 +1,7 @@
 //! Writes the report of a trace as a page.
 ghost use Rattle.std.specs.Prelude.{◌≡◌, ◌++◌, OnOk};
 ghost use Rattle.zvt_page.specs.Html.{render};
-ghost use Rattle.zvt_report.specs.Page.{amounts_in, heading, hours_part, page_foot, page_head, page_of, report_page};
+ghost use Rattle.zvt_report.specs.Page.{amounts_in, heading, hours_part, page_foot, page_head, page_with, report_page};
 ghost use Rattle.zvt_report.specs.Page.{sections, skip_link, unit_words};
 
 use crate::books::DayBooks;
@@ -19,10 +19,7 @@ use crate::text::footer;
 use crate::times::{Times, clock_notes, span_words};
 use std::alloc::{AllocError, Global};
 use zvt_bcd::Currency;
-use zvt_page::{
-    Attribute, Element, document_end, document_start, end, escaped, leaf, start, start_both,
-    start_with,
-};
+use zvt_page::{Attribute, Element, document_end, document_start, end, escaped, leaf, start};
 use zvt_text::Text;
 use zvt_trace::Tally;
 
@@ -80,7 +77,7 @@ fn page_head(
 ) -> Result<(), AllocError>
     ensures { OnOk result (page.new ≡ page.old ++ render (page_head name.now money.now times.now)) }
 {
-    start(page, Element::Header)?;
+    start(page, Element::Header, b"", None)?;
     leaf(page, Element::H1, b"", heading(name))?;
     hours_part(page, note, times)?;
     note.clear();
@@ -99,7 +96,7 @@ fn page_foot(
 ) -> Result<(), AllocError>
     ensures { OnOk result (page.new ≡ page.old ++ render (page_foot tally times.now)) }
 {
-    start(page, Element::Footer)?;
+    start(page, Element::Footer, b"", None)?;
     note.clear();
     footer(note, tally)?;
     clock_notes(note, times)?;
@@ -112,19 +109,18 @@ fn page_foot(
 fn skip_link(page: &mut Text) -> Result<(), AllocError>
     ensures { OnOk result (page.new ≡ page.old ++ render skip_link) }
 {
-    start_both(page, Element::A, b"skip", Attribute::Href, b"#look")?;
+    start(page, Element::A, b"skip", Some((Attribute::Href, b"#look")))?;
     escaped(page, b"Skip to what needs a look")?;
     end(page, Element::A)
 }
 
-/// Writes the sections of a page.
+/// Writes the sections of a page, up to the dialogue.
 #[tactic(auto, unfolding(crate::specs::Page::sections))]
 fn sections(
     page: &mut Text,
     note: &mut Text,
     name: &[u8],
     money: &Option<Money>,
-    tally: Tally,
     times: &Times,
     books: &DayBooks,
     messages: &[OrderMessage],
@@ -132,7 +128,7 @@ fn sections(
     looks: &[Look],
 ) -> Result<(), AllocError>
     ensures { OnOk result (page.new ≡ page.old
-        ++ render (sections name.now money.now tally times.now books.now messages.now closings.now looks.now)) }
+        ++ render (sections name.now money.now times.now books.now messages.now closings.now looks.now)) }
 {
     let decimals = decimals_of(money);
     page_head(page, note, name, money, times)?;
@@ -140,13 +136,12 @@ fn sections(
     looks_section(page, note, decimals, books, looks)?;
     payments_section(page, note, decimals, books)?;
     others_section(page, note, decimals, books, messages)?;
-    closings_section(page, note, decimals, closings, books.orders.as_slice())?;
-    page_foot(page, note, tally, times)
+    closings_section(page, note, decimals, closings, books.orders.as_slice())
 }
 
-/// Writes the body of a page. The texts are put together in `note`, whose own text is lost.
-#[tactic(auto, unfolding(crate::specs::Page::page_of))]
-fn page_of(
+/// Writes the body of a page with this dialogue. The texts are put together in `note`, whose own text is lost.
+#[tactic(auto, unfolding(crate::specs::Page::page_with))]
+fn page_with(
     page: &mut Text,
     note: &mut Text,
     name: &[u8],
@@ -157,19 +152,23 @@ fn page_of(
     messages: &[OrderMessage],
     closings: &[Option<Closing>],
     looks: &[Look],
+    dialogue: &[u8],
 ) -> Result<(), AllocError>
     ensures { OnOk result (page.new ≡ page.old
-        ++ render (page_of name.now money.now tally times.now books.now messages.now closings.now looks.now)) }
+        ++ page_with name.now money.now tally times.now books.now messages.now closings.now looks.now dialogue.now) }
 {
     skip_link(page)?;
-    start_with(page, Element::Main, Attribute::Class, b"page")?;
+    start(page, Element::Main, b"page", None)?;
     sections(
-        page, note, name, money, tally, times, books, messages, closings, looks,
+        page, note, name, money, times, books, messages, closings, looks,
     )?;
+    page.word(dialogue)?;
+    page_foot(page, note, tally, times)?;
     end(page, Element::Main)
 }
 
-/// Writes the report of the trace in the file of this name, as a page. Fails only if memory runs out.
+/// Writes the report of the trace in the file of this name as a page, with this section of the dialogue. Fails only if
+/// memory runs out.
 pub(crate) fn write(
     alloc: Global,
     page: &mut Text,
@@ -181,15 +180,16 @@ pub(crate) fn write(
     messages: &[OrderMessage],
     closings: &[Option<Closing>],
     looks: &[Look],
+    dialogue: &[u8],
 ) -> Result<(), AllocError>
     ensures { OnOk result (page.new ≡ page.old
-        ++ report_page name.now tally currency times.now books.now messages.now closings.now looks.now) }
+        ++ report_page name.now tally currency times.now books.now messages.now closings.now looks.now dialogue.now) }
 {
     let mut note = Text::new(alloc);
     let money = money_of(currency);
     document_start(page, heading(name))?;
-    page_of(
-        page, &mut note, name, &money, tally, times, books, messages, closings, looks,
+    page_with(
+        page, &mut note, name, &money, tally, times, books, messages, closings, looks, dialogue,
     )?;
     document_end(page)
 }

@@ -16,7 +16,7 @@ use crate::sums::{
 };
 use std::alloc::AllocError;
 use zvt_bcd::Amount;
-use zvt_page::{Attribute, Element, end, leaf, start_in, start_with};
+use zvt_page::{Element, end, leaf, start};
 use zvt_text::Text;
 use zvt_till::{Cause, Entry};
 
@@ -25,7 +25,7 @@ fn card_start(page: &mut Text, class: &[u8], name: &[u8]) -> Result<(), AllocErr
     ensures { OnOk result (page.new ≡ page.old
         ++ (start_tag Element.Div (class_of class.now) ++ render (leaf Element.Dt [] name.now))) }
 {
-    start_in(page, Element::Div, class)?;
+    start(page, Element::Div, class, None)?;
     leaf(page, Element::Dt, b"", name)
 }
 
@@ -192,7 +192,7 @@ pub(crate) fn cards(
     ensures { OnOk result (page.new ≡ page.old ++ render (cards decimals books.now messages.now)) }
 {
     let book = books.book.as_slice();
-    start_with(page, Element::Dl, Attribute::Class, b"cards")?;
+    start(page, Element::Dl, b"cards", None)?;
     net_card(page, note, decimals, book)?;
     booked_card(page, note, decimals, book)?;
     taken_back_card(page, note, decimals, book)?;

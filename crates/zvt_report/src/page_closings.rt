@@ -80,7 +80,7 @@ fn closing_row(
 ) -> Result<(), AllocError>
     ensures { OnOk result (page.new ≡ page.old ++ render (closing_row decimals row.now closing.now)) }
 {
-    start(page, Element::Tr)?;
+    start(page, Element::Tr, b"", None)?;
     note.clear();
     sum_or_nothing(note, decimals, closing.stated)?;
     leaf(page, Element::Td, b"n am", note.bytes())?;

@@ -14,7 +14,7 @@ use crate::rows::OrderRow;
 use crate::sentences::{account, advice, title};
 use crate::times::time_first;
 use std::alloc::AllocError;
-use zvt_page::{Attribute, Element, end, escaped, leaf, start_with};
+use zvt_page::{Attribute, Element, end, escaped, leaf, start};
 use zvt_text::Text;
 use zvt_till::Entry;
 
@@ -118,7 +118,7 @@ fn item(
     ensures { OnOk result (page.new ≡ page.old ++ render (item decimals entry.now row.now again.now case)) }
 {
     let weight = case.weight();
-    start_with(page, Element::Li, Attribute::Class, weight_class(weight))?;
+    start(page, Element::Li, weight_class(weight), None)?;
     leaf(page, Element::Span, b"sev", weight_word(weight))?;
     title_part(page, note, decimals, entry, row, again, case)?;
     lines_part(page, note, row)?;
@@ -205,7 +205,7 @@ fn items_or_none(
             b"Nothing in this trace needs a look.",
         );
     }
-    start_with(page, Element::Ol, Attribute::Class, b"look")?;
+    start(page, Element::Ol, b"look", None)?;
     items(page, note, decimals, book, rows, true, looks)?;
     items(page, note, decimals, book, rows, false, looks)?;
     end(page, Element::Ol)
@@ -216,7 +216,7 @@ fn items_or_none(
 fn look_heading(page: &mut Text) -> Result<(), AllocError>
     ensures { OnOk result (page.new ≡ page.old ++ render look_heading) }
 {
-    start_with(page, Element::H2, Attribute::Id, b"look")?;
+    start(page, Element::H2, b"", Some((Attribute::Id, b"look")))?;
     escaped(page, b"Look at these")?;
     end(page, Element::H2)
 }

@@ -24,7 +24,7 @@ use crate::times::have_times;
 use crate::tones::outcome_tone;
 use std::alloc::AllocError;
 use zvt_bcd::Amount;
-use zvt_page::{Element, end, leaf, start_in};
+use zvt_page::{Element, end, leaf, start};
 use zvt_text::Text;
 use zvt_till::Entry;
 
@@ -64,7 +64,12 @@ fn row_start(
         (class_of (row_class (outcome_tone row.now.outcome))) ++ (render (time_cell timed row.now.time)
         ++ render (amount_cell decimals amount.now)))) }
 {
-    start_in(page, Element::Tr, outcome_tone(&row.outcome).row_class())?;
+    start(
+        page,
+        Element::Tr,
+        outcome_tone(&row.outcome).row_class(),
+        None,
+    )?;
     time_cell(page, note, timed, &row.time)?;
     amount_cell(page, note, decimals, amount)
 }

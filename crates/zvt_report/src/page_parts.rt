@@ -11,7 +11,7 @@ use crate::currencies::Decimals;
 use crate::tones::Tone;
 use std::alloc::AllocError;
 use zvt_bcd::{Amount, Trace};
-use zvt_page::{Attribute, Element, end, escaped, leaf, start, start_both, start_with};
+use zvt_page::{Attribute, Element, end, escaped, leaf, start};
 use zvt_text::{Text, hexadecimal};
 use zvt_trace::Moment;
 
@@ -20,7 +20,7 @@ use zvt_trace::Moment;
 pub(crate) fn column(page: &mut Text, class: &[u8], title: &[u8]) -> Result<(), AllocError>
     ensures { OnOk result (page.new ≡ page.old ++ render (column class.now title.now)) }
 {
-    start_both(page, Element::Th, class, Attribute::Scope, b"col")?;
+    start(page, Element::Th, class, Some((Attribute::Scope, b"col")))?;
     escaped(page, title)?;
     end(page, Element::Th)
 }
@@ -171,7 +171,7 @@ pub(crate) fn lines_cell(
 pub(crate) fn outcome_cell(page: &mut Text, tone: Tone, words: &[u8]) -> Result<(), AllocError>
     ensures { OnOk result (page.new ≡ page.old ++ render (outcome_cell tone words.now)) }
 {
-    start_with(page, Element::Td, Attribute::Class, b"oc")?;
+    start(page, Element::Td, b"oc", None)?;
     leaf(page, Element::Span, tone.class(), words)?;
     end(page, Element::Td)
 }
@@ -181,9 +181,9 @@ pub(crate) fn table_start(page: &mut Text) -> Result<(), AllocError>
     ensures { OnOk result (page.new ≡ page.old ++ (start_tag Element.Table ((Attribute.Class, codes "t") ∷ [])
         ++ (start_tag Element.Thead [] ++ start_tag Element.Tr []))) }
 {
-    start_with(page, Element::Table, Attribute::Class, b"t")?;
-    start(page, Element::Thead)?;
-    start(page, Element::Tr)
+    start(page, Element::Table, b"t", None)?;
+    start(page, Element::Thead, b"", None)?;
+    start(page, Element::Tr, b"", None)
 }
 
 /// Writes what comes between the headings of a table and its rows.
@@ -193,7 +193,7 @@ pub(crate) fn table_body(page: &mut Text) -> Result<(), AllocError>
 {
     end(page, Element::Tr)?;
     end(page, Element::Thead)?;
-    start(page, Element::Tbody)
+    start(page, Element::Tbody, b"", None)
 }
 
 /// Writes the end of a table, after its rows.

@@ -21,7 +21,7 @@ use crate::times::have_times;
 use crate::tones::payment_tone;
 use std::alloc::AllocError;
 use zvt_bcd::Amount;
-use zvt_page::{Element, end, leaf, start_in};
+use zvt_page::{Element, end, leaf, start};
 use zvt_text::Text;
 use zvt_till::{Entry, Sent};
 
@@ -89,10 +89,11 @@ fn payment_row(
 ) -> Result<(), AllocError>
     ensures { OnOk result (page.new ≡ page.old ++ render (payment_row timed decimals number entry.now row.now amount)) }
 {
-    start_in(
+    start(
         page,
         Element::Tr,
         payment_tone(entry, &row.outcome).row_class(),
+        None,
     )?;
     number_cell(page, note, number)?;
     time_cell(page, note, timed, &row.time)?;

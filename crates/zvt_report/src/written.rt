@@ -4,9 +4,10 @@ ghost use Rattle.std.specs.Io.KnownBytes.{Consumes};
 ghost use Rattle.zvt_grammar.specs.Lengths.{reading_of};
 ghost use Rattle.zvt_trace.specs.Written.{limit};
 ghost use Rattle.zvt_report.specs.Written.{AnswersFound, AnswersReadWritten, AnswersWritten};
-ghost use Rattle.zvt_report.specs.Written.{report_in, zone_for};
+ghost use Rattle.zvt_report.specs.Written.{looks_of, report_in, zone_for};
 
 use crate::cases::{Look, looks};
+use crate::dialogue::dialogue_in;
 use crate::form::ReportForm;
 use crate::look_list::urgent_count;
 use crate::report::{Report, report_trace};
@@ -49,7 +50,25 @@ pub fn write_report<W: Sink>(
     ensures write { result ≡ Err TraceFault.Write → W.failures writer.old < W.failures writer.new }
 {
     let report = report_trace(alloc, zone_for(form, zone), scope, lengths, trace)?;
-    write_found(alloc, form, name, &report, writer)
+    let looks = looks_of(alloc, &report)?;
+    let dialogue = dialogue_in(
+        alloc,
+        form,
+        scope,
+        lengths,
+        &report,
+        looks.as_slice(),
+        trace,
+    )?;
+    write_found(
+        alloc,
+        form,
+        name,
+        &report,
+        looks.as_slice(),
+        dialogue.bytes(),
+        writer,
+    )
 }
 
 /// Reads a trace to its end, and writes its report like [`write_report`].
@@ -93,29 +112,39 @@ fn zone_for(form: ReportForm, zone: Zone) -> Zone
     }
 }
 
-/// Writes a report in this form, and returns its findings.
+/// Returns the looks that the orders of a report need.
+fn looks_of(alloc: Global, report: &Report) -> Result<Vec<Look>, AllocError>
+    ensures { IfOk result (λ looks. looks.items ≡ looks_of report.now) }
+{
+    let books = &report.books;
+    looks(
+        alloc,
+        books.book.as_slice(),
+        report.closings.as_slice(),
+        books.orders.as_slice(),
+    )
+}
+
+/// Writes a report in this form with its looks and its dialogue, and returns its findings.
 fn write_found<W: Sink>(
     alloc: Global,
     form: ReportForm,
     name: &[u8],
     report: &Report,
+    looks: &[Look],
+    dialogue: &[u8],
     writer: &mut W,
 ) -> Result<ReportSummary, TraceFault>
-    ensures writes { AnswersFound form name.now report.now (W.written writer.old) (W.written writer.new) result }
+    requires { looks.now ≡ looks_of report.now }
+    ensures writes { AnswersFound form name.now report.now dialogue.now (W.written writer.old) (W.written writer.new)
+        result }
     ensures write { result ≡ Err TraceFault.Write → W.failures writer.old < W.failures writer.new }
 {
-    let books = &report.books;
-    let looks = looks(
-        alloc,
-        books.book.as_slice(),
-        report.closings.as_slice(),
-        books.orders.as_slice(),
-    )?;
-    let text = text_of(alloc, form, name, report, looks.as_slice())?;
+    let text = text_of(alloc, form, name, report, looks, dialogue)?;
     writer.write_all(text.bytes())?;
     Ok(ReportSummary {
         tally: report.tally,
-        acts: urgent_count(looks.as_slice()) as u64,
+        acts: urgent_count(looks) as u64,
         passed: report.passed,
     })
 }
@@ -127,8 +156,9 @@ fn text_of(
     name: &[u8],
     report: &Report,
     looks: &[Look],
+    dialogue: &[u8],
 ) -> Result<Text, AllocError>
-    ensures { IfOk result (λ text. text ≡ report_in form name.now report.now looks.now) }
+    ensures { IfOk result (λ text. text ≡ report_in form name.now report.now looks.now dialogue.now) }
 {
     let books = &report.books;
     let messages = report.messages.as_slice();
@@ -167,6 +197,7 @@ fn text_of(
             messages,
             closings,
             looks,
+            dialogue,
         )?,
     }
     Ok(text)

@@ -7,4 +7,4 @@ pub returns : goal.returns
 unfolding skip_link
 returns c =
     completes c.end.result c.escaped.new.text c.end.new.text _ _
-    (simp (c.in_ok-escaped.ensures, c.in_ok-start_both.ensures, append_assoc)) c.end.ensures
+    (simp (c.in_ok-escaped.ensures, c.in_ok-start.ensures, append_assoc)) c.end.ensures

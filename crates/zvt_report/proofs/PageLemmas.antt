@@ -1,0 +1,7 @@
+-- A page whose dialogue was spelled before.
+use Rattle.std.proofs.Common.{◌≡◌, ◌++◌, append_assoc, append-nil}
+use Rattle.zvt_report.specs.Page.{ReportsAreDocuments, page_of, page_with}
+
+pub page_is_document : ReportsAreDocuments
+unfolding page_of page_with
+page_is_document name tally currency books messages closings looks dialogue = simp (append_assoc)
