@@ -1,5 +1,6 @@
 -- What a dialogue has of the events that it heard.
-use Rattle.std.proofs.Common.{inl, inr, ◌≡◌, ◌∙◌, ◌++◌, ◌<◌, ◌≤◌, ℕ, Bool, true, false, List, [], ◌∷◌, Option, Some, None, Result, Ok, Err, Unit, tt, refl, sym, ap, subst, arith, length, take, map, option_map, append_assoc, append-nil, length-append, length-take}
+use Rattle.std.proofs.Common.{inl, inr, ◌≡◌, ◌∙◌, ◌++◌, ◌<◌, ◌≤◌, ℕ, Bool, true, false, List, [], ◌∷◌, Option, Some, None, Result, Ok, Err, refl, sym, ap, subst, arith, length, nat_le, take, map, option_map, append_assoc, append-nil, length-append, length-take}
+use Rattle.std.proofs.lemmas.Bool.{leb-false, leb-true}
 use Rattle.std.proofs.lemmas.List.{length-map, map-append, take-append-le, take_all}
 use Rattle.std.proofs.lemmas.List.Elements.{filter-append}
 use Rattle.std.specs.List.{filter}
@@ -102,10 +103,11 @@ same_listed events event old has same = record {
   items = has.items ∙ ap (λ (l : List At). render (items_after [] l)) (sym same);
 }
 
-pub lists_full : (old : Dialogue) (event : At) → most ≤ length old.lines.items → Lists old event old
+pub lists_full : (old : Dialogue) (event : At) → nat_le most (length old.lines.items) ≡ true → Lists old event old
 lists_full old event full = record {
   ranges = refl;
-  lists = λ events has. same_listed events event old has (listed_full (ranges_of old) events event (omega (arith, full, listed_length events old has)));
+  lists = λ events has. same_listed events event old has
+    (listed_full (ranges_of old) events event (subst (λ (n : ℕ). most ≤ n) (listed_length events old has) (leb-true most (length old.lines.items) full)));
 }
 
 pub lists_out : (old : Dialogue) (event : At) → is_within (ranges_of old) event.line ≡ false → Lists old event old
@@ -124,13 +126,18 @@ one_listed events event old new has adds more =
           ∙ sym (items_more [] shown event) ∙ ap (λ (l : List At). render (items_after [] l)) (sym more);
     }
 
-pub lists_more : (old new : Dialogue) (event : At) → length old.lines.items < most → is_within (ranges_of old) event.line ≡ true → Adds old event new → Lists old event new
+lists_more : (old new : Dialogue) (event : At) → length old.lines.items < most → is_within (ranges_of old) event.line ≡ true → Adds old event new → Lists old event new
 lists_more old new event few within adds = record {
   ranges = adds.ranges;
   lists = λ events has. one_listed events event old new has adds
       (ap (λ (r : Option (Vec (ℕ × ℕ))). listed (option_map (λ v. v.items) r) (events ++ event ∷ [])) adds.ranges
-      ∙ listed_more (ranges_of old) events event (omega (arith, few, listed_length events old has)) within);
+      ∙ listed_more (ranges_of old) events event (subst (λ (n : ℕ). n < most) (listed_length events old has) few) within);
 }
+
+pub lists_one : {E : Type 0} (r : Result (Unit {0}) E) (old new : Dialogue) (event : At) → nat_le most (length old.lines.items) ≡ false → is_within (ranges_of old) event.line ≡ true
+    → OnOk r (Adds old event new) → OnOk r (Lists old event new)
+lists_one (Ok _) old new event few within adds = lists_more old new event (leb-false most (length old.lines.items) few) within adds
+lists_one (Err e) old new event few within adds = tt
 
 -- ---- all events
 

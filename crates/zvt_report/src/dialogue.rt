@@ -1,12 +1,11 @@
 //! The dialogue of a trace, as a page shows it.
-ghost use Rattle.std.specs.Prelude.{◌≡◌, ◌++◌, ◌≤◌, [], length, option_map, IfOk, OnOk};
-ghost use Rattle.std.specs.List.{list_any};
+ghost use Rattle.std.specs.Prelude.{◌≡◌, ◌++◌, ◌≤◌, nat_le, [], length, option_map, IfOk, OnOk};
 ghost use Rattle.zvt_grammar.specs.Lengths.{reading_of};
 ghost use Rattle.zvt_page.specs.Html.{render};
 ghost use Rattle.zvt_trace.specs.TraceEvent.{HasItsBytes, event_of, on};
 ghost use Rattle.zvt_trace.specs.Written.{limit};
 ghost use Rattle.zvt_report.specs.Dialogue.{Adds, AnswersDialogue, HasListed, Lists, section_with};
-ghost use Rattle.zvt_report.specs.Dialogue.{has_line, has_note, is_between, is_within, look_lines, order_lines, part_note};
+ghost use Rattle.zvt_report.specs.Dialogue.{has_line, has_note, is_between, is_within, look_lines, most, part_note};
 ghost use Rattle.zvt_report.specs.Dialogue.{part_words, ranges_of, shown_lines};
 
 use crate::cases::Look;
@@ -65,12 +64,19 @@ impl Dialogue {
         }
     }
 
+    /// Whether there is no room for another item.
+    fn is_full(&self) -> bool
+        ensures { result ≡ nat_le most (length self.now.lines.items) }
+    {
+        MOST <= self.lines.len()
+    }
+
     /// Writes the item of an event, if there is room for it and its line is shown.
     fn list(&mut self, line: u64, trace_event: &TraceEvent<'_>) -> Result<(), AllocError>
         requires { HasItsBytes trace_event.now }
         ensures { OnOk result (Lists self.old (on line (event_of trace_event.now)) self.new) }
     {
-        if self.lines.len() >= MOST {
+        if self.is_full() {
             return Ok(());
         }
         if !is_within(&self.ranges, line) {
