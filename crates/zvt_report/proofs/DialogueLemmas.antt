@@ -4,6 +4,7 @@ use Rattle.std.proofs.lemmas.Bool.{leb-false, leb-true}
 use Rattle.std.proofs.lemmas.List.{length-map, map-append, take-append-le, take_all}
 use Rattle.std.proofs.lemmas.List.Elements.{filter-append}
 use Rattle.std.specs.List.{filter}
+use Rattle.std.specs.declared.alloc.Global.{Global}
 use Rattle.std.specs.declared.vec.Vec.{Vec}
 use Rattle.std.specs.Prelude.{OnOk}
 use Rattle.std.specs.Str.Lines.{lines}
@@ -107,7 +108,7 @@ pub lists_full : (old : Dialogue) (event : At) → nat_le most (length old.lines
 lists_full old event full = record {
   ranges = refl;
   lists = λ events has. same_listed events event old has
-    (listed_full (ranges_of old) events event (subst (λ (n : ℕ). most ≤ n) (listed_length events old has) (leb-true most (length old.lines.items) full)));
+      (listed_full (ranges_of old) events event (subst (λ (n : ℕ). most ≤ n) (listed_length events old has) (leb-true most (length old.lines.items) full)));
 }
 
 pub lists_out : (old : Dialogue) (event : At) → is_within (ranges_of old) event.line ≡ false → Lists old event old
@@ -130,7 +131,7 @@ lists_more : (old new : Dialogue) (event : At) → length old.lines.items < most
 lists_more old new event few within adds = record {
   ranges = adds.ranges;
   lists = λ events has. one_listed events event old new has adds
-      (ap (λ (r : Option (Vec (ℕ × ℕ))). listed (option_map (λ v. v.items) r) (events ++ event ∷ [])) adds.ranges
+      (ap (λ (r : Option (Vec (ℕ × ℕ) Global)). listed (option_map (λ v. v.items) r) (events ++ event ∷ [])) adds.ranges
       ∙ listed_more (ranges_of old) events event (subst (λ (n : ℕ). n < most) (listed_length events old has) few) within);
 }
 
@@ -168,7 +169,7 @@ pub walked_all : (r : Reading) (scope : Scope) (trace : List ℕ) (report : Repo
     → text ≡ section_with (ranges_of new) (length new.lines.items) new.items → AnswersDialogue r scope trace Page report looks (Ok text)
 walked_all r scope trace report looks tally old new text starts same walked is =
     let all = all_listed [] walked.0 old new starts walked.2 in
-    (walked.0, walked.1, section_is new walked.0 (shown_lines report.tally report.books.orders looks) text (ap (λ (v : Option (Vec (ℕ × ℕ))). option_map (λ v. v.items) v) all.1 ∙ same) all.0 is)
+    (walked.0, walked.1, section_is new walked.0 (shown_lines report.tally report.books.orders looks) text (ap (λ (v : Option (Vec (ℕ × ℕ) Global)). option_map (λ v. v.items) v) all.1 ∙ same) all.0 is)
 
 -- a dialogue writes nothing to a device, so no write fails
 no_write : {r : Reading} {scope : Scope} (lines : List (List ℕ)) (old new : Dialogue) → AnswersWalk r lists wants_memory scope lines old new (Err Write) → ⊥

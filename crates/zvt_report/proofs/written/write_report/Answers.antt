@@ -14,5 +14,5 @@ pub returns-clause-writes : goal.returns-clause-writes
 returns-clause-writes g c =
     found_written (reading_of c.args.lengths) c.args.scope c.args.form c.args.name.now c.args.trace.now c.in_ok-report.report c.bytes.result.now _ _ c.write_found.result c.in_ok-report.ensures
     (dialogue_is (reading_of c.args.lengths) c.args.scope c.args.form c.args.trace.now c.in_ok-report.report c.as_slice.result.now c.in_ok-dialogue.dialogue c.bytes.result.now
-      (c.as_slice.ensures.value ∙ c.in_ok-looks.ensures) c.bytes.ensures c.in_ok-dialogue.ensures)
+    (c.as_slice.ensures.value ∙ c.in_ok-looks.ensures) c.bytes.ensures c.in_ok-dialogue.ensures)
     c.write_found.ensures.writes
