@@ -276,6 +276,14 @@ def hostile():
         check(f"the name {name!r}", (status, reported, page.texts("title"), page.texts("h1")), (0, "", [shown], [shown]))
 
 
+def marked_up():
+    """A text of the terminal is text too, whatever it looks like."""
+    words = b"</div></li><script>alert('1')</script>&amp;\"<!--"
+    line = b"\x06\xd1" + bytes([len(words) + 1, 0]) + words
+    page = of("markup in a print line", b"< " + line.hex(" ").encode() + b"\n")
+    check("markup in a print line", [words.decode().replace('"', "\\x22") in one["text"] for one in events(page)], [True])
+
+
 def refused():
     """What cannot be written is refused."""
     both, several = "zvt: '--html' does not go with '--json': leave one of them out\n", "zvt: '--html' takes one FILE: write a page for each\n"
@@ -293,6 +301,7 @@ def main():
     long_day()
     stored()
     hostile()
+    marked_up()
     refused()
     print(f"{check.verdict}: {len(pages)} pages, {check.count} comparisons")
     return check.status

@@ -1,8 +1,10 @@
 -- What a dialogue has of the events that it heard.
-use Rattle.std.proofs.Common.{inl, inr, ◌≡◌, ◌∙◌, ◌++◌, ◌<◌, ◌≤◌, ℕ, Bool, true, false, List, [], ◌∷◌, Option, Some, None, Result, Ok, Err, Unit, tt, refl, sym, ap, subst, arith, length, take, map, option_map, append_assoc, append-nil, length-append, length-take}
+use Rattle.std.proofs.Common.{inl, inr, ◌≡◌, ◌∙◌, ◌++◌, ◌<◌, ◌≤◌, ℕ, Bool, true, false, List, [], ◌∷◌, Option, Some, None, Result, Ok, Err, refl, sym, ap, subst, arith, length, nat_le, take, map, option_map, append_assoc, append-nil, length-append, length-take}
+use Rattle.std.proofs.lemmas.Bool.{leb-false, leb-true}
 use Rattle.std.proofs.lemmas.List.{length-map, map-append, take-append-le, take_all}
 use Rattle.std.proofs.lemmas.List.Elements.{filter-append}
 use Rattle.std.specs.List.{filter}
+use Rattle.std.specs.declared.alloc.Global.{Global}
 use Rattle.std.specs.declared.vec.Vec.{Vec}
 use Rattle.std.specs.Prelude.{OnOk}
 use Rattle.std.specs.Str.Lines.{lines}
@@ -102,10 +104,11 @@ same_listed events event old has same = record {
   items = has.items ∙ ap (λ (l : List At). render (items_after [] l)) (sym same);
 }
 
-pub lists_full : (old : Dialogue) (event : At) → most ≤ length old.lines.items → Lists old event old
+pub lists_full : (old : Dialogue) (event : At) → nat_le most (length old.lines.items) ≡ true → Lists old event old
 lists_full old event full = record {
   ranges = refl;
-  lists = λ events has. same_listed events event old has (listed_full (ranges_of old) events event (omega (arith, full, listed_length events old has)));
+  lists = λ events has. same_listed events event old has
+      (listed_full (ranges_of old) events event (subst (λ (n : ℕ). most ≤ n) (listed_length events old has) (leb-true most (length old.lines.items) full)));
 }
 
 pub lists_out : (old : Dialogue) (event : At) → is_within (ranges_of old) event.line ≡ false → Lists old event old
@@ -124,13 +127,18 @@ one_listed events event old new has adds more =
           ∙ sym (items_more [] shown event) ∙ ap (λ (l : List At). render (items_after [] l)) (sym more);
     }
 
-pub lists_more : (old new : Dialogue) (event : At) → length old.lines.items < most → is_within (ranges_of old) event.line ≡ true → Adds old event new → Lists old event new
+lists_more : (old new : Dialogue) (event : At) → length old.lines.items < most → is_within (ranges_of old) event.line ≡ true → Adds old event new → Lists old event new
 lists_more old new event few within adds = record {
   ranges = adds.ranges;
   lists = λ events has. one_listed events event old new has adds
-      (ap (λ (r : Option (Vec (ℕ × ℕ))). listed (option_map (λ v. v.items) r) (events ++ event ∷ [])) adds.ranges
-      ∙ listed_more (ranges_of old) events event (omega (arith, few, listed_length events old has)) within);
+      (ap (λ (r : Option (Vec (ℕ × ℕ) Global)). listed (option_map (λ v. v.items) r) (events ++ event ∷ [])) adds.ranges
+      ∙ listed_more (ranges_of old) events event (subst (λ (n : ℕ). n < most) (listed_length events old has) few) within);
 }
+
+pub lists_one : {E : Type 0} (r : Result (Unit {0}) E) (old new : Dialogue) (event : At) → nat_le most (length old.lines.items) ≡ false → is_within (ranges_of old) event.line ≡ true
+    → OnOk r (Adds old event new) → OnOk r (Lists old event new)
+lists_one (Ok _) old new event few within adds = lists_more old new event (leb-false most (length old.lines.items) few) within adds
+lists_one (Err e) old new event few within adds = tt
 
 -- ---- all events
 
@@ -161,7 +169,7 @@ pub walked_all : (r : Reading) (scope : Scope) (trace : List ℕ) (report : Repo
     → text ≡ section_with (ranges_of new) (length new.lines.items) new.items → AnswersDialogue r scope trace Page report looks (Ok text)
 walked_all r scope trace report looks tally old new text starts same walked is =
     let all = all_listed [] walked.0 old new starts walked.2 in
-    (walked.0, walked.1, section_is new walked.0 (shown_lines report.tally report.books.orders looks) text (ap (λ (v : Option (Vec (ℕ × ℕ))). option_map (λ v. v.items) v) all.1 ∙ same) all.0 is)
+    (walked.0, walked.1, section_is new walked.0 (shown_lines report.tally report.books.orders looks) text (ap (λ (v : Option (Vec (ℕ × ℕ) Global)). option_map (λ v. v.items) v) all.1 ∙ same) all.0 is)
 
 -- a dialogue writes nothing to a device, so no write fails
 no_write : {r : Reading} {scope : Scope} (lines : List (List ℕ)) (old new : Dialogue) → AnswersWalk r lists wants_memory scope lines old new (Err Write) → ⊥

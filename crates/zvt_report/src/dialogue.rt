@@ -1,13 +1,13 @@
 //! The dialogue of a trace, as a page shows it.
-ghost use Rattle.std.specs.Prelude.{◌≡◌, ◌++◌, ◌≤◌, [], length, option_map, IfOk, OnOk};
+ghost use Rattle.std.specs.Prelude.{◌≡◌, ◌++◌, ◌≤◌, nat_le, [], length, option_map, slice_get, IfOk, OnOk};
 ghost use Rattle.std.specs.List.{list_any};
 ghost use Rattle.zvt_grammar.specs.Lengths.{reading_of};
 ghost use Rattle.zvt_page.specs.Html.{render};
 ghost use Rattle.zvt_trace.specs.TraceEvent.{HasItsBytes, event_of, on};
 ghost use Rattle.zvt_trace.specs.Written.{limit};
 ghost use Rattle.zvt_report.specs.Dialogue.{Adds, AnswersDialogue, HasListed, Lists, section_with};
-ghost use Rattle.zvt_report.specs.Dialogue.{has_line, has_note, is_between, is_within, look_lines, order_lines, part_note};
-ghost use Rattle.zvt_report.specs.Dialogue.{part_words, ranges_of, shown_lines};
+ghost use Rattle.zvt_report.specs.Dialogue.{has_line, has_note, is_between, is_within, look_lines, most, order_lines};
+ghost use Rattle.zvt_report.specs.Dialogue.{part_note, part_words, ranges_of, shown_lines};
 
 use crate::cases::Look;
 use crate::form::ReportForm;
@@ -65,12 +65,19 @@ impl Dialogue {
         }
     }
 
+    /// Whether there is no room for another item.
+    fn is_full(&self) -> bool
+        ensures { result ≡ nat_le most (length self.now.lines.items) }
+    {
+        MOST <= self.lines.len()
+    }
+
     /// Writes the item of an event, if there is room for it and its line is shown.
     fn list(&mut self, line: u64, trace_event: &TraceEvent<'_>) -> Result<(), AllocError>
         requires { HasItsBytes trace_event.now }
         ensures { OnOk result (Lists self.old (on line (event_of trace_event.now)) self.new) }
     {
-        if self.lines.len() >= MOST {
+        if self.is_full() {
             return Ok(());
         }
         if !is_within(&self.ranges, line) {
@@ -161,15 +168,19 @@ fn is_between(line: u64, range: (u64, u64)) -> bool
     range.0 <= line && line <= range.1
 }
 
+/// Whether a line is in one of these ranges.
+fn is_in(ranges: &[(u64, u64)], line: u64) -> bool
+    ensures { result ≡ list_any (is_between line) ranges.now }
+{
+    ranges.iter().any(|range| is_between(line, *range))
+}
+
 /// Whether a line is shown.
 fn is_within(ranges: &Option<Vec<(u64, u64)>>, line: u64) -> bool
     ensures { result ≡ is_within (option_map (λ ranges. ranges.items) ranges.now) line }
 {
     match ranges {
-        Some(ranges) => ranges
-            .as_slice()
-            .iter()
-            .any(|range| is_between(line, *range)),
+        Some(ranges) => is_in(ranges.as_slice(), line),
         None => true,
     }
 }
@@ -179,6 +190,14 @@ fn has_line(lines: &[u64], line: u64) -> bool
     ensures { result ≡ has_line lines.now line }
 {
     lines.iter().any(|other| line == *other)
+}
+
+/// Returns the first and the last line of the order of a look.
+fn order_lines(rows: &[OrderRow], look: &Look) -> Option<(u64, u64)>
+    ensures { result ≡ option_map order_lines (slice_get rows.now look.now.order) }
+{
+    let row = rows.get(look.order)?;
+    Some((row.first, row.last))
 }
 
 /// Returns the first and the last line of each order that needs a look.
@@ -192,8 +211,8 @@ fn look_lines(
     let mut ranges = Vec::new(alloc);
     let mut rest = looks;
     'looks: while let [look, later @ ..] = rest {
-        if let Some(row) = rows.get(look.order) {
-            ranges.push((row.first, row.last))?;
+        if let Some(range) = order_lines(rows, look) {
+            ranges.push(range)?;
         }
         rest = later;
     }

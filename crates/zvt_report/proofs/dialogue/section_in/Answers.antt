@@ -1,5 +1,6 @@
 use Rattle.std.proofs.Common.{◌∙◌, ℕ, List, Option, ap, option_map}
 use Rattle.std.proofs.lemmas.Result.{err_from_is_err_and}
+use Rattle.std.specs.declared.alloc.Global.{Global}
 use Rattle.std.specs.declared.vec.Vec.{Vec}
 use Rattle.zvt_grammar.specs.Lengths.{reading_of}
 use Rattle.zvt_report.specs.Dialogue.{shown_lines}
@@ -14,6 +15,6 @@ returns-in_err-walk c =
 
 pub returns : goal.returns
 returns c = walked_all (reading_of c.args.lengths) c.args.scope c.args.trace.now c.args.report.now c.args.looks.now _ _ _ _ c.new.ensures.listed
-    (ap (λ (ranges : Option (Vec (ℕ × ℕ))). option_map (λ v. v.items) ranges) c.new.ensures.ranges ∙ c.in_ok-ranges.ensures
+    (ap (λ (ranges : Option (Vec (ℕ × ℕ) Global)). option_map (λ v. v.items) ranges) c.new.ensures.ranges ∙ c.in_ok-ranges.ensures
     ∙ ap (λ (rows : List OrderRow). shown_lines c.args.report.now.tally rows c.args.looks.now) c.as_slice.ensures.value)
     c.in_ok-walk.ensures c.in_ok-section.ensures
