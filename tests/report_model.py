@@ -121,6 +121,13 @@ class Times:
         second, nano = self.at[number]
         return f"{second}.{nano:09d}"[:-6 if nano % 1_000_000 == 0 else None] + "Z"
 
+    def seconds(self, number):
+        """Seconds that grow with time, where each month has 31 days."""
+        if number not in self.at:
+            return None
+        year, month, day, hour, minute, second = map(int, re.findall(r"\d+", self.at[number][0]))
+        return ((((year * 12 + month) * 31 + day) * 24 + hour) * 60 + minute) * 60 + second
+
     def members(self):
         lines = list(self.at)
         return {"time_from": self.text(lines[0]) if lines else None, "time_to": self.text(lines[-1]) if lines else None,
@@ -294,11 +301,14 @@ class Report(Audit):
         return order.outcome[0] == "paid" and not self.book[order.entry]["reversed"] and order.card.get("card_number")
 
     def repeated(self, order):
-        """The last payment before this one with the same card, if both stand and have one amount."""
+        """The last payment before this one with the same card, if both stand, have one amount and are not known to be more than 15 minutes apart."""
         if not self.stands(order):
             return None
         before = [at for at, one in enumerate(self.orders[:self.orders.index(order)]) if self.stands(one) and one.card["card_number"] == order.card["card_number"]]
-        return before[-1] if before and self.orders[before[-1]].amount == order.amount else None
+        if not before or self.orders[before[-1]].amount != order.amount:
+            return None
+        seconds = [self.times.seconds(one.first) for one in (self.orders[before[-1]], order)]
+        return before[-1] if None in seconds or abs(seconds[1] - seconds[0]) <= 15 * 60 else None
 
     def case_of(self, order, later):
         word, why = order.outcome

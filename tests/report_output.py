@@ -145,6 +145,15 @@ def times():
     check("a zone for objects", run(["report", "--json", "--zone", "+01:00"], trace)[:2], (2, ""))
 
 
+def far_apart():
+    """Payments of one card are alike if they are not more than 15 minutes apart."""
+    first, second = (dialogue(*paid_with(VISA, 500, number)).decode() for number in (1, 2))
+    for time, wanted in (("09:15:00", True), ("09:15:01", False), ("08:45:00.999", True), ("08:44:59", False)):
+        trace = f"#@ 2026-11-28T09:00:00Z\n{first}#@ 2026-11-28T{time}Z\n{second}".encode()
+        check(f"two payments at 09:00:00 and {time}", "PaidAlike" in run(["report", "--json"], trace)[1], wanted)
+        compared(f"two payments at 09:00:00 and {time}", trace)
+
+
 # ---- a trace for each case, and one that just misses it
 
 def approving(amount, number, original=None, card=b""):
@@ -263,6 +272,7 @@ def main():
     with concurrent.futures.ThreadPoolExecutor(4) as pool:
         list(pool.map(lambda one: compared(*one), traces.items()))
     times()
+    far_apart()
     cases()
     explanations()
     stored()

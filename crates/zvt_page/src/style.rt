@@ -80,6 +80,7 @@ footer{margin-top:3.5rem;border-top:1px solid var(--line);padding-top:1.2rem;col
 .t .ids{grid-area:2/1/3/3;color:var(--soft);font-size:.88rem}
 .t .rc{grid-area:2/3;text-align:right;color:var(--soft);font-size:.88rem}
 .t .oc{grid-area:3/1/4/3;font-size:.92rem}.t .ln{grid-area:3/3;text-align:right;font-size:.88rem}
+.t .tm{grid-area:4/1/5/4;color:var(--soft);font-size:.88rem}
 .dlg li{gap:.5rem}.dlg .ln{min-width:3ch}.say{padding:.1rem .5rem}
 .till .say{margin-right:0}.terminal .say{margin-left:1.2rem}
 .t .ids:not(:empty)::before{content:'trace '}.t .rc:not(:empty)::before{content:'receipt '}
