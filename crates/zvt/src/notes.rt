@@ -50,7 +50,11 @@ pub fn report_notes(
                 b"zvt: only '<' sent orders: the directions of the trace may be swapped\n",
             )?;
         }
-        write_unfollowed(&mut errors, found.unfollowed.as_slice())?;
+        write_unfollowed(
+            &mut errors,
+            Counted::LinesOfTrace,
+            found.unfollowed.as_slice(),
+        )?;
     }
     Ok(true)
 }
@@ -59,16 +63,27 @@ pub fn report_notes(
 pub const UNFOLLOWED: &str =
     "the books lack the money of such orders: look at them and at their answers in 'zvt show --open'";
 
+/// What an audit counts to say where an order is.
+#[derive(Clone, Copy)]
+pub enum Counted {
+    LinesOfTrace,
+    ChunksOfConnection,
+}
+
 /// A note about an order that the audit does not follow.
 #[derive(Clone, Copy)]
 pub struct OrderNote {
     order: UnfollowedOrder,
+    counted: Counted,
 }
 
 impl OrderNote {
-    /// Returns the note about an order.
-    pub fn of(order: &UnfollowedOrder) -> OrderNote {
-        OrderNote { order: *order }
+    /// Returns the note about an order whose place is counted like this.
+    pub fn of(order: &UnfollowedOrder, counted: Counted) -> OrderNote {
+        OrderNote {
+            order: *order,
+            counted,
+        }
     }
 }
 
@@ -81,10 +96,11 @@ impl fmt::Display for OrderNote {
             approved,
         } = self.order;
         let name = command_name(high, low).unwrap_or("payment without one amount");
-        write!(
-            f,
-            "line {line} of the trace: {high:02X} {low:02X} ({name}) is not followed"
-        )?;
+        match self.counted {
+            Counted::LinesOfTrace => write!(f, "line {line} of the trace")?,
+            Counted::ChunksOfConnection => write!(f, "chunk {line} of the connection")?,
+        }
+        write!(f, ": {high:02X} {low:02X} ({name}) is not followed")?;
         let Some(approval) = approved else {
             return Ok(());
         };
@@ -109,16 +125,21 @@ pub fn report_counts(
     } else if found.tally.messages == 0 {
         report(rt, "the trace contains no message")?;
     }
-    write_unfollowed(&mut rt.stderr(), found.unfollowed.as_slice())
+    let orders = found.unfollowed.as_slice();
+    write_unfollowed(&mut rt.stderr(), Counted::LinesOfTrace, orders)
 }
 
 /// Writes a line for each order that an audit does not follow, and then what to do about them.
-pub fn write_unfollowed<W: Write>(errors: &mut W, orders: &[UnfollowedOrder]) -> io::Result<()> {
+pub fn write_unfollowed<W: Write>(
+    errors: &mut W,
+    counted: Counted,
+    orders: &[UnfollowedOrder],
+) -> io::Result<()> {
     if orders.is_empty() {
         return Ok(());
     }
     for order in orders {
-        let note = OrderNote::of(order);
+        let note = OrderNote::of(order, counted);
         writeln!(errors, "zvt: {note}")?;
     }
     writeln!(errors, "zvt: {UNFOLLOWED}")

@@ -1,6 +1,6 @@
 //! A tap between a till and its terminal, as the command line asks for it.
 use crate::exit::Exit;
-use crate::notes::write_unfollowed;
+use crate::notes::{Counted, write_unfollowed};
 use crate::output::Output;
 use crate::reports::{report, report_invalid, report_tally};
 use crate::screen::Screen;
@@ -375,7 +375,8 @@ fn report_found<W: Write + Drop>(
     };
     match audited {
         Ok(audited) => {
-            let _ = write_unfollowed(&mut rt.stderr(), audited.unfollowed.as_slice());
+            let orders = audited.unfollowed.as_slice();
+            let _ = write_unfollowed(&mut rt.stderr(), Counted::ChunksOfConnection, orders);
             shown
         }
         Err(TraceFault::Write) if is_pipe_closed => DEVICE,
