@@ -74,7 +74,7 @@ class Audit:
         """A refused message, of which only the control bytes are known."""
         control = first[:2].hex().upper()
         kind = json_model.KINDS.get(control, ("Nack" if first[0] == 0x84 else "Other",))[0]
-        if kind in ("Registration", "Authorisation", "Reversal", "EndOfDay", "Other") and sign == b">":
+        if kind in ("Registration", "Authorisation", "Reversal", "EndOfDay", "AbortOrder", "Other") and sign == b">":
             self.sent({"kind": kind, "line": line, "control": control})
         elif kind in ("Status", "Completion", "Abort") and sign == b"<":
             self.heard({"kind": kind, "line": line})

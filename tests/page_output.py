@@ -160,6 +160,11 @@ def dialogue(name, trace, page):
     check(f"the heading of the dialogue of {name}", page.texts("h2").count("Dialogue"), 1)
 
 
+def notes(page):
+    """The beginning of each note below the head."""
+    return [one["text"][:42] for one in page.elements if one["tag"] == "p" and one["attributes"].get("class") == "meta" and "header" not in one["in"]]
+
+
 def long_day():
     """Of a long trace, the page shows the orders that need a look, and says so."""
     part = (STORED / "twice.trace").read_bytes()
@@ -175,10 +180,10 @@ def long_day():
     wanted = [one for one in told(many) if any(first <= one["line"] <= last for first, last in ranges)][:MOST]
     check("a long trace is long", (status, messages > MOST, 0 < len(wanted) <= MOST), (0, True, True))
     check("the part of a long dialogue", [(one["line"], one["text"]) for one in events(page)], [(one["line"], one["text"]) for one in wanted])
-    check("the note of a long dialogue", [note[:42] for note in page.texts("p", "meta")][1:], ["The trace has more than 2000 messages. Onl"])
-    check("no note of a short dialogue", len(Page(run(["report", "--html"], few)[1]).texts("p", "meta")), 1)
+    check("the note of a long dialogue", notes(page), ["The trace has more than 2000 messages. Onl"])
+    check("no note of a short dialogue", notes(Page(run(["report", "--html"], few)[1])), [])
     losses = Page(run(["report", "--html"], b"!\n" * (MOST + 5))[1])
-    check("a flood of losses", (len(events(losses)), [note[:23] for note in losses.texts("p", "meta")][1:]), (MOST, ["No more than 2000 events"[:23]]))
+    check("a flood of losses", (len(events(losses)), [note[:23] for note in notes(losses)]), (MOST, ["No more than 2000 events"[:23]]))
 
 
 def luminance(colour):

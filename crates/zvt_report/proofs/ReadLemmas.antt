@@ -18,6 +18,8 @@ use Rattle.zvt_report.specs.CardObjects.{card_value, maybe_card, maybe_card_numb
 use Rattle.zvt_report.specs.Cards.{card_number}
 use Rattle.zvt_report.specs.CloseObjects.{book_member, difference_member, differs_member, explained_member, orders_of, receipts_member, receipts_of, stated_member}
 use Rattle.zvt_report.specs.Reading.{ObjectsReadBack, ReadsBack}
+use Rattle.zvt_report.specs.TimeMembers.{back_member, bad_member, from_member, maybe_time, to_member}
+use Rattle.zvt_trace.specs.declared.moment.Moment.{Moment}
 use Rattle.zvt_report.specs.declared.cards.Card.{Card}
 use Rattle.zvt_report.specs.declared.card_totals.CardTotals.{CardTotals}
 use Rattle.zvt_report.specs.declared.closings.Closing.{Closing}
@@ -273,36 +275,56 @@ stated_named : (closing : Option Closing) → IsNamed (stated_member closing) na
 stated_named None = tt
 stated_named (Some c) = count_named name.Stated c.stated
 
+time_named : (time : Option Moment) → IsNamed (maybe_time time) name.Time
+time_named None = tt
+time_named (Some time) = refl
+
+from_named : (span : Option (Moment × Moment)) → IsNamed (from_member span) name.TimeFrom
+from_named None = tt
+from_named (Some between) = refl
+
+to_named : (span : Option (Moment × Moment)) → IsNamed (to_member span) name.TimeTo
+to_named None = tt
+to_named (Some between) = refl
+
+back_named : (line : Option ℕ) → IsNamed (back_member line) name.TimesBack
+back_named None = tt
+back_named (Some line) = refl
+
+bad_named : (bad : ℕ) (first : Option ℕ) → IsNamed (bad_member bad first) name.TimesBad
+bad_named bad None = tt
+bad_named bad (Some line) = refl
+
 -- ---- the objects
 
 abbrev names_of_summary : List Name
-names_of_summary = name.Bad ∷ name.Booked ∷ name.Currency ∷ name.Looks ∷ name.Messages ∷ name.Net ∷ name.Others ∷ name.ReversalsUnclear ∷ name.Reversed ∷ name.Total ∷ name.Unclear ∷ name.UnclearAmount ∷ []
+names_of_summary = name.Bad ∷ name.Booked ∷ name.Currency ∷ name.Looks ∷ name.Messages ∷ name.Net ∷ name.Others ∷ name.ReversalsUnclear ∷ name.Reversed ∷ name.TimeFrom ∷ name.TimeTo ∷ name.TimesBack ∷ name.TimesBad ∷ name.Total ∷ name.Unclear ∷ name.UnclearAmount ∷ []
 
 abbrev names_of_look : List Name
-names_of_look = name.Again ∷ name.Case ∷ name.Cause ∷ name.Lines ∷ name.Order ∷ name.Payment ∷ name.Weight ∷ []
+names_of_look = name.Again ∷ name.Case ∷ name.Cause ∷ name.Lines ∷ name.Order ∷ name.Payment ∷ name.Time ∷ name.Weight ∷ []
 
 abbrev names_of_payment : List Name
-names_of_payment = name.Amount ∷ name.Approved ∷ name.Card ∷ name.CardNumber ∷ name.Cause ∷ name.Code ∷ name.Lines ∷ name.Order ∷ name.Outcome ∷ name.Payment ∷ name.Receipt ∷ name.ReversalUnclear ∷ name.ReversedBy ∷ name.TakenBack ∷ name.Trace ∷ name.Words ∷ []
+names_of_payment = name.Amount ∷ name.Approved ∷ name.Card ∷ name.CardNumber ∷ name.Cause ∷ name.Code ∷ name.Lines ∷ name.Order ∷ name.Outcome ∷ name.Payment ∷ name.Receipt ∷ name.ReversalUnclear ∷ name.ReversedBy ∷ name.TakenBack ∷ name.Time ∷ name.Trace ∷ name.Words ∷ []
 
 abbrev names_of_reversal : List Name
-names_of_reversal = name.Amount ∷ name.Cause ∷ name.Code ∷ name.Lines ∷ name.Order ∷ name.Outcome ∷ name.Payment ∷ name.Receipt ∷ name.Words ∷ []
+names_of_reversal = name.Amount ∷ name.Cause ∷ name.Code ∷ name.Lines ∷ name.Order ∷ name.Outcome ∷ name.Payment ∷ name.Receipt ∷ name.Time ∷ name.Words ∷ []
 
 abbrev names_of_other : List Name
-names_of_other = name.Amount ∷ name.Cause ∷ name.Code ∷ name.Control ∷ name.Lines ∷ name.Name ∷ name.Order ∷ name.Outcome ∷ name.Words ∷ []
+names_of_other = name.Amount ∷ name.Cause ∷ name.Code ∷ name.Control ∷ name.Lines ∷ name.Name ∷ name.Order ∷ name.Outcome ∷ name.Time ∷ name.Words ∷ []
 
 abbrev names_of_close : List Name
-names_of_close = name.Book ∷ name.Cause ∷ name.Code ∷ name.Differs ∷ name.ExplainedBy ∷ name.Lines ∷ name.Order ∷ name.Outcome ∷ name.Receipts ∷ name.Stated ∷ name.Words ∷ []
+names_of_close = name.Book ∷ name.Cause ∷ name.Code ∷ name.Differs ∷ name.ExplainedBy ∷ name.Lines ∷ name.Order ∷ name.Outcome ∷ name.Receipts ∷ name.Stated ∷ name.Time ∷ name.Words ∷ []
 
 abbrev names_of_order : List Name
-names_of_order = name.Cause ∷ name.Code ∷ name.Control ∷ name.Lines ∷ name.Name ∷ name.Order ∷ name.Outcome ∷ name.Words ∷ []
+names_of_order = name.Cause ∷ name.Code ∷ name.Control ∷ name.Lines ∷ name.Name ∷ name.Order ∷ name.Outcome ∷ name.Time ∷ name.Words ∷ []
 
 pub objects_read_back : ObjectsReadBack
 objects_read_back = (
-  (λ tally currency books messages looks. read_named object_of.Summary (summary_members tally currency books messages looks) names_of_summary (refl, (refl, (currency_named currency, (refl, (refl, (refl, (refl, (refl, (refl, (refl, (refl, (refl, tt)))))))))))) refl),
-  (λ rows look row. read_named object_of.Look (look_members rows look row) names_of_look (again_named look.again, (refl, (cause_named name.Cause _, (refl, (refl, (count_named name.Payment _, (refl, tt))))))) refl),
-  (λ books place row amount. read_named object_of.Payment (payment_members books place row amount) names_of_payment (refl, (count_named name.Approved _, (card_named row.card, (card_number_named row.card, (cause_named name.Cause _, (code_named row.outcome, (refl, (refl, (refl, (count_named name.Payment _, (receipt_named _, (cause_named name.ReversalUnclear _, (count_named name.ReversedBy _, (true_named name.TakenBack _, (count_named name.Trace _, (words_named row.outcome, tt)))))))))))))))) refl),
-  (λ books place row message. read_named object_of.Reversal (reversal_members books place row message) names_of_reversal (count_named name.Amount _, (cause_named name.Cause _, (code_named row.outcome, (refl, (refl, (refl, (count_named name.Payment _, (receipt_named message.receipt, (words_named row.outcome, tt))))))))) refl),
-  (λ place row message. read_named object_of.Other (other_members place row message) names_of_other (count_named name.Amount _, (cause_named name.Cause _, (code_named row.outcome, (refl, (refl, (command_named message, (refl, (refl, (words_named row.outcome, tt))))))))) refl),
-  (λ closing place row. read_named object_of.Close (close_members closing place row) names_of_close (book_named closing, (cause_named name.Cause _, (code_named row.outcome, (differs_named closing, (explained_named closing, (refl, (refl, (refl, (receipts_named closing, (stated_named closing, (words_named row.outcome, tt))))))))))) refl),
-  (λ place row message. read_named object_of.Order (plain_members place row message) names_of_order (cause_named name.Cause _, (code_named row.outcome, (refl, (refl, (command_named message, (refl, (refl, (words_named row.outcome, tt)))))))) refl),
+  (λ tally currency times books messages looks. read_named object_of.Summary (summary_members tally currency times books messages looks) names_of_summary (refl, (refl, (currency_named currency, (refl, (refl, (refl, (refl, (refl, (refl, (from_named times.span, (to_named times.span, (back_named times.went_back, (bad_named times.bad times.first_bad, (refl, (refl, (refl, tt)))))))))))))))) refl),
+  (λ rows look row. read_named object_of.Look (look_members rows look row) names_of_look (again_named look.again, (refl, (cause_named name.Cause _, (refl, (refl, (count_named name.Payment _, (time_named row.time, (refl, tt)))))))) refl),
+  (λ books place row amount. read_named object_of.Payment (payment_members books place row amount) names_of_payment (refl, (count_named name.Approved _, (card_named row.card, (card_number_named row.card, (cause_named name.Cause _, (code_named row.outcome, (refl, (refl, (refl, (count_named name.Payment _, (receipt_named _, (cause_named name.ReversalUnclear _, (count_named name.ReversedBy _, (true_named name.TakenBack _, (time_named row.time, (count_named name.Trace _, (words_named row.outcome, tt))))))))))))))))) refl),
+  (λ books place row message. read_named object_of.Reversal (reversal_members books place row message) names_of_reversal (count_named name.Amount _, (cause_named name.Cause _, (code_named row.outcome, (refl, (refl, (refl, (count_named name.Payment _, (receipt_named message.receipt, (time_named row.time, (words_named row.outcome, tt)))))))))) refl),
+  (λ place row message. read_named object_of.Other (other_members place row message) names_of_other (count_named name.Amount _, (cause_named name.Cause _, (code_named row.outcome, (refl, (refl, (command_named message, (refl, (refl, (time_named row.time, (words_named row.outcome, tt)))))))))) refl),
+  (λ closing place row. read_named object_of.Close (close_members closing place row) names_of_close (book_named closing, (cause_named name.Cause _, (code_named row.outcome, (differs_named closing, (explained_named closing, (refl, (refl, (refl, (receipts_named closing, (stated_named closing, (time_named row.time, (words_named row.outcome, tt)))))))))))) refl),
+  (λ place row message. read_named object_of.Order (plain_members place row message) names_of_order (cause_named name.Cause _, (code_named row.outcome, (refl, (refl, (command_named message, (refl, (refl, (time_named row.time, (words_named row.outcome, tt))))))))) refl),
 )

@@ -15,6 +15,7 @@ use Rattle.zvt_report.specs.declared.members.Object.TheVariants as object_of
 use Rattle.zvt_report.specs.declared.places.Place.{Place}
 use Rattle.zvt_report.specs.declared.rows.OrderMessage.{OrderMessage}
 use Rattle.zvt_report.specs.declared.rows.OrderRow.{OrderRow}
+use Rattle.zvt_report.specs.declared.times.Times.{Times}
 
 -- if its numbers fit into 64 bits, the reader of the kit's crate `serde_json` gives the value of an object back from its text
 abbrev pub ReadsBack : Object → List (Option Member) → Type 0
@@ -23,7 +24,7 @@ ReadsBack o members = fits (object_value o members) ≡ true → read (compact_t
 -- every object of a report: its members come in the order of their names, each once
 abbrev pub ObjectsReadBack : Type 0
 ObjectsReadBack =
-    ((tally : Tally) (currency : Option ℕ) (books : DayValue) (messages : List OrderMessage) (looks : List Look) → ReadsBack object_of.Summary (summary_members tally currency books messages looks))
+    ((tally : Tally) (currency : Option ℕ) (times : Times) (books : DayValue) (messages : List OrderMessage) (looks : List Look) → ReadsBack object_of.Summary (summary_members tally currency times books messages looks))
     × ((rows : List OrderRow) (look : Look) (row : OrderRow) → ReadsBack object_of.Look (look_members rows look row))
     × ((books : DayValue) (place : Place) (row : OrderRow) (amount : ℕ) → ReadsBack object_of.Payment (payment_members books place row amount))
     × ((books : DayValue) (place : Place) (row : OrderRow) (message : OrderMessage) → ReadsBack object_of.Reversal (reversal_members books place row message))

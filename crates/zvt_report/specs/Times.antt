@@ -1,5 +1,5 @@
 -- What the time marks of a trace say about a day.
-use Rattle.std.specs.Prelude.{◌≡◌, ℕ, ◌==◌, ◌&&◌, Bool, cond, List, [], ◌∷◌, ◌++◌, codes, length, Option, Some, None, is_some, option_map, refl}
+use Rattle.std.specs.Prelude.{◌≡◌, ℕ, ◌==◌, ◌&&◌, Bool, false, cond, List, [], ◌∷◌, ◌++◌, codes, length, Option, Some, None, is_some, option_map, refl}
 use Rattle.std.specs.Fmt.{decimal, digits}
 use Rattle.std.specs.List.{list_any}
 use Rattle.zvt_till.specs.declared.happenings.Sent.TheVariants.{CloseDay}

@@ -221,7 +221,7 @@ Example:
             CommandOption::Value(
                 "zone",
                 "+HH:MM",
-                "Show the times of the trace's time marks in this zone, e.g. +01:00 (default UTC)",
+                "Show times in this zone, e.g. --zone +01:00 or --zone=-05:00 (default UTC)",
             ),
             CommandOption::Flag(
                 "strict",
