@@ -1,5 +1,5 @@
 -- What a dialogue has of the events that it heard.
-use Rattle.std.proofs.Common.{inl, inr, ◌≡◌, ◌∙◌, ◌++◌, ◌<◌, ◌≤◌, ℕ, Bool, true, false, List, [], ◌∷◌, Option, Some, None, Result, Ok, Err, refl, sym, ap, subst, arith, length, nat_le, take, map, option_map, append_assoc, append-nil, length-append, length-take}
+use Rattle.std.proofs.Common.{inl, inr, ◌≡◌, ◌∙◌, ◌++◌, ◌<◌, ◌≤◌, ℕ, Bool, true, false, List, [], ◌∷◌, Option, Some, None, Result, Ok, Err, codes, refl, sym, ap, subst, arith, length, nat_le, take, map, option_map, append_assoc, append-nil, length-append, length-take}
 use Rattle.std.proofs.lemmas.Bool.{leb-false, leb-true}
 use Rattle.std.proofs.lemmas.List.{length-map, map-append, take-append-le, take_all}
 use Rattle.std.proofs.lemmas.List.Elements.{filter-append}
@@ -20,8 +20,11 @@ use Rattle.zvt_trace.specs.TraceEvent.{At, TraceEvent, on}
 use Rattle.zvt_trace.specs.TraceEvent as trace_event
 use Rattle.zvt_show.specs.Text.{EventText}
 use Rattle.zvt_show.specs.Written.{AddsEvent}
-use Rattle.zvt_page.specs.Html.{render}
-use Rattle.zvt_report.specs.Dialogue.{Adds, AnswersDialogue, HasListed, Lists, dialogue_section, has_line, is_within, items_after, line_numbers, listed, lists, most, ranges_of, section_with, shown_lines, wants_memory}
+use Rattle.zvt_page.specs.Html.{Html, both, element, end_tag, leaf, render, start_tag}
+use Rattle.zvt_page.specs.declared.elements.Attribute.{Attribute}
+use Rattle.zvt_page.specs.declared.elements.Attribute.TheVariants.{Class}
+use Rattle.zvt_page.specs.declared.elements.Element.TheVariants.{H2, Ol}
+use Rattle.zvt_report.specs.Dialogue.{Adds, AnswersDialogue, HasListed, Lists, dialogue_section, has_line, is_within, items_after, line_numbers, listed, lists, most, part_note, ranges_of, section_with, shown_lines, wants_memory}
 use Rattle.zvt_report.specs.PageEvents.{event_item, event_text, safe_style}
 use Rattle.zvt_report.specs.declared.cases.Look.{Look}
 use Rattle.zvt_report.specs.declared.dialogue.Dialogue.{Dialogue}
@@ -62,7 +65,7 @@ taken_more n all event few =
     let fits : length (all ++ event ∷ []) ≤ n = omega (arith, length-append all (event ∷ []), short) in
     take_all n (all ++ event ∷ []) fits ∙ ap (λ (l : List At). l ++ event ∷ []) (sym (take_all n all (omega (arith, short))))
 
-passes : Option (List (ℕ × ℕ)) → At → Bool
+abbrev passes : Option (List (ℕ × ℕ)) → At → Bool
 passes ranges event = is_within ranges event.line
 
 listed_out : (ranges : Option (List (ℕ × ℕ))) (events : List At) (event : At) → is_within ranges event.line ≡ false → listed ranges (events ++ event ∷ []) ≡ listed ranges events
@@ -96,7 +99,7 @@ items_more before (first ∷ events) event =
 
 -- there is an item for each line
 listed_length : (events : List At) (old : Dialogue) → HasListed events old → length old.lines.items ≡ length (listed (ranges_of old) events)
-listed_length events old has = ap length has.lines ∙ length-map (λ (event : At). event.line) (listed (ranges_of old) events)
+listed_length events old has = ap length has.lines ∙ length-map (listed (ranges_of old) events) (λ (event : At). event.line)
 
 same_listed : (events : List At) (event : At) (old : Dialogue) → HasListed events old → listed (ranges_of old) (events ++ event ∷ []) ≡ listed (ranges_of old) events → HasListed (events ++ event ∷ []) old
 same_listed events event old has same = record {
@@ -148,10 +151,16 @@ all_listed events (event ∷ more) old new has some =
     let rest = all_listed (events ++ event ∷ []) more some.0 new (some.1.lists events has) some.2 in
     (subst (λ (l : List At). HasListed l new) (append_assoc events (event ∷ []) more) rest.0, rest.1 ∙ some.1.ranges)
 
+-- what is spelled of three parts
+joined : (a b : Html) (attributes : List (Attribute × List ℕ)) (c : Html)
+    → render (both a (both b (element Ol attributes c))) ≡ render a ++ (render b ++ (start_tag Ol attributes ++ (render c ++ end_tag Ol)))
+joined a b attributes c = ap (λ (t : List ℕ). render a ++ (render b ++ t)) (append_assoc (start_tag Ol attributes) (render c) (end_tag Ol))
+
 -- a section whose items are spelled
 spelled : (ranges : Option (List (ℕ × ℕ))) (events : List At) → section_with ranges (length (listed ranges events)) (render (items_after [] (listed ranges events))) ≡ render (dialogue_section ranges events)
 unfolding dialogue_section section_with
-spelled ranges events = refl
+spelled ranges events =
+    sym (joined (leaf H2 [] (codes "Dialogue")) (part_note ranges (length (listed ranges events))) ((Class, codes "dlg") ∷ []) (items_after [] (listed ranges events)))
 
 -- the section of these events
 pub section_is : (dialogue : Dialogue) (events : List At) (ranges : Option (List (ℕ × ℕ))) (text : List ℕ) → ranges_of dialogue ≡ ranges → HasListed events dialogue

@@ -1,5 +1,5 @@
 -- What a reporter becomes by an event, and what it finds after all events.
-use Rattle.std.proofs.Common.{◌≡◌, inl, inr, ℕ, List, [], ◌∷◌, ◌++◌, None, Ok, Err, fold, map, refl, sym, ◌∙◌, ap, subst, append_assoc, append-nil}
+use Rattle.std.proofs.Common.{◌≡◌, inl, inr, ℕ, List, [], ◌∷◌, ◌++◌, None, Ok, Err, fold, map, refl, sym, ◌∙◌, ap, ap₂, subst, append_assoc, append-nil}
 use Rattle.std.specs.Str.Lines.{lines}
 use Rattle.zvt_grammar.specs.Reading.{Reading}
 use Rattle.zvt_apdu.specs.Message.{Message}

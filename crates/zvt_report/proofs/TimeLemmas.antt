@@ -49,8 +49,8 @@ fraction_plain n =
     let few = three_plain (n / 1_000_000) in
     let more = both_plain (three_digits (n / 1_000_000)) (three_digits (n / 1_000) ++ three_digits n) few (both_plain (three_digits (n / 1_000)) (three_digits n) (three_plain (n / 1_000)) (three_plain n)) in
     elim (cases_Bool (n % 1_000_000 == 0)) [
-      | inl yes ↦ rw yes few
-      | inr no ↦ rw no more
+      | inl whole ↦ rw whole few
+      | inr finer ↦ rw finer more
     ]
 
 pub moment_plain : (m : Moment) → escape (moment_text m) ≡ moment_text m

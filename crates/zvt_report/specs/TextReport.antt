@@ -9,7 +9,7 @@ use Rattle.zvt_report.specs.Day.{DayValue, no_orders}
 use Rattle.zvt_report.specs.LookList.{looks_text}
 use Rattle.zvt_report.specs.OtherTable.{others_text}
 use Rattle.zvt_report.specs.PaymentTable.{payments_text}
-use Rattle.zvt_report.specs.Times.{back_note, bad_note, clock_notes, span_part, span_words, times_in}
+use Rattle.zvt_report.specs.Times.{back_note, bad_note, clock_notes, from_words, span_part, span_words, times_in, to_words}
 use Rattle.zvt_report.specs.Zones.{utc, zone_text}
 use Rattle.zvt_trace.specs.Marks.{moment}
 use Rattle.zvt_trace.specs.Moments.{timed}
@@ -53,5 +53,5 @@ an_empty_day : report_text (record { messages = 1; bad = 2 }) (Some 756) (times_
     ≡ codes "2026-11-28 07:01:12 to 07:01:12 UTC\n\n" ++ codes "Net total              0.00 CHF\n" ++ codes "  booked               0.00  0 payments\n" ++ codes "  taken back           0.00  0 reversals\n"
     ++ codes "Unclear                0.00  0 payments, 0 reversals\n\n"
     ++ codes "Look at these: nothing\n\n" ++ codes "Payments: none\n\n" ++ codes "1 message, 2 streams refused or cut off.\n" ++ codes "2 time marks cannot be read: see line 9.\n"
-unfolding amount_column back_note bad_note bad_text booked_line clock_notes count_text decimals_of digits footer looks_part minus net_line payments_text span_part span_words summary_part tables_part taken_back_line unclear_line unit_text zone_text
+unfolding amount_column back_note bad_note bad_text booked_line clock_notes count_text decimals_of digits footer from_words looks_part minus net_line payments_text span_part span_words summary_part tables_part taken_back_line to_words unclear_line unit_text zone_text
 an_empty_day = refl

@@ -76,22 +76,33 @@ have_times rows = list_any has_time rows
 abbrev pub later_date : (from to : Moment) → List ℕ
 later_date from to = cond ((from.year == to.year) && (from.month == to.month) && (from.day == to.day)) [] (date_text to ++ 32 ∷ [])
 
+unfoldable pub from_words : Moment → List ℕ
+from_words from = date_text from ++ 32 ∷ clock_text from
+
+unfoldable pub to_words : Zone → (from to : Moment) → List ℕ
+to_words z from to = later_date from to ++ clock_text to ++ 32 ∷ zone_text z
+
 -- `2026-11-28 08:01:12 to 18:30:05 UTC+01:00`
 unfoldable pub span_words : Zone → (from to : Moment) → List ℕ
-span_words z from to =
-    date_text from ++ 32 ∷ clock_text from ++ codes " to " ++ later_date from to ++ clock_text to ++ 32 ∷ zone_text z
+span_words z from to = from_words from ++ codes " to " ++ to_words z from to
 
 -- a line with the day and the hours, and an empty line
 unfoldable pub span_part : Times → List ℕ
 span_part times = elim times.span [ None ↦ [] | Some between ↦ span_words times.zone between.0 between.1 ++ codes "\n\n" ]
 
+abbrev pub back_line : (line : ℕ) → List ℕ
+back_line line = codes "The clock of the time marks goes back at line " ++ decimal line ++ codes ".\n"
+
 unfoldable pub back_note : Option ℕ → List ℕ
 back_note None = []
-back_note (Some line) = codes "The clock of the time marks goes back at line " ++ decimal line ++ codes ".\n"
+back_note (Some line) = back_line line
+
+abbrev pub bad_line : (bad line : ℕ) → List ℕ
+bad_line bad line = count_text bad (codes "time mark") ++ codes " cannot be read: see line " ++ decimal line ++ codes ".\n"
 
 unfoldable pub bad_note : (bad : ℕ) → (first : Option ℕ) → List ℕ
 bad_note bad None = []
-bad_note bad (Some line) = count_text bad (codes "time mark") ++ codes " cannot be read: see line " ++ decimal line ++ codes ".\n"
+bad_note bad (Some line) = bad_line bad line
 
 -- what is wrong with the marks
 unfoldable pub clock_notes : Times → List ℕ
@@ -113,7 +124,7 @@ abbrev some_times : List Timed
 some_times = timed 2 (moment 2026 11 28 7 1 12 40_000_000) ∷ timed 12 (moment 2026 11 28 23 10 5 0) ∷ []
 
 a_day : span_part (times_in (zone false 60) some_times (99 ∷ [])) ≡ codes "2026-11-28 08:01:12 to 2026-11-29 00:10:05 UTC+01:00\n\n"
-unfolding span_part span_words zone_text
+unfolding from_words span_part span_words to_words zone_text
 a_day = refl
 
 no_day : span_part (times_in utc [] []) ≡ []
@@ -121,7 +132,7 @@ unfolding span_part
 no_day = refl
 
 one_day : span_words utc (moment 2026 11 28 7 1 12 0) (moment 2026 11 28 17 30 5 0) ≡ codes "2026-11-28 07:01:12 to 17:30:05 UTC"
-unfolding span_words zone_text
+unfolding from_words span_words to_words zone_text
 one_day = refl
 
 a_bad_mark : clock_notes (times_in utc some_times (99 ∷ [])) ≡ codes "1 time mark cannot be read: see line 99.\n"

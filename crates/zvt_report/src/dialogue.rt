@@ -235,6 +235,18 @@ fn shown_lines(
     Ok(Some(look_lines(alloc, rows, looks)?))
 }
 
+/// Returns the lines that the page of this report shows, or `None` if it shows all.
+fn lines_of(
+    alloc: Global,
+    report: &Report,
+    looks: &[Look],
+) -> Result<Option<Vec<(u64, u64)>>, AllocError>
+    ensures { IfOk result (λ shown. option_map (λ ranges. ranges.items) shown
+        ≡ shown_lines report.now.tally report.now.books.orders looks.now) }
+{
+    shown_lines(alloc, report.tally, report.books.orders.as_slice(), looks)
+}
+
 /// Returns the section of the dialogue of this trace, if the report has this form. In another form, it is empty.
 pub(crate) fn dialogue_in(
     alloc: Global,
@@ -266,8 +278,7 @@ fn section_in(
     requires { length trace.now ≤ limit }
     ensures { AnswersDialogue (reading_of lengths) scope trace.now ReportForm.Page report.now looks.now result }
 {
-    let rows = report.books.orders.as_slice();
-    let ranges = shown_lines(alloc, report.tally, rows, looks)?;
+    let ranges = lines_of(alloc, report, looks)?;
     let mut dialogue = Dialogue::new(alloc, ranges);
     walk(&mut dialogue, alloc, scope, lengths, trace)?;
     let section = dialogue.section()?;

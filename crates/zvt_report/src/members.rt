@@ -297,7 +297,7 @@ fn write_value(text: &mut Text, value: &Value) -> Result<(), AllocError>
         Value::Receipts(first, last) => write_receipts(text, first.as_slice(), last.as_slice()),
         Value::Orders(orders) => write_orders(text, orders),
         Value::Currency(currency) => write_currency(text, *currency),
-        Value::Moment(moment) => write_moment(text, moment),
+        Value::Moment(moment) => write_moment(text, *moment),
         Value::Word(word) => write_word(text, *word),
         Value::CardName(name) => quoted_name(text, name.as_slice()),
         Value::CardNumber(number) => quoted_number(text, number.as_slice()),
@@ -357,8 +357,8 @@ fn write_currency(text: &mut Text, currency: Currency) -> Result<(), AllocError>
 }
 
 /// Writes a moment between quotation marks.
-fn write_moment(text: &mut Text, moment: &Moment) -> Result<(), AllocError>
-    ensures { OnOk result (text.new ≡ text.old ++ compact_text (string (moment_text moment.now))) }
+fn write_moment(text: &mut Text, moment: Moment) -> Result<(), AllocError>
+    ensures { OnOk result (text.new ≡ text.old ++ compact_text (string (moment_text moment))) }
 {
     text.push(b'"')?;
     text.word(moment.text().as_slice())?;

@@ -1,6 +1,7 @@
 //! What the time marks of a trace say about a day.
 ghost use Rattle.std.specs.Prelude.{◌≡◌, ◌++◌, IfOk, OnOk};
-ghost use Rattle.zvt_report.specs.Times.{back_note, bad_note, clock_notes, first_line, have_times, last_of, later_date};
+ghost use Rattle.zvt_report.specs.Times.{back_line, back_note, bad_line, bad_note, clock_notes, first_line, from_words};
+ghost use Rattle.zvt_report.specs.Times.{have_times, last_of, later_date, to_words};
 ghost use Rattle.zvt_report.specs.Times.{span_of, span_part, span_words, time_column, time_first, timed_day};
 ghost use Rattle.zvt_report.specs.Times.{timed_row, timed_rows, times_in};
 
@@ -155,6 +156,27 @@ fn later_date(text: &mut Text, from: &Moment, to: &Moment) -> Result<(), AllocEr
     text.push(b' ')
 }
 
+/// Writes the date and the time of a moment.
+#[tactic(auto, unfolding(crate::specs::Times::from_words))]
+fn from_words(text: &mut Text, from: &Moment) -> Result<(), AllocError>
+    ensures { OnOk result (text.new ≡ text.old ++ from_words from.now) }
+{
+    text.word(&from.date())?;
+    text.push(b' ')?;
+    text.word(&from.clock())
+}
+
+/// Writes the time of a moment, its date if that is not the date of the earlier one, and the zone.
+#[tactic(auto, unfolding(crate::specs::Times::to_words))]
+fn to_words(text: &mut Text, zone: Zone, from: &Moment, to: &Moment) -> Result<(), AllocError>
+    ensures { OnOk result (text.new ≡ text.old ++ to_words zone from.now to.now) }
+{
+    later_date(text, from, to)?;
+    text.word(&to.clock())?;
+    text.push(b' ')?;
+    write_zone(text, zone)
+}
+
 /// Writes the day and the hours between two moments.
 #[tactic(auto, unfolding(crate::specs::Times::span_words))]
 pub(crate) fn span_words(
@@ -165,14 +187,9 @@ pub(crate) fn span_words(
 ) -> Result<(), AllocError>
     ensures { OnOk result (text.new ≡ text.old ++ span_words zone from.now to.now) }
 {
-    text.word(&from.date())?;
-    text.push(b' ')?;
-    text.word(&from.clock())?;
+    from_words(text, from)?;
     text.word(b" to ")?;
-    later_date(text, from, to)?;
-    text.word(&to.clock())?;
-    text.push(b' ')?;
-    write_zone(text, zone)
+    to_words(text, zone, from, to)
 }
 
 /// Writes a line with the day and the hours of a trace, and an empty line, if the trace has times.
@@ -189,19 +206,34 @@ pub(crate) fn span_part(text: &mut Text, times: &Times) -> Result<(), AllocError
     }
 }
 
+/// Writes at which line the clock went back.
+fn back_line(text: &mut Text, line: u64) -> Result<(), AllocError>
+    ensures { OnOk result (text.new ≡ text.old ++ back_line line) }
+{
+    text.word(b"The clock of the time marks goes back at line ")?;
+    text.number(line)?;
+    text.word(b".\n")
+}
+
 /// Writes at which line the clock went back, if it did.
 #[tactic(auto, unfolding(crate::specs::Times::back_note))]
 fn back_note(text: &mut Text, line: Option<u64>) -> Result<(), AllocError>
     ensures { OnOk result (text.new ≡ text.old ++ back_note line) }
 {
     match line {
-        Some(line) => {
-            text.word(b"The clock of the time marks goes back at line ")?;
-            text.number(line)?;
-            text.word(b".\n")
-        }
+        Some(line) => back_line(text, line),
         None => Ok(()),
     }
+}
+
+/// Writes how many time marks can't be read, and the line of the first.
+fn bad_line(text: &mut Text, bad: usize, line: u64) -> Result<(), AllocError>
+    ensures { OnOk result (text.new ≡ text.old ++ bad_line bad line) }
+{
+    count(text, bad, b"time mark")?;
+    text.word(b" cannot be read: see line ")?;
+    text.number(line)?;
+    text.word(b".\n")
 }
 
 /// Writes how many time marks can't be read, and the line of the first, if there is one.
@@ -210,12 +242,7 @@ fn bad_note(text: &mut Text, bad: usize, first: Option<u64>) -> Result<(), Alloc
     ensures { OnOk result (text.new ≡ text.old ++ bad_note bad first) }
 {
     match first {
-        Some(line) => {
-            count(text, bad, b"time mark")?;
-            text.word(b" cannot be read: see line ")?;
-            text.number(line)?;
-            text.word(b".\n")
-        }
+        Some(line) => bad_line(text, bad, line),
         None => Ok(()),
     }
 }

@@ -1,10 +1,8 @@
-use Rattle.std.proofs.Common.{◌∙◌, ℕ, List, Option, ap, option_map}
+use Rattle.std.proofs.Common.{◌∙◌, ℕ, Option, ap, option_map}
 use Rattle.std.proofs.lemmas.Result.{err_from_is_err_and}
 use Rattle.std.specs.declared.alloc.Global.{Global}
 use Rattle.std.specs.declared.vec.Vec.{Vec}
 use Rattle.zvt_grammar.specs.Lengths.{reading_of}
-use Rattle.zvt_report.specs.Dialogue.{shown_lines}
-use Rattle.zvt_report.specs.declared.rows.OrderRow.{OrderRow}
 use Rattle.zvt_report.proofs.DialogueLemmas.{walk_stopped, walked_all}
 use Rattle.zvt_report.proofs.dialogue.section_in.Goals as goal
 
@@ -14,7 +12,6 @@ returns-in_err-walk c =
     rw (p.1, p.2) (walk_stopped (reading_of c.args.lengths) c.args.scope c.args.trace.now c.args.report.now c.args.looks.now c.in_err-walk.field-0.0 _ _ c.in_err-walk.ensures)
 
 pub returns : goal.returns
-returns c = walked_all (reading_of c.args.lengths) c.args.scope c.args.trace.now c.args.report.now c.args.looks.now _ _ _ _ c.new.ensures.listed
-    (ap (λ (ranges : Option (Vec (ℕ × ℕ) Global)). option_map (λ v. v.items) ranges) c.new.ensures.ranges ∙ c.in_ok-ranges.ensures
-    ∙ ap (λ (rows : List OrderRow). shown_lines c.args.report.now.tally rows c.args.looks.now) c.as_slice.ensures.value)
+returns c = walked_all (reading_of c.args.lengths) c.args.scope c.args.trace.now c.args.report.now c.args.looks.now _ _ _ _ c.new-dialogue.ensures.listed
+    (ap (λ (ranges : Option (Vec (ℕ × ℕ) Global)). option_map (λ v. v.items) ranges) c.new-dialogue.ensures.ranges ∙ c.in_ok-ranges.ensures)
     c.in_ok-walk.ensures c.in_ok-section.ensures

@@ -26,5 +26,5 @@ returns c =
     c.true_if.ensures ∙ ap (true_if name.TakenBack) (c.taken_back_at.ensures ∙ ap (λ (l : List Entry). taken_back_at l entry) book) in
     let trace : c.maybe_trace.result ≡ maybe_count name.Trace (trace_by row.outcome row.approval) = c.maybe_trace.ensures ∙ ap (maybe_count name.Trace) c.trace_by.ensures in
     members_same c.write_object.result c.args.text.now c.write_object.new.text object_of.Payment _ (payment_members books c.args.place.now row c.args.amount)
-    (rw (amount, approved, c.maybe_card.ensures, c.maybe_card_number.ensures, cause, c.code.ensures, c.lines.ensures, c.count-2.ensures, c.ending.ensures, c.maybe_count.ensures, receipt, doubt, reversed, taken, trace, c.words.ensures) refl)
+    (rw (amount, approved, c.maybe_card.ensures, c.maybe_card_number.ensures, cause, c.code.ensures, c.lines.ensures, c.count-2.ensures, c.ending.ensures, c.maybe_count.ensures, receipt, doubt, reversed, taken, c.maybe_time.ensures, trace, c.words.ensures) refl)
     c.write_object.ensures

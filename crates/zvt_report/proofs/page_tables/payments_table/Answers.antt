@@ -7,4 +7,4 @@ pub returns : goal.returns
 unfolding payments_table
 returns c =
     completes c.table_end.result c.payment_rows.new.page c.table_end.new.page _ _
-    (simp (c.in_ok-payment_rows.ensures, c.in_ok-table_body.ensures, c.in_ok-payment_columns.ensures, c.in_ok-table_start.ensures, c.have_times.ensures, append_assoc)) c.table_end.ensures
+    (simp (c.in_ok-payment_rows.ensures, c.in_ok-table_body.ensures, c.in_ok-payment_columns.ensures, c.in_ok-table_start.ensures, c.have_times-timed.ensures, append_assoc)) c.table_end.ensures
