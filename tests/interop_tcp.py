@@ -304,12 +304,21 @@ class Trial:
         check("a wrong step leaves the trace", (ended.status, trace.read_text().splitlines()[-1]), (2, "!"))
 
     def marks(self):
-        """Each line of a trace has a time mark, and without them it is the trace of the same run with --no-times."""
+        """Each line of a trace has a time mark, and without them it has the messages of the same run with --no-times. The chunks in
+        which messages come over TCP may differ."""
         steps = ["register", "pay:7", "reverse:1", "close"]
         for name, record in (("loop", self.loop_trace), ("terminal", self.terminal_trace)):
             plain = record(steps, "--no-times")
             check(f"a {name} without time marks", (plain[-2:], b"#" in plain), (b"!\n", False))
-            check(f"a {name} with time marks", unmarked(record(steps)), plain)
+            check(f"a {name} with time marks", self.messages(unmarked(record(steps))), self.messages(plain))
+
+    def messages(self, trace):
+        """The messages of a trace, one for each line, or None where there is no trace."""
+        if trace is None:
+            return None
+        file = self.new_trace()
+        file.write_bytes(trace)
+        return run("join", file)
 
     def loop_trace(self, steps, *words):
         trace = self.new_trace()
