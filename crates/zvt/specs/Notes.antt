@@ -12,7 +12,7 @@ use Rattle.zvt_tool.specs.declared.trace_command.TraceWork.TheVariants.{Render, 
 abbrev pub scope_by : TraceWork → (reads_on : Bool) → Option Scope
 scope_by (Render style) reads_on = Some (work_scope (Render style) reads_on)
 scope_by (Audit form) reads_on = Some (work_scope (Audit form) reads_on)
-scope_by (Report form strict) reads_on = Some (work_scope (Report form strict) reads_on)
+scope_by (Report form zone strict) reads_on = Some (work_scope (Report form zone strict) reads_on)
 scope_by (Vectors written) reads_on = None
 
 -- what is not read after a refusal: its side or the refused message, or for the books the whole line
