@@ -1,7 +1,7 @@
 //! The style sheet of a page.
 
-/// Colours of a light and a dark theme, the layout of a wide screen and of a narrow one, and of paper. It names no other
-/// file.
+/// Colours of a light and a dark theme, the layout of a wide screen and of a narrow one, and of paper. It names no
+/// other file.
 pub(crate) const STYLE: &str = "
 :root{color-scheme:light dark;--bg:#faf9f6;--paper:#fff;--ink:#1d1c1a;--soft:#625d56;--line:#e4e0d8;
 --act:#a3231b;--check:#855600;--ok:#1f6b45;--wire:#33567f;
@@ -60,7 +60,8 @@ margin-right:.5rem;vertical-align:.06em}
 .dlg li{display:flex;gap:.8rem;padding:.2rem 0;scroll-margin-top:1rem}
 .dlg .ln{min-width:5ch;text-align:right;color:var(--soft);font-size:.82rem;line-height:1.9}
 .say{flex:1;min-width:0;padding:.15rem .8rem;border-left:3px solid var(--line);
-font:.82rem/1.5 ui-monospace,SFMono-Regular,Menlo,Consolas,'DejaVu Sans Mono',monospace;white-space:pre-wrap;overflow-wrap:anywhere}
+font:.82rem/1.5 ui-monospace,SFMono-Regular,Menlo,Consolas,'DejaVu Sans Mono',monospace;
+white-space:pre-wrap;overflow-wrap:anywhere}
 .say div{padding-left:2ch;text-indent:-2ch}.say div:first-child{font-weight:620}
 .till .say{margin-right:16%;border-color:var(--wire)}.terminal .say{margin-left:16%;border-color:var(--ok)}
 .bad .say,.lost .say{border-color:var(--act);color:var(--act)}.lost .say{border-left-style:dashed}

@@ -132,8 +132,8 @@ fn repeats(seen: &[Standing], payment: &Option<Standing>) -> Option<usize>
     }
 }
 
-/// Returns for each row the place of the payment that it repeats: an earlier one of the same amount, which stands as this
-/// one does, not long before it, and the last one with the same card.
+/// Returns for each row the place of the payment that it repeats: the last earlier one with the same card, if both
+/// stand, have the same amount and are not far apart.
 pub(crate) fn repeated_payments(
     alloc: Global,
     book: &[Entry],

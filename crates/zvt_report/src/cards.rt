@@ -16,8 +16,8 @@ pub(crate) const MASK: u8 = 14;
 pub struct Card {
     /// The type in BMP 8A, if it has a name.
     pub card_type: Option<u8>,
-    /// The name in BMP 8B, with zeros after it. A name of more than 24 bytes is not kept: the name of the type stands for
-    /// it.
+    /// The name in BMP 8B, with zeros after it. A name of more than 24 bytes is not kept: the name of the type stands
+    /// for it.
     pub name: Option<[u8; 24]>,
     /// The number in BMP 22, with the filler F after it. A number without at least four masks E, or with more than ten
     /// other digits, is not kept.

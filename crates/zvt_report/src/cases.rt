@@ -113,8 +113,8 @@ pub struct Look {
     pub case: Case,
     /// The index of the order's row, counted from 0.
     pub order: usize,
-    /// The index of the first later payment of the same amount that is booked or unclear, or of the earlier payment that
-    /// this one is like.
+    /// The index of the first later payment of the same amount that is booked or unclear, or of the earlier payment
+    /// that this one is like.
     pub again: Option<usize>,
 }
 

@@ -2,7 +2,8 @@
 ghost use Rattle.std.specs.Prelude.{◌≡◌, ◌++◌, OnOk};
 ghost use Rattle.zvt_page.specs.Html.{render};
 ghost use Rattle.zvt_report.specs.PageTables.{card_cell, number_cell, payment_columns, payment_end, payment_of};
-ghost use Rattle.zvt_report.specs.PageTables.{payment_row, payment_rows, payments_or_none, payments_section, payments_table};
+ghost use Rattle.zvt_report.specs.PageTables.{payment_row, payment_rows, payments_or_none, payments_section};
+ghost use Rattle.zvt_report.specs.PageTables.{payments_table};
 ghost use Rattle.zvt_report.specs.Places.{no_counts};
 
 use crate::books::DayBooks;

@@ -2,8 +2,8 @@
 ghost use Rattle.std.specs.Prelude.{◌≡◌, ◌++◌, OnOk};
 ghost use Rattle.zvt_report.specs.Objects.{entry_at};
 ghost use Rattle.zvt_report.specs.PaymentTable.{card_column, doubt_text, entry_text, explained, fraction_blanks};
-ghost use Rattle.zvt_report.specs.PaymentTable.{lines_column, outcome_text, payment_columns, payment_heading, payment_line};
-ghost use Rattle.zvt_report.specs.PaymentTable.{payment_row, payment_text, payments_from, payments_text};
+ghost use Rattle.zvt_report.specs.PaymentTable.{lines_column, outcome_text, payment_columns, payment_heading};
+ghost use Rattle.zvt_report.specs.PaymentTable.{payment_line, payment_row, payment_text, payments_from, payments_text};
 ghost use Rattle.zvt_report.specs.PaymentTable.{receipt_column, trace_column, unclear_reversal};
 ghost use Rattle.zvt_report.specs.Places.{no_counts};
 

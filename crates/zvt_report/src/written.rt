@@ -30,8 +30,9 @@ pub struct ReportSummary {
 }
 
 /// Writes the report of the trace in this form. Text and pages show times on the clock of `zone`; objects have them in
-/// UTC. Only a page has the `name` of the file, which is empty if there is none. `lengths` selects the accepted forms of
-/// length, and `scope` says how much is not read after a refused message, as for [`report_trace`].
+/// UTC. Only a page has the `name` of the file, which is empty if there is none, and the dialogue of the trace.
+/// `lengths` selects the accepted forms of length, and `scope` says how much is not read after a refused message, as
+/// for [`report_trace`].
 ///
 /// Writes the text once, at the end. Writes nothing if a line can't be read or an allocation fails.
 pub fn write_report<W: Sink>(
