@@ -45,7 +45,7 @@ def length(content):
     return bytes([0xF0 + len(content) // 10, 0xF0 + len(content) % 10]) + content
 
 
-# Two cards of which the number is masked, and others that are odd in one way.
+# Two cards with masked numbers, and others that are odd in one way.
 GIROCARD, VISA = card("6726EEEEEEEE12340F", b"girocard\0"), card("4761EEEEEEEE0010", b"VISA", 10)
 CARDS = (GIROCARD, GIROCARD, VISA, VISA, card("6726EEEEEEEE1234FF", None, 5), card("67E6EEE23FF0"), card("6726123456781234", b"girocard"), card("67EEEEEEEEEEEEEEEEEEEE1F"),
          card("67EEE1", b"\x94 \"\\<b>&amp;\x7F"), card("123456EEEE123456", b"x" * 24), card("12345EEEEE12345F", b"x" * 25), GIROCARD + VISA, card("", b"\0\x1F", 0xFF), card("EEEE"), card("", None, 6))

@@ -66,7 +66,7 @@ type_of [] = None
 type_of (one ∷ []) = option_map (λ (name : List ℕ). one) (card_type_name one)
 type_of (one ∷ two ∷ more) = None
 
--- a card of which something is known
+-- a card, if anything about it is known
 abbrev pub known_card : (card_type : Option ℕ) → (name number : Option (List ℕ)) → Option Card
 known_card None None None = None
 known_card card_type name number = Some (record { card_type = card_type; name = name; number = number })

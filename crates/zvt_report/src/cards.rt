@@ -170,7 +170,7 @@ fn type_of(bytes: &[u8]) -> Option<u8>
     Some(*card_type)
 }
 
-/// Returns a card of which something is known.
+/// Returns a card, if anything about it is known.
 fn known_card(
     card_type: Option<u8>,
     name: Option<[u8; 24]>,

@@ -1,5 +1,5 @@
 //! Writes the report of a trace.
-ghost use Rattle.std.specs.Prelude.{◌≡◌, ◌+◌, ◌<◌, ◌≤◌, ℕ, Err, IfOk, IfSome, List, length};
+ghost use Rattle.std.specs.Prelude.{◌≡◌, ◌+◌, ◌++◌, ◌<◌, ◌≤◌, ℕ, Err, IfOk, IfSome, List, OnOk, length};
 ghost use Rattle.std.specs.Io.KnownBytes.{Consumes};
 ghost use Rattle.zvt_grammar.specs.Lengths.{reading_of};
 ghost use Rattle.zvt_trace.specs.Written.{limit};
@@ -150,6 +150,33 @@ fn write_found<W: Sink>(
     })
 }
 
+/// Writes the page of a report with these looks and this dialogue.
+fn write_page(
+    alloc: Global,
+    text: &mut Text,
+    name: &[u8],
+    report: &Report,
+    looks: &[Look],
+    dialogue: &[u8],
+) -> Result<(), AllocError>
+    ensures { OnOk result (text.new ≡ text.old
+        ++ report_in ReportForm.Page name.now report.now looks.now dialogue.now) }
+{
+    page::write(
+        alloc,
+        text,
+        name,
+        report.tally,
+        report.currency,
+        &report.times,
+        &report.books,
+        report.messages.as_slice(),
+        report.closings.as_slice(),
+        looks,
+        dialogue,
+    )
+}
+
 /// Returns the text, the objects or the page of a report with these looks.
 fn text_of(
     alloc: Global,
@@ -187,19 +214,7 @@ fn text_of(
             closings,
             looks,
         )?,
-        ReportForm::Page => page::write(
-            alloc,
-            &mut text,
-            name,
-            report.tally,
-            report.currency,
-            &report.times,
-            books,
-            messages,
-            closings,
-            looks,
-            dialogue,
-        )?,
+        ReportForm::Page => write_page(alloc, &mut text, name, report, looks, dialogue)?,
     }
     Ok(text)
 }

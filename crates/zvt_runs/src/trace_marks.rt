@@ -9,7 +9,7 @@ use jiff::tz::Offset;
 use std::rt::Clock;
 use zvt_trace::{Moment, MomentSource};
 
-/// Moments to the millisecond. There is none if the clock cannot be read.
+/// Moments to the millisecond, or `None` if the clock cannot be read.
 impl<C: Clock> MomentSource for Clocked<'_, C> {
     fn now(&self) -> Option<Moment>
         ensures { IfSome result (λ moment. (nanoseconds : ℤ) × ShowsAt nanoseconds (Some moment)) }
