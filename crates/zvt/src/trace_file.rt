@@ -6,6 +6,7 @@ use crate::reports::{report_failed, report_on};
 use std::fs::{File, OpenOptions};
 use std::io::{self, Read, Seek, SeekFrom, Write};
 use zvt_runs::tcp::RunTrace;
+use zvt_text::words::fits;
 use zvt_tool::statuses::{DEVICE, TRACE};
 
 /// The beginning of a journal's first line.
@@ -183,20 +184,8 @@ fn torn(last: &[u8]) -> &[u8] {
 
 /// Returns whether this is a time mark, or the beginning of one.
 fn begins_mark(tail: &[u8]) -> bool {
-    if tail.len() > MARK.len() {
-        return false;
-    }
-    for (byte, place) in tail.iter().zip(MARK) {
-        let fits = if *place == b'0' {
-            byte.is_ascii_digit()
-        } else {
-            byte == place
-        };
-        if !fits {
-            return false;
-        }
-    }
-    true
+    let size = tail.len().min(MARK.len());
+    fits(&MARK[..size], tail)
 }
 
 /// Returns whether the file begins like a journal.

@@ -11,8 +11,8 @@ use Rattle.std.proofs.lemmas.List.{take-append-drop}
 use Rattle.std.proofs.lemmas.List.Elements.{All-append, All-cons, All-nil, All-weaker}
 use Rattle.std.proofs.lemmas.List.Sums.{AllPass-from_list_all}
 use Rattle.std.proofs.lemmas.Slice.Eq.{bytes_eq-Decides}
-use Rattle.zvt_text.specs.Words.{is_count, trailing}
-use Rattle.zvt_kept.specs.Notes.{NoteRows, ends_so, fits, fits_if_some, fits_place, is_moment, is_note, is_note_behind, is_reference, is_reference_part, moment_form, keyed, note_words, at_in, reference_in}
+use Rattle.zvt_text.specs.Words.{fits, fits_place, is_count, trailing}
+use Rattle.zvt_kept.specs.Notes.{NoteRows, ends_so, fits_if_some, is_moment, is_note, is_note_behind, is_reference, is_reference_part, moment_form, keyed, note_words, at_in, reference_in}
 use Rattle.zvt_kept.specs.Records.{ends_word, word_size}
 
 rows : NoteRows

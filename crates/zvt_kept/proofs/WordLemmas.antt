@@ -1,13 +1,13 @@
 -- The words of orders are read back.
-use Rattle.std.proofs.Common.{◌≡◌, ℕ, ◌+◌, ◌-◌, ◌<◌, Bool, true, false, cond, ◌≤◌, nat_lt, List, [], ◌∷◌, ◌++◌, All, length, take, drop, Option, Some, None, option_map, refl, ap, sym, subst, ◌∙◌, arith}
+use Rattle.std.proofs.Common.{◌≡◌, ℕ, ◌+◌, ◌-◌, ◌<◌, Bool, true, false, nat_lt, List, [], ◌∷◌, ◌++◌, All, length, take, drop, Option, Some, None, option_map, refl, ap, sym, ◌∙◌, arith}
 use Rattle.std.specs.Prelude.{codes, decimal, if◌then◌else◌, ◌==◌}
 use Rattle.std.proofs.Math.Seq.{take-append_seam}
 use Rattle.std.proofs.lemmas.Bool.Decides.{nat_tests}
 use Rattle.std.proofs.lemmas.Option.{same_Some}
 use Rattle.std.proofs.lemmas.List.Elements.{All-append, All-head, All-tail, All-weaker}
 use Rattle.std.proofs.lemmas.List.Sums.{AllPass-from_list_all}
-use Rattle.std.specs.List.{list_all, position, position_or_len}
-use borrow.Author.Tests.{ltb-true, ltb-false}
+use Rattle.std.specs.List.{list_all}
+use borrow.Author.Tests.{ltb-true}
 use Rattle.zvt_till.specs.declared.orders.Order.{Order}
 use Rattle.zvt_till.specs.declared.orders.Order.TheVariants.{Register, Pay, Reverse, CloseDay, Cancel}
 use Rattle.zvt_kept.specs.Notes.{is_note}
@@ -24,29 +24,6 @@ size_of : (word rest : List ℕ) → All (λ byte. 32 < byte) word → word_size
 size_of [] rest all none = none
 size_of (byte ∷ word) rest all none =
     rw (no_space byte (All-head (λ byte. 32 < byte) byte word all)) (omega (arith, size_of word rest (All-tail (λ byte. 32 < byte) byte word all) none))
-
--- where a first place is
-pub in_reach : (p : ℕ → Bool) (words : List ℕ) → position_or_len p words ≤ length words
-in_reach p [] = omega arith
-in_reach p (byte ∷ words) = by_test (p byte) refl (in_reach p words)
-  where
-    by_test : (b : Bool) → p byte ≡ b → position_or_len p words ≤ length words → position_or_len p (byte ∷ words) ≤ length (byte ∷ words)
-    by_test true is more = rw is (omega arith)
-    by_test false is more = rw is (omega (arith, more))
-
-pub found_at : (p : ℕ → Bool) (words : List ℕ) (n : ℕ) → position p words ≡ Some n → n ≡ position_or_len p words
-found_at p words n is = by_test (nat_lt (position_or_len p words) (length words)) refl
-  where
-    by_test : (b : Bool) → nat_lt (position_or_len p words) (length words) ≡ b → n ≡ position_or_len p words
-    by_test true less = let same : Some (position_or_len p words) ≡ Some n = subst (λ (b : Bool). cond b (Some (position_or_len p words)) None ≡ Some n) less is in cc same
-    by_test false more = let none : None ≡ Some n = subst (λ (b : Bool). cond b (Some (position_or_len p words)) None ≡ Some n) more is in absurd cc
-
-pub not_found : (p : ℕ → Bool) (words : List ℕ) → position p words ≡ None → length words ≡ position_or_len p words
-not_found p words is = by_test (nat_lt (position_or_len p words) (length words)) refl
-  where
-    by_test : (b : Bool) → nat_lt (position_or_len p words) (length words) ≡ b → length words ≡ position_or_len p words
-    by_test true less = let some : Some (position_or_len p words) ≡ None = subst (λ (b : Bool). cond b (Some (position_or_len p words)) None ≡ None) less is in absurd cc
-    by_test false more = let all = in_reach p words in let least = ltb-false (position_or_len p words) (length words) more in omega (arith, all, least)
 
 drop_seam : (first rest : List ℕ) → drop (length first) (first ++ rest) ≡ rest
 drop_seam [] rest = refl

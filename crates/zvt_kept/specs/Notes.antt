@@ -2,18 +2,7 @@
 use Rattle.std.specs.Prelude.{◌≡◌, ◌==◌, ◌&&◌, true, Bool, false, ℕ, if◌then◌else◌, List, [], ◌∷◌, ◌++◌, codes, length, take, drop, Option, Some, None, option_map}
 use Rattle.std.specs.Char.{is_ascii_digit, is_ascii_graphic}
 use Rattle.std.specs.List.{list_all}
-use Rattle.zvt_text.specs.Words.{is_count, trailing}
-
--- a byte that fits a place of a form: any digit for a 0, and otherwise the byte itself
-abbrev pub fits_place : (place byte : ℕ) → Bool
-fits_place place byte = if place == 48 then is_ascii_digit byte else byte == place
-
--- a text has this form
-abbrev pub fits : (form text : List ℕ) → Bool
-fits [] [] = true
-fits [] (byte ∷ text) = false
-fits (place ∷ form) [] = false
-fits (place ∷ form) (byte ∷ text) = fits_place place byte && fits form text
+use Rattle.zvt_text.specs.Words.{fits, is_count, trailing}
 
 -- a time to the second, in UTC; no calendar is checked
 abbrev pub moment_form : List ℕ

@@ -2,12 +2,12 @@
 ghost use Rattle.std.specs.Prelude.{◌≡◌, ◌≤◌, ◌+◌, ◌++◌, ◌&&◌, drop, if◌then◌else◌, length, option_map, take, true};
 ghost use Rattle.std.specs.Char.{is_ascii_graphic};
 ghost use Rattle.std.specs.List.{list_all};
-ghost use Rattle.zvt_kept.specs.Notes.{fits, fits_if_some, fits_place, is_moment, is_note, is_reference};
+ghost use Rattle.zvt_kept.specs.Notes.{fits_if_some, is_moment, is_note, is_reference};
 ghost use Rattle.zvt_kept.specs.Notes.{is_reference_part, keyed};
 
 use arrayvec::ArrayVec;
 use std::marker::Model;
-use zvt_text::words::trailing;
+use zvt_text::words::{fits, trailing};
 
 /// Maximum number of characters in a reference.
 pub const MAX_REFERENCE_LEN: usize = 40;
@@ -184,36 +184,6 @@ fn is_moment(text: &[u8]) -> bool
     ensures { result ≡ is_moment text.now }
 {
     fits(b"0000-00-00T00:00:00Z", text)
-}
-
-/// Returns whether a text has this form.
-fn fits(form: &[u8], text: &[u8]) -> bool
-    ensures { result ≡ fits form.now text.now }
-{
-    let mut places = form;
-    let mut rest = text;
-    'places: while let [place, more_places @ ..] = places {
-        let [byte, more @ ..] = rest else {
-            return false;
-        };
-        if !fits_place(*place, *byte) {
-            return false;
-        }
-        places = more_places;
-        rest = more;
-    }
-    rest.is_empty()
-}
-
-/// Returns whether a byte fits this place of the form: a 0 stands for any digit, and every other byte for itself.
-fn fits_place(place: u8, byte: u8) -> bool
-    ensures { result ≡ fits_place place byte }
-{
-    if place == b'0' {
-        byte.is_ascii_digit()
-    } else {
-        byte == place
-    }
 }
 
 /// Returns whether this is a valid reference: 1 to 40 printable ASCII characters, none of them a space.

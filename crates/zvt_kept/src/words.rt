@@ -1,6 +1,5 @@
 //! Reads the words of a comment.
-ghost use Rattle.std.specs.Prelude.{◌≡◌, ◌≤◌, ◌-◌, ◌==◌, ℕ, IfSome, List, length, option_map};
-ghost use Rattle.std.specs.List.{position, position_or_len};
+ghost use Rattle.std.specs.Prelude.{◌≡◌, ◌≤◌, ◌-◌, ℕ, IfSome, List, length, option_map};
 ghost use Rattle.zvt_kept.specs.Reading.{kept_of};
 ghost use Rattle.zvt_kept.specs.Records.{begins_with, ends_word, is_reserved, noted_digits, number_of, order_of, plain};
 ghost use Rattle.zvt_kept.specs.Records.{with_number};
@@ -8,7 +7,7 @@ ghost use Rattle.zvt_kept.specs.Records.{with_number};
 use crate::note::Note;
 use crate::records::Entry;
 use zvt_bcd::Amount;
-use zvt_text::words::{decimal_number, trailing};
+use zvt_text::words::{decimal_number, size_before, trailing};
 use zvt_till::Order;
 
 /// Maximum number of digits in a number.
@@ -99,24 +98,6 @@ fn noted_digits(tail: &[u8]) -> Option<(&[u8], Note)>
     let (word, rest) = tail.split_at(size_before(b' ', tail));
     let note = Note::read(rest)?;
     Some((word, note))
-}
-
-/// Returns the number of bytes before the first byte with this value, or the number of all bytes if none has it.
-pub fn size_before(byte: u8, words: &[u8]) -> usize
-    ensures size { result ≡ position_or_len (λ other. other == byte) words.now }
-    ensures fits { result ≤ length words.now }
-{
-    match first_of(byte, words) {
-        Some(size) => size,
-        None => words.len(),
-    }
-}
-
-/// Returns the index of the first byte with this value.
-fn first_of(byte: u8, words: &[u8]) -> Option<usize>
-    ensures { result ≡ position (λ other. other == byte) words.now }
-{
-    words.iter().position(|other| *other == byte)
 }
 
 /// Parses an amount.

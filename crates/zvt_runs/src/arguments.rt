@@ -5,9 +5,9 @@ ghost use Rattle.zvt_runs.specs.Words.{amount_of, code_in, code_of, declined, de
 ghost use Rattle.zvt_runs.specs.Words.{entry_of, numbered, step_of};
 
 use zvt_bcd::Amount;
-use zvt_kept::{is_reference, size_before};
+use zvt_kept::is_reference;
 use zvt_term::Verdict;
-use zvt_text::words::{decimal_number, trailing};
+use zvt_text::words::{decimal_number, size_before, trailing};
 use zvt_till::Order;
 
 /// The ends of a line that a run operates.

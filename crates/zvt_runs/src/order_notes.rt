@@ -8,7 +8,8 @@ use jiff_fmt::temporal::DateTimePrinter;
 use std::rt::Clock;
 use std::time::SystemTime;
 use zvt_journal::Device;
-use zvt_kept::{KeptTill, Note, size_before};
+use zvt_kept::{KeptTill, Note};
+use zvt_text::words::size_before;
 
 /// Supplies the notes of a till's orders.
 pub trait NoteSource<K> {

@@ -1,5 +1,5 @@
 -- Numbers in decimal digits.
-use Rattle.std.proofs.Common.{◌≡◌, ℕ, ◌+◌, ◌-◌, ◌*◌, ◌^◌, ◌<◌, ◌≤◌, ◌&&◌, Bool, true, false, nat_le, nat_lt, List, [], ◌∷◌, length, take, get_or, refl, arith, lit<, lit≤}
+use Rattle.std.proofs.Common.{◌≡◌, ℕ, ◌+◌, ◌-◌, ◌*◌, ◌^◌, ◌<◌, ◌≤◌, ◌&&◌, Bool, true, false, cond, nat_le, nat_lt, List, [], ◌∷◌, length, take, get_or, Option, Some, None, refl, subst, arith, lit<, lit≤}
 use Rattle.std.proofs.lemmas.Bool.Decides.{nat_tests}
 use Rattle.std.proofs.lemmas.Bool.{leb-true}
 use Rattle.std.proofs.lemmas.Int.Digits.{digits_value-lt, digits_value_more}
@@ -7,7 +7,8 @@ use Rattle.std.proofs.lemmas.Str.Parse.{digits_value-take-le, digit_at}
 use Rattle.std.proofs.Math.Nat.{pow-le-pow_right}
 use Rattle.std.specs.Char.{digit_value, is_ascii_digit}
 use Rattle.std.specs.Int.{IsInRange}
-use Rattle.std.specs.List.{list_all}
+use Rattle.std.specs.List.{list_all, position, position_or_len}
+use borrow.Author.Tests.{ltb-false}
 use Rattle.std.specs.Str.Parse.{AllDigits, digits_value}
 use Rattle.zvt_text.specs.Words.{WordRows, is_count, is_number}
 
@@ -58,4 +59,29 @@ next ds i value all few below is =
     record { value = e; small = omega arith }
 
 rows : WordRows
-rows = (refl, refl, refl, refl, refl, refl, refl, refl)
+rows = (refl, refl, refl, refl, refl, refl, refl, refl, refl, refl, refl)
+
+-- ---- the place of a byte
+
+-- where a first place is
+in_reach : (p : ℕ → Bool) (words : List ℕ) → position_or_len p words ≤ length words
+in_reach p [] = omega arith
+in_reach p (byte ∷ words) = by_test (p byte) refl (in_reach p words)
+  where
+    by_test : (b : Bool) → p byte ≡ b → position_or_len p words ≤ length words → position_or_len p (byte ∷ words) ≤ length (byte ∷ words)
+    by_test true is more = rw is (omega arith)
+    by_test false is more = rw is (omega (arith, more))
+
+pub found_at : (p : ℕ → Bool) (words : List ℕ) (n : ℕ) → position p words ≡ Some n → n ≡ position_or_len p words
+found_at p words n is = by_test (nat_lt (position_or_len p words) (length words)) refl
+  where
+    by_test : (b : Bool) → nat_lt (position_or_len p words) (length words) ≡ b → n ≡ position_or_len p words
+    by_test true less = let same : Some (position_or_len p words) ≡ Some n = subst (λ (b : Bool). cond b (Some (position_or_len p words)) None ≡ Some n) less is in cc same
+    by_test false more = let none : None ≡ Some n = subst (λ (b : Bool). cond b (Some (position_or_len p words)) None ≡ Some n) more is in absurd cc
+
+pub not_found : (p : ℕ → Bool) (words : List ℕ) → position p words ≡ None → length words ≡ position_or_len p words
+not_found p words is = by_test (nat_lt (position_or_len p words) (length words)) refl
+  where
+    by_test : (b : Bool) → nat_lt (position_or_len p words) (length words) ≡ b → length words ≡ position_or_len p words
+    by_test true less = let some : Some (position_or_len p words) ≡ None = subst (λ (b : Bool). cond b (Some (position_or_len p words)) None ≡ None) less is in absurd cc
+    by_test false more = let all = in_reach p words in let least = ltb-false (position_or_len p words) (length words) more in omega (arith, all, least)

@@ -1,5 +1,5 @@
--- Words that people write: what follows a prefix, and numbers in decimal digits.
-use Rattle.std.specs.Prelude.{◌≡◌, ℕ, ◌&&◌, Bool, cond, nat_lt, nat_le, List, [], codes, length, take, drop, Option, Some, None}
+-- Words that people write: prefixes, forms, and numbers in decimal digits.
+use Rattle.std.specs.Prelude.{◌≡◌, ℕ, ◌&&◌, ◌==◌, Bool, true, false, cond, if◌then◌else◌, nat_lt, nat_le, List, [], ◌∷◌, codes, length, take, drop, Option, Some, None}
 use Rattle.std.specs.Char.{is_ascii_digit}
 use Rattle.std.specs.List.{list_all}
 use Rattle.std.specs.Str.{bytes_eq}
@@ -21,6 +21,17 @@ is_number most digits = is_count most (length digits) && list_all is_ascii_digit
 abbrev pub number_in : (most : ℕ) → List ℕ → Option ℕ
 number_in most digits = cond (is_number most digits) (Some (digits_value 10 digits)) None
 
+-- a byte that fits a place of a form: any digit for a 0, and otherwise the byte itself
+abbrev pub fits_place : (place byte : ℕ) → Bool
+fits_place place byte = if place == 48 then is_ascii_digit byte else byte == place
+
+-- a text has this form
+abbrev pub fits : (form text : List ℕ) → Bool
+fits [] [] = true
+fits [] (byte ∷ text) = false
+fits (place ∷ form) [] = false
+fits (place ∷ form) (byte ∷ text) = fits_place place byte && fits form text
+
 -- ---- worked rows
 
 abbrev pub WordRows : Type 0
@@ -32,4 +43,7 @@ WordRows =
     (number_in 2 (codes "123") ≡ None) ×
     (number_in 2 [] ≡ None) ×
     (number_in 2 (codes "1a") ≡ None) ×
-    (number_in 2 (codes "+1") ≡ None)
+    (number_in 2 (codes "+1") ≡ None) ×
+    (fits (codes "00:00Z") (codes "09:14Z") ≡ true) ×
+    (fits (codes "00:00Z") (codes "09:14") ≡ false) ×
+    (fits (codes "00:00Z") (codes "0A:14Z") ≡ false)

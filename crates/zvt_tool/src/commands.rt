@@ -12,7 +12,7 @@ use crate::play_options::{check_terminal_row, check_till_row, play_row};
 use crate::tap_options::tap_row;
 use crate::terminal_options::terminal_row;
 use crate::till_options::till_row;
-use crate::trace_command::{
+use crate::trace_rows::{
     audit_row, join_row, normalise_row, receipts_row, report_row, show_row, vectors_row,
 };
 use clap::Command;

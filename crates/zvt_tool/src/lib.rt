@@ -28,6 +28,7 @@ mod tap_options;
 mod terminal_options;
 mod till_options;
 pub mod trace_command;
+mod trace_rows;
 mod traces;
 pub mod vector_check;
 pub mod verdicts;

@@ -4,7 +4,8 @@ use Rattle.std.specs.Prelude.{◌==◌}
 use Rattle.std.specs.Char.{is_ascii_digit}
 use Rattle.std.specs.Int.{is_in_range}
 use Rattle.std.proofs.lemmas.Bool.Decides.{nat_tests}
-use Rattle.zvt_trace.specs.Marks.{MarkRows, MarksReadBack, days_in_month, digit, fits, has_form, is_real, mark_form, mark_of, mark_text, moment, moment_in, three_at, three_digits}
+use Rattle.zvt_text.specs.Words.{fits}
+use Rattle.zvt_trace.specs.Marks.{MarkRows, MarksReadBack, days_in_month, digit, has_form, is_real, mark_form, mark_of, mark_text, moment, moment_in, three_at, three_digits}
 use Rattle.zvt_trace.specs.Moments.{MomentRows}
 use Rattle.zvt_trace.specs.declared.moment.Moment.{Moment}
 
@@ -12,7 +13,7 @@ pub mark_rows : MarkRows
 mark_rows = (refl, refl, refl, refl, refl, refl, refl, refl, refl, refl, refl, refl, refl, refl, refl, refl, refl, refl, refl, refl, refl)
 
 pub moment_rows : MomentRows
-moment_rows = (refl, refl, refl, refl, refl, refl, refl, refl)
+moment_rows = (refl, refl, refl, refl, refl, refl, refl, refl, refl, refl, refl)
 
 -- ---- what is_real says
 

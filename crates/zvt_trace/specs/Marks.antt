@@ -2,6 +2,7 @@
 use Rattle.std.specs.Prelude.{◌≡◌, true, false, ℕ, ◌+◌, ◌-◌, ◌*◌, ◌/◌, ◌%◌, ◌==◌, ◌&&◌, ◌||◌, not, nat_lt, Bool, if◌then◌else◌, List, [], ◌∷◌, ◌++◌, codes, length, take, get_or, Option, None, Some}
 use Rattle.std.specs.Char.{is_ascii_digit}
 use Rattle.std.specs.Int.{is_in_range}
+use Rattle.zvt_text.specs.Words.{fits}
 use Rattle.zvt_trace.specs.declared.moment.Moment.{Moment}
 
 -- ---- the calendar
@@ -30,17 +31,6 @@ moment year month day hour minute second nanosecond =
     record { year = year; month = month; day = day; hour = hour; minute = minute; second = second; nanosecond = nanosecond }
 
 -- ---- the form of a mark
-
--- a byte that fits a place of a form: any digit for a 0, and otherwise the byte itself
-abbrev pub fits_place : (place byte : ℕ) → Bool
-fits_place place byte = if place == 48 then is_ascii_digit byte else byte == place
-
--- a text has this form
-abbrev pub fits : (form text : List ℕ) → Bool
-fits [] [] = true
-fits [] (byte ∷ text) = false
-fits (place ∷ form) [] = false
-fits (place ∷ form) (byte ∷ text) = fits_place place byte && fits form text
 
 -- the longest mark without its `Z`; a shorter one leaves out the last digits, or all of them with their dot
 abbrev pub mark_form : List ℕ

@@ -1,6 +1,9 @@
--- The moments of a trace's lines, and the time marks that cannot be read.
-use Rattle.std.specs.Prelude.{◌≡◌, ℕ, ◌+◌, ◌*◌, ◌==◌, nat_lt, ◌&&◌, Bool, true, false, if◌then◌else◌, List, [], ◌∷◌, ◌++◌, codes, Option, None, Some, is_none}
+-- The moments of a trace's lines, by its time marks and by the records of a book, and the time marks that cannot be read.
+use Rattle.std.specs.Prelude.{◌≡◌, ℕ, ◌+◌, ◌*◌, ◌==◌, nat_lt, nat_le, ◌&&◌, Bool, true, false, if◌then◌else◌, List, [], ◌∷◌, ◌++◌, codes, drop, length, take, Option, None, Some, is_none, option_map}
+use Rattle.std.specs.List.{position_or_len}
+use Rattle.std.specs.Option.{option_and_then, option_or}
 use Rattle.std.specs.Str.Lines.{lines}
+use Rattle.zvt_text.specs.Words.{trailing}
 use Rattle.zvt_trace.specs.Marks.{mark_of, moment}
 use Rattle.zvt_trace.specs.declared.moment.Moment.{Moment}
 use Rattle.zvt_trace.specs.declared.moments.Timed.{Timed}
@@ -21,8 +24,31 @@ is_bad_mark line = begins_mark line && is_none (mark_of line)
 
 -- ---- times
 
+-- what stands after the first word
+abbrev pub without_word : (words : List ℕ) → List ℕ
+without_word words = drop (position_or_len (λ byte. byte == 32) words) words
+
 abbrev pub timed : (line : ℕ) → Moment → Timed
 timed line moment = record { line = line; moment = moment }
+
+-- what stands in the record of an order after the words of the order
+abbrev pub after_order : (words : List ℕ) → Option (List ℕ)
+after_order words =
+    option_or (trailing (codes "register") words) (option_or (trailing (codes "close") words) (option_or (trailing (codes "cancel") words)
+    (option_map without_word (option_or (trailing (codes "pay ") words) (trailing (codes "reverse ") words)))))
+
+-- a date and a time of day to the second
+abbrev pub moment_to_second : (text : List ℕ) → Option Moment
+moment_to_second text = if nat_le 20 (length text) then mark_of (codes "#@ " ++ take 20 text) else None
+
+-- the time of an order, in the first line of its record in a book
+abbrev pub order_time : (line : List ℕ) → Option Moment
+order_time line =
+    option_and_then (λ words. option_and_then (λ rest. option_and_then moment_to_second (trailing (codes " at ") rest)) (after_order words)) (trailing (codes "# ") line)
+
+-- the moment that a comment states for the next line that is none
+abbrev pub comment_time : (line : List ℕ) → Option Moment
+comment_time line = option_or (mark_of line) (order_time line)
 
 -- of two marks the later one counts
 abbrev pub latest : (mark next : Option Moment) → Option Moment
@@ -31,7 +57,7 @@ latest mark (Some next) = Some next
 
 -- the mark for the next line, after a line
 abbrev pub mark_after : (mark : Option Moment) → (line : List ℕ) → Option Moment
-mark_after mark line = if is_comment line then latest mark (mark_of line) else None
+mark_after mark line = if is_comment line then latest mark (comment_time line) else None
 
 abbrev pub timed_by : (number : ℕ) → (mark : Option Moment) → List Timed
 timed_by number None = []
@@ -93,6 +119,10 @@ MomentRows =
     (times_of (codes "#@ 2026-11-28T09:14:03Z" ∷ codes "> 0600" ∷ codes "< 80" ∷ []) ≡ timed 2 (moment 2026 11 28 9 14 3 0) ∷ []) ×
     -- comments and empty lines may stand between, and of several marks the last counts
     (times_of (codes "#@ 2026-11-28T09:14:03Z" ∷ codes "# note" ∷ codes "#@ 2026-11-28T09:14:04Z" ∷ [] ∷ codes "!" ∷ []) ≡ timed 5 (moment 2026 11 28 9 14 4 0) ∷ []) ×
+    -- the record of an order has a time, and its message is the next line
+    (times_of (codes "# pay 500 at 2026-11-28T09:14:03Z ref A-1009" ∷ codes "> 0601" ∷ codes "< 800000" ∷ []) ≡ timed 2 (moment 2026 11 28 9 14 3 0) ∷ []) ×
+    (times_of (codes "# register at 2026-11-28T09:14:03Z" ∷ codes "> 0600" ∷ codes "# reverse 12 at 2026-11-28T09:15:00Z" ∷ codes "> 0630" ∷ []) ≡ timed 2 (moment 2026 11 28 9 14 3 0) ∷ timed 4 (moment 2026 11 28 9 15 0 0) ∷ []) ×
+    (times_of (codes "# pay 500 at 2026-11-28" ∷ codes "# pay 500" ∷ codes "# till at 2026-11-28T09:14:03Z" ∷ codes "#pay 500 at 2026-11-28T09:14:03Z" ∷ codes "> 0601" ∷ []) ≡ []) ×
     -- a bad one gives no time, and takes none
     (times_of (codes "#@ 2026-02-30T09:14:03Z" ∷ codes "!" ∷ []) ≡ []) ×
     (times_of (codes "#@ 2026-11-28T09:14:03Z" ∷ codes "#@ today" ∷ codes "!" ∷ []) ≡ timed 3 (moment 2026 11 28 9 14 3 0) ∷ []) ×

@@ -1,9 +1,10 @@
 //! Moments, and the lines of a trace that mark them.
 ghost use Rattle.std.specs.Prelude.{◌≡◌, ◌≤◌, ◌<◌, ◌/◌, ◌%◌, ◌+◌, ◌++◌, length};
-ghost use Rattle.zvt_trace.specs.Marks.{days_in_month, digit_at, fits, fits_place, fraction_text, has_form};
-ghost use Rattle.zvt_trace.specs.Marks.{is_leap_year, moment_in, three_at, three_digits, two_at, two_digits};
+ghost use Rattle.zvt_trace.specs.Marks.{days_in_month, digit_at, fraction_text, has_form, is_leap_year, moment_in};
+ghost use Rattle.zvt_trace.specs.Marks.{three_at, three_digits, two_at, two_digits};
 
 use arrayvec::ArrayVec;
+use zvt_text::words::fits;
 
 /// The longest mark, without its `Z`. A 0 stands for any digit.
 const FORM: &[u8] = b"#@ 0000-00-00T00:00:00.000000000";
@@ -201,36 +202,6 @@ fn has_form(line: &[u8]) -> bool
         return false;
     }
     line[size - 1] == b'Z' && fits(&FORM[..size - 1], &line[..size - 1])
-}
-
-/// Returns whether a text has this form.
-fn fits(form: &[u8], text: &[u8]) -> bool
-    ensures { result ≡ fits form.now text.now }
-{
-    let mut places = form;
-    let mut rest = text;
-    'places: while let [place, more_places @ ..] = places {
-        let [byte, more @ ..] = rest else {
-            return false;
-        };
-        if !fits_place(*place, *byte) {
-            return false;
-        }
-        places = more_places;
-        rest = more;
-    }
-    rest.is_empty()
-}
-
-/// Returns whether a byte fits this place of the form: a 0 stands for any digit, and every other byte for itself.
-fn fits_place(place: u8, byte: u8) -> bool
-    ensures { result ≡ fits_place place byte }
-{
-    if place == b'0' {
-        byte.is_ascii_digit()
-    } else {
-        byte == place
-    }
 }
 
 /// Returns the moment whose digits stand at their places of a line.

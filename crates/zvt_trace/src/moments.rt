@@ -1,12 +1,14 @@
 //! The moments of a trace's lines.
-ghost use Rattle.std.specs.Prelude.{◌≡◌, ◌++◌, IfOk};
+ghost use Rattle.std.specs.Prelude.{◌≡◌, ◌++◌, IfOk, option_map};
 ghost use Rattle.std.specs.Str.Lines.{lines};
-ghost use Rattle.zvt_trace.specs.Moments.{bad_line, bad_marks_of, begins_mark, is_bad_mark, is_comment, line_times};
-ghost use Rattle.zvt_trace.specs.Moments.{mark_after, time_at, times_of, went_back};
+ghost use Rattle.zvt_trace.specs.Moments.{after_order, bad_line, bad_marks_of, begins_mark, comment_time, is_bad_mark};
+ghost use Rattle.zvt_trace.specs.Moments.{is_comment, line_times, mark_after, moment_to_second, order_time};
+ghost use Rattle.zvt_trace.specs.Moments.{time_at, times_of, went_back, without_word};
 
 use crate::lines::next_line;
 use crate::moment::Moment;
 use std::alloc::{AllocError, Global};
+use zvt_text::words::{size_before, trailing};
 
 /// A line of a trace, counted from 1, and its moment.
 #[derive(Clone, Copy, Debug, PartialEq, Eq)]
@@ -15,8 +17,8 @@ pub struct Timed {
     pub moment: Moment,
 }
 
-/// The moments of a trace's lines, from its time marks. A mark is a comment line, and belongs to the next line that is
-/// none.
+/// The moments of a trace's lines. A comment line that is a time mark, or that begins the record of an order in a book
+/// and has a time, belongs to the next line that is not a comment.
 #[derive(Drop)]
 pub struct Moments {
     /// The lines that have a moment, in their order.
@@ -125,10 +127,67 @@ fn mark_after(mark: Option<Moment>, line: &[u8]) -> Option<Moment>
     if !is_comment(line) {
         return None;
     }
-    match Moment::of_mark(line) {
+    match comment_time(line) {
         Some(next) => Some(next),
         None => mark,
     }
+}
+
+/// Returns the moment that a comment states for the next line: a time mark, or the time of an order in a book.
+fn comment_time(line: &[u8]) -> Option<Moment>
+    ensures { result ≡ comment_time line.now }
+{
+    match Moment::of_mark(line) {
+        Some(moment) => Some(moment),
+        None => order_time(line),
+    }
+}
+
+/// Returns the time of an order from the first line of its record in a book, as `# pay 500 at 2026-11-28T09:14:03Z`.
+fn order_time(line: &[u8]) -> Option<Moment>
+    ensures { result ≡ order_time line.now }
+{
+    let words = trailing(b"# ", line)?;
+    let rest = after_order(words)?;
+    moment_to_second(trailing(b" at ", rest)?)
+}
+
+/// Returns what follows the words of an order.
+fn after_order(words: &[u8]) -> Option<&[u8]>
+    ensures { option_map (λ rest. rest.now) result ≡ after_order words.now }
+{
+    if let Some(rest) = trailing(b"register", words) {
+        return Some(rest);
+    }
+    if let Some(rest) = trailing(b"close", words) {
+        return Some(rest);
+    }
+    if let Some(rest) = trailing(b"cancel", words) {
+        return Some(rest);
+    }
+    if let Some(number) = trailing(b"pay ", words) {
+        return Some(without_word(number));
+    }
+    Some(without_word(trailing(b"reverse ", words)?))
+}
+
+/// Returns what follows the first word.
+fn without_word(words: &[u8]) -> &[u8]
+    ensures { result.now ≡ without_word words.now }
+{
+    words.split_at(size_before(b' ', words)).1
+}
+
+/// Reads a moment to the second at the beginning of a text, as `2026-11-28T09:14:03Z`.
+fn moment_to_second(text: &[u8]) -> Option<Moment>
+    ensures { result ≡ moment_to_second text.now }
+{
+    if text.len() < 20 {
+        return None;
+    }
+    let mut mark = *b"#@ 0000-00-00T00:00:00Z";
+    mark[3..].copy_from_slice(&text[..20]);
+    Moment::of_mark(&mark)
 }
 
 /// Returns whether a line is a comment or empty.

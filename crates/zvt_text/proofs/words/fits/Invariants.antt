@@ -1,6 +1,6 @@
 use Rattle.std.proofs.Common.{◌≡◌, length}
-use Rattle.zvt_kept.specs.Notes.{fits}
-use Rattle.zvt_kept.proofs.note.fits.Given as goal
+use Rattle.zvt_text.specs.Words.{fits}
+use Rattle.zvt_text.proofs.words.fits.Given as goal
 
 abbrev pub invariant-places : goal.invariant-places
 invariant-places l = fits l.form l.text ≡ fits l.places l.rest
