@@ -96,6 +96,12 @@ def moment_of(line):
         return None
 
 
+def order_time(line):
+    """The time in the first line of an order's record in a book."""
+    found = re.match(rb"# (?:register|close|cancel|pay [^ ]*|reverse [^ ]*) at (....-..-..T..:..:..Z)", line)
+    return found and moment_of(b"#@ " + found[1])
+
+
 class Times:
     """The times of a trace's lines, the lines of bad marks, and the first line at which the clock goes back."""
 
@@ -106,7 +112,7 @@ class Times:
             if line.startswith(b"#@") and moment_of(line) is None:
                 self.bad.append(number)
             if line.startswith(b"#") or not line:
-                mark = moment_of(line) or mark
+                mark = moment_of(line) or order_time(line) or mark
                 continue
             if mark:
                 if self.back is None and before and mark < before:

@@ -114,7 +114,9 @@ def compared(name, trace):
 # ---- times
 
 MARKS = ("#@ 2026-11-28T07:0{}:12.040Z", "#@ 2026-11-28T07:0{}:12Z", "#@ 2026-11-28T07:0{}:12.000000001Z", "#@ 2026-02-30T07:0{}:12Z", "#@ 2028-02-29T07:0{}:12Z",
-         "#@2026-11-28T07:0{}:12Z", "#@ 2026-11-28T07:0{}:12.Z", "#@ 2026-11-28T07:0{}:12+01:00", "#@ 0000-01-01T00:0{}:00Z", "# {}", "")
+         "#@2026-11-28T07:0{}:12Z", "#@ 2026-11-28T07:0{}:12.Z", "#@ 2026-11-28T07:0{}:12+01:00", "#@ 0000-01-01T00:0{}:00Z", "# {}", "",
+         "# pay 500 at 2026-11-28T07:0{}:12Z", "# reverse 1 at 2026-11-28T07:0{}:12Z ref A", "# close at 2026-02-30T07:0{}:12Z", "# pay 5 6 at 2026-11-28T07:0{}:12Z", "# paid at 2026-11-28T07:0{}:12Z",
+         "# cancel at 2026-11-28T07:0{}:12", "# register  at 2026-11-28T07:0{}:12Z", "#  pay 1 at 2026-11-28T07:0{}:12Z")
 
 
 def marked(chance, trace):
@@ -261,6 +263,11 @@ def book():
     compared("a book", kept.file())
     found = json.loads(run(["report", "--json"], kept.file())[1].splitlines()[0])["summary"]
     check("the net total of a book", (found["booked"], found["reversed"], found["net"]), (2, 1, 700))
+    kept = journal_dialogues.Dialogue()
+    journal_dialogues.noted(kept)
+    compared("a book with times", kept.file())
+    rows = [json.loads(line)["payment"] for line in run(["report", "--json"], kept.file())[1].splitlines() if line.startswith('{"payment"')]
+    check("the times of a book", {row["time"] for row in rows if "time" in row}, {f"2026-11-28T09:{at}.000Z" for at in ("15:00", "20:41")})
 
 
 def main():

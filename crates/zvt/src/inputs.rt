@@ -100,7 +100,11 @@ impl Ended {
 /// Runs the command on the trace in each of its files, or on standard input if no file is named. Returns the highest
 /// exit status.
 pub fn work_on(rt: &HostRuntime, command: &TraceCommand<'_>) -> io::Result<u8> {
-    if !takes_codepage(rt, command)? || !takes_page(rt, command)? || !takes_zone(rt, command)? {
+    if !takes_codepage(rt, command)?
+        || !takes_page(rt, command)?
+        || !takes_zone(rt, command)?
+        || !takes_times(rt, command)?
+    {
         return Ok(WORDS);
     }
     match command.files.as_slice() {
@@ -178,6 +182,25 @@ fn takes_zone(rt: &HostRuntime, command: &TraceCommand<'_>) -> io::Result<bool> 
         report(
             rt,
             "'--zone' does not go with '--json', which has times in UTC",
+        )?;
+        return Ok(false);
+    }
+    Ok(true)
+}
+
+/// Returns whether the command can write times, if it is to write them, and reports if it cannot.
+fn takes_times(rt: &HostRuntime, command: &TraceCommand<'_>) -> io::Result<bool> {
+    if command.times && command.is_json() {
+        report(
+            rt,
+            "'--times' does not go with '--json': leave one of them out",
+        )?;
+        return Ok(false);
+    }
+    if command.times && command.follow {
+        report(
+            rt,
+            "'--times' does not go with '--follow': leave one of them out",
         )?;
         return Ok(false);
     }

@@ -1,5 +1,5 @@
 -- What is written at one turn, and after all turns.
-use Rattle.std.proofs.Common.{◌≡◌, inr, ℕ, ◌<◌, List, [], ◌++◌, length, Result, Option, Ok, Err, refl, sym, ◌∙◌, subst, arith, append-nil, take}
+use Rattle.std.proofs.Common.{◌≡◌, inr, ℕ, ◌<◌, List, [], ◌++◌, length, Result, Option, Ok, Err, refl, sym, ap, ◌∙◌, subst, arith, append-nil, take}
 use Rattle.std.proofs.KnownBytes.{Consumes-trans}
 use Rattle.std.specs.Io.KnownBytes.{Appends, Consumes, IsAtEnd}
 use Rattle.std.specs.Str.Lines.{lines}
@@ -15,6 +15,7 @@ use Rattle.zvt_trace.specs.declared.fault.TraceFault.TheVariants.{Memory, Read, 
 use Rattle.zvt_trace.specs.declared.listener.Scope.{Scope}
 use Rattle.zvt_trace.proofs.WalkerLemmas.{read_so_far, too_long, whole_lines}
 use Rattle.zvt_show.specs.Followed.{AnswersFollow, AnswersTurn, CountsWrites, HasWritten, TurnFaults}
+use Rattle.zvt_show.specs.Text.{Rendering, untimed}
 use Rattle.zvt_show.specs.Written.{AnswersLinesBy, Page}
 use Rattle.zvt_show.specs.declared.follow.Follower.{Follower}
 use Rattle.zvt_show.specs.declared.render.Style.{Style}
@@ -41,47 +42,47 @@ end_fed r scope hears failing style bytes first now old answer x y has feeds =
 -- ---- one turn
 
 -- what waits and what was written, before the turn
-pub turn_said : (r : Reading) (scope : Scope) (style : Style) (bytes : List ℕ) (first : Option (List ℕ)) (page : Page) (follower : Follower) → (has : HasWritten r scope style bytes first page.written follower) → page.block ≡ [] → Said style has.events first page
-turn_said r scope style bytes first page follower has empty = said_before style has.events has.text first page has.says has.written empty
+pub turn_said : (r : Reading) (scope : Scope) (style : Style) (bytes : List ℕ) (first : Option (List ℕ)) (page : Page) (follower : Follower) → (has : HasWritten r scope style bytes first page.written follower) → page.block ≡ [] → Said (untimed style) has.events first page
+turn_said r scope style bytes first page follower has empty = said_before (untimed style) has.events has.text first page has.says has.written empty
 
-fault_turn : {S : Type 0} (r : Reading) (scope : Scope) (view : S → Page) (style : Style) (all : List ℕ) (earlier : List At) (first device : Option (List ℕ)) (fault : TraceFault) (x y : S) → (view x).style ≡ style → Said style earlier first (view x)
+fault_turn : {S : Type 0} (r : Reading) (scope : Scope) (view : S → Page) (style : Style) (all : List ℕ) (earlier : List At) (first device : Option (List ℕ)) (fault : TraceFault) (x y : S) → (view x).rendering ≡ untimed style → Said (untimed style) earlier first (view x)
     → FeedFaults r (writes view) (fails view) scope all earlier x y fault → Appends (view y).written device (view y).block → TurnFaults r scope style all first device fault
-fault_turn r scope view style all earlier first device (Trace number what) x y in_style said failed out = fault_written r scope style (lines all) first device (view y) (Trace number what) (fault_said r scope view style (lines all) earlier first (Trace number what) x y in_style said failed) out
-fault_turn r scope view style all earlier first device Memory x y in_style said failed out = fault_written r scope style (lines all) first device (view y) Memory (fault_said r scope view style (lines all) earlier first Memory x y in_style said failed) out
-fault_turn r scope view style all earlier first device Write x y in_style said failed out = fault_written r scope style (lines all) first device (view y) Write (fault_said r scope view style (lines all) earlier first Write x y in_style said failed) out
+fault_turn r scope view style all earlier first device (Trace number what) x y in_style said failed out = fault_written r scope (untimed style) (lines all) first device (view y) (Trace number what) (fault_said r scope view (untimed style) (lines all) earlier first (Trace number what) x y in_style said failed) out
+fault_turn r scope view style all earlier first device Memory x y in_style said failed out = fault_written r scope (untimed style) (lines all) first device (view y) Memory (fault_said r scope view (untimed style) (lines all) earlier first Memory x y in_style said failed) out
+fault_turn r scope view style all earlier first device Write x y in_style said failed out = fault_written r scope (untimed style) (lines all) first device (view y) Write (fault_said r scope view (untimed style) (lines all) earlier first Write x y in_style said failed) out
 fault_turn r scope view style all earlier first device TooLong x y in_style said (own, long, heard) out =
-    let more = said_more view style earlier own first x y in_style said heard in
-    (earlier ++ own, more.text, long, more.says, said_out style (earlier ++ own) first device (view y) more out)
+    let more = said_more view (untimed style) earlier own first x y in_style said heard in
+    (earlier ++ own, more.text, long, more.says, said_out (untimed style) (earlier ++ own) first device (view y) more out)
 fault_turn r scope view style all earlier first device Read x y in_style said never out = absurd never
 
 -- the block went out
-pub turn_written : {S : Type 0} (r : Reading) (scope : Scope) (view : S → Page) (style : Style) (all : List ℕ) (earlier : List At) (first device : Option (List ℕ)) (follower : Follower) (answer : Result Unit TraceFault) (x y : S) → (view x).style ≡ style → Said style earlier first (view x)
-    → AnswersFeed r (writes view) (fails view) scope all earlier follower.walker x y answer → Appends (view y).written device (view y).block → follower.pages.style ≡ (view y).style → walker_reading follower.walker ≡ r → walker_scope follower.walker ≡ scope
+pub turn_written : {S : Type 0} (r : Reading) (scope : Scope) (view : S → Page) (style : Style) (all : List ℕ) (earlier : List At) (first device : Option (List ℕ)) (follower : Follower) (answer : Result Unit TraceFault) (x y : S) → (view x).rendering ≡ untimed style → Said (untimed style) earlier first (view x)
+    → AnswersFeed r (writes view) (fails view) scope all earlier follower.walker x y answer → Appends (view y).written device (view y).block → follower.pages.style ≡ (view y).rendering.style → walker_reading follower.walker ≡ r → walker_scope follower.walker ≡ scope
     → AnswersTurn r scope style all first device follower answer
 turn_written r scope view style all earlier first device follower (Ok fed) x y in_style said (own, has, heard) out same reading by_scope =
-    let more = said_more view style earlier own first x y in_style said heard in record {
+    let more = said_more view (untimed style) earlier own first x y in_style said heard in record {
       events = earlier ++ own;
       text = more.text;
       read = has;
       says = more.says;
-      written = said_out style (earlier ++ own) first device (view y) more out;
-      in_style = same ∙ kept_style view own x y heard ∙ in_style;
+      written = said_out (untimed style) (earlier ++ own) first device (view y) more out;
+      in_style = same ∙ ap (λ (r : Rendering). r.style) (kept_style view own x y heard ∙ in_style);
       reading = reading;
       by_scope = by_scope;
     }
 turn_written r scope view style all earlier first device follower (Err fault) x y in_style said failed out same reading by_scope = fault_turn r scope view style all earlier first device fault x y in_style said failed out
 
 -- the block could not go out
-pub turn_lost : {S : Type 0} (r : Reading) (scope : Scope) (view : S → Page) (style : Style) (all : List ℕ) (earlier : List At) (first device : Option (List ℕ)) (walker : Walker) (answer : Result Unit TraceFault) (x y : S) → (view x).style ≡ style → Said style earlier first (view x)
+pub turn_lost : {S : Type 0} (r : Reading) (scope : Scope) (view : S → Page) (style : Style) (all : List ℕ) (earlier : List At) (first device : Option (List ℕ)) (walker : Walker) (answer : Result Unit TraceFault) (x y : S) → (view x).rendering ≡ untimed style → Said (untimed style) earlier first (view x)
     → AnswersFeed r (writes view) (fails view) scope all earlier walker x y answer → AppendsPrefix (view y).written device (view y).block → AnswersLinesBy r scope style (lines all) first device (Err Write)
 turn_lost {S = S} r scope view style all earlier first device walker answer x y in_style said fed out = by answer fed
   where
     by : (answer : Result Unit TraceFault) → AnswersFeed r (writes view) (fails view) scope all earlier walker x y answer → AnswersLinesBy r scope style (lines all) first device (Err Write)
-    by (Ok fed) (own, has, heard) = lost_out r scope style (lines all) (earlier ++ own) first device (view y) (read_so_far r scope all _ (earlier ++ own) walker.progress has.to) (said_less style (earlier ++ own) first (view y) (said_more view style earlier own first x y in_style said heard)) out
-    by (Err (Trace number what)) failed = fault_lost r scope style (lines all) first device (view y) (Trace number what) (fault_said r scope view style (lines all) earlier first (Trace number what) x y in_style said failed) out
-    by (Err Memory) failed = fault_lost r scope style (lines all) first device (view y) Memory (fault_said r scope view style (lines all) earlier first Memory x y in_style said failed) out
-    by (Err Write) failed = fault_lost r scope style (lines all) first device (view y) Write (fault_said r scope view style (lines all) earlier first Write x y in_style said failed) out
-    by (Err TooLong) (own, long, heard) = lost_out r scope style (lines all) (earlier ++ own) first device (view y) long.so_far (said_less style (earlier ++ own) first (view y) (said_more view style earlier own first x y in_style said heard)) out
+    by (Ok fed) (own, has, heard) = lost_out r scope (untimed style) (lines all) (earlier ++ own) first device (view y) (read_so_far r scope all _ (earlier ++ own) walker.progress has.to) (said_less (untimed style) (earlier ++ own) first (view y) (said_more view (untimed style) earlier own first x y in_style said heard)) out
+    by (Err (Trace number what)) failed = fault_lost r scope (untimed style) (lines all) first device (view y) (Trace number what) (fault_said r scope view (untimed style) (lines all) earlier first (Trace number what) x y in_style said failed) out
+    by (Err Memory) failed = fault_lost r scope (untimed style) (lines all) first device (view y) Memory (fault_said r scope view (untimed style) (lines all) earlier first Memory x y in_style said failed) out
+    by (Err Write) failed = fault_lost r scope (untimed style) (lines all) first device (view y) Write (fault_said r scope view (untimed style) (lines all) earlier first Write x y in_style said failed) out
+    by (Err TooLong) (own, long, heard) = lost_out r scope (untimed style) (lines all) (earlier ++ own) first device (view y) long.so_far (said_less (untimed style) (earlier ++ own) first (view y) (said_more view (untimed style) earlier own first x y in_style said heard)) out
     by (Err Read) never = absurd never
 
 -- no failure is taken back, and a turn that failed by a write counted one

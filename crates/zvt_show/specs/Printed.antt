@@ -1,13 +1,14 @@
 -- What is written by a printer whose pages and device are lent, and by a printing that has its own.
 use Rattle.std.specs.Prelude.{◌≡◌, ℕ, List, Option}
 use Rattle.zvt_trace.specs.Listening.{Fails, Hears}
+use Rattle.zvt_show.specs.Text.{untimed}
 use Rattle.zvt_show.specs.Written.{FailsEvent, Page, WritesEvent, page}
 use Rattle.zvt_show.specs.declared.pages.Printer.{Printer}
 use Rattle.zvt_show.specs.declared.pages.Printing.{Printing}
 
 -- what its device has, what is still to be written there, and the number of failed writes
 abbrev pub printed : {W : Type 0} → (W → Option (List ℕ)) → (W → ℕ) → Printer W → Page
-printed written failures printer = page printer.pages.now.style (written printer.writer.now) printer.pages.now.block (failures printer.writer.now)
+printed written failures printer = page (record { style = printer.pages.now.style; times = printer.times.now }) (written printer.writer.now) printer.pages.now.block (failures printer.writer.now)
 
 -- the same pages and the same device are lent to both
 abbrev pub IsSamePrinter : {W : Type 0} → (old new : Printer W) → Type 0
@@ -22,4 +23,4 @@ FailsPrinting written failures old event why new = FailsEvent why (printed writt
 
 -- what the device of a printing has, what is still to be written there, and the number of failed writes
 abbrev pub printing_page : {W : Type 0} → (W → Option (List ℕ)) → (W → ℕ) → Printing W → Page
-printing_page written failures printing = page printing.pages.style (written printing.output) printing.pages.block (failures printing.output)
+printing_page written failures printing = page (untimed printing.pages.style) (written printing.output) printing.pages.block (failures printing.output)

@@ -11,10 +11,14 @@ use Rattle.zvt_text.specs.Receipts.{block_text, receipt_line}
 use Rattle.zvt_text.specs.TextBlocks.{block_lines, block_type}
 use Rattle.zvt_text.specs.declared.text_options.TextOptions.{TextOptions}
 use Rattle.zvt_trace.specs.Lines.{direction_text}
+use Rattle.zvt_trace.specs.Marks.{moment_text}
+use Rattle.zvt_trace.specs.Moments.{time_at, times_of}
 use Rattle.zvt_trace.specs.TraceEvent.{At, TraceEvent}
 use Rattle.zvt_trace.specs.TraceEvent as trace_event
 use Rattle.zvt_trace.specs.declared.direction.Direction.{Direction}
 use Rattle.zvt_trace.specs.declared.direction.Direction.TheVariants.{FromTill, FromTerminal}
+use Rattle.zvt_trace.specs.declared.moment.Moment.{Moment}
+use Rattle.zvt_trace.specs.declared.moments.Timed.{Timed}
 use Rattle.zvt_json.specs.Events.{EventLine}
 use Rattle.zvt_json.specs.Receipts.{receipt_lines}
 use Rattle.zvt_show.specs.Lines.{lost_text, refused_text, resumed_text, stopped_text, truncated_text}
@@ -118,7 +122,37 @@ EventText (Receipts options) event text = PlainText (Receipts options) event.tra
 EventText Json event text = EventLine event text
 EventText (JsonReceipts text_blocks) event text = PrintedLine text_blocks (printed_in event.trace_event) event text
 
+-- ---- events with the times of their lines
+
+-- how events are written: the style, and the lines whose times are written
+pub record Rendering : Type 0 where
+  pub style : Style
+  pub times : List Timed
+
+abbrev pub untimed : Style → Rendering
+untimed style = record { style = style; times = [] }
+
+-- the lines that have a moment, if moments are wanted
+abbrev pub times_if : (timed : Bool) → (trace : List (List ℕ)) → List Timed
+times_if timed trace = if timed then times_of trace else []
+
+abbrev pub rendering_of : Style → (timed : Bool) → (trace : List (List ℕ)) → Rendering
+rendering_of style timed trace = record { style = style; times = times_if timed trace }
+
+-- a moment and a space, if there is one
+abbrev pub moment_part : Option Moment → List ℕ
+moment_part None = []
+moment_part (Some moment) = moment_text moment ++ 32 ∷ []
+
+-- the time of the line comes first, if it has one
+abbrev pub TimedText : List Timed → Style → At → List ℕ → Type 0
+TimedText [] style event text = EventText style event text
+TimedText (first ∷ later) style event text = (one : List ℕ) × (text ≡ moment_part (time_at (first ∷ later) event.line) ++ one) × EventText style event one
+
+abbrev pub RenderedTexts : Rendering → List At → List ℕ → Type 0
+RenderedTexts rendering [] text = text ≡ []
+RenderedTexts rendering (event ∷ events) text =
+    (one : List ℕ) × (after : List ℕ) × (text ≡ one ++ after) × TimedText rendering.times rendering.style event one × RenderedTexts rendering events after
+
 abbrev pub EventsText : Style → List At → List ℕ → Type 0
-EventsText style [] text = text ≡ []
-EventsText style (event ∷ events) text =
-    (one : List ℕ) × (after : List ℕ) × (text ≡ one ++ after) × EventText style event one × EventsText style events after
+EventsText style events text = RenderedTexts (untimed style) events text

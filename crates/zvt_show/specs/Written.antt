@@ -16,7 +16,8 @@ use Rattle.zvt_trace.specs.declared.listener.ListenerError.{ListenerError}
 use Rattle.zvt_trace.specs.declared.listener.ListenerError.TheVariants as failure
 use Rattle.zvt_trace.specs.declared.listener.Scope.{Scope}
 use Rattle.zvt_trace.specs.declared.listener.Scope.TheVariants.{OneSide}
-use Rattle.zvt_show.specs.Text.{EventText, EventsText, MessageText, PlainText}
+use Rattle.zvt_show.specs.Text.{EventText, MessageText, PlainText, Rendering, RenderedTexts, TimedText, untimed}
+use Rattle.zvt_trace.specs.declared.moments.Timed.{Timed}
 use Rattle.zvt_show.specs.declared.render.Style.{Style}
 
 -- ---- what the functions add to the text
@@ -37,6 +38,12 @@ pub record AddsPlain (style : Style) (trace_event : TraceEvent) (old new : List 
 pub record AddsEvent (style : Style) (event : At) (old new : List ℕ) : Type 0 where
   pub one : List ℕ
   pub says : EventText style event one
+  pub grown : new ≡ old ++ one
+
+-- the same after the moment of its line, if that is one of these
+pub record AddsTimed (times : List Timed) (style : Style) (event : At) (old new : List ℕ) : Type 0 where
+  pub one : List ℕ
+  pub says : TimedText times style event one
   pub grown : new ≡ old ++ one
 
 -- ---- what a device has that failed
@@ -60,13 +67,13 @@ after (Some bytes) block = Some (bytes ++ block)
 
 -- what the device has, what is still to be written, and the number of failed writes
 pub record Page : Type 0 where
-  pub style : Style
+  pub rendering : Rendering
   pub written : Option (List ℕ)
   pub block : List ℕ
   pub failures : ℕ
 
-abbrev pub page : Style → Option (List ℕ) → List ℕ → ℕ → Page
-page style written block failures = record { style = style; written = written; block = block; failures = failures }
+abbrev pub page : Rendering → Option (List ℕ) → List ℕ → ℕ → Page
+page rendering written block failures = record { rendering = rendering; written = written; block = block; failures = failures }
 
 abbrev pub all_of : Page → Option (List ℕ)
 all_of page = after page.written page.block
@@ -74,11 +81,11 @@ all_of page = after page.written page.block
 -- the text of the events comes after the block, or the block's does on the device
 pub record WritesEvent (event : At) (old new : Page) : Type 0 where
   pub text : List ℕ
-  pub says : EventText old.style event text
+  pub says : TimedText old.rendering.times old.rendering.style event text
   pub appended : Appends (all_of old) (all_of new) text
   pub extends : Extends old.written new.written
   pub failures : new.failures ≡ old.failures
-  pub same : new.style ≡ old.style
+  pub same : new.rendering ≡ old.rendering
 
 -- where memory is refused nothing of it is written; of a write that failed, some prefix of what was to be written before
 abbrev pub FailsEvent : ListenerError → (old new : Page) → Type 0
@@ -90,17 +97,21 @@ FailsEvent failure.Write old new = IsShortOf (all_of old) (all_of new) × Extend
 -- What a command answers for the lines of a trace, by that reading of lengths, where a refusal leaves so much unread. Where memory is refused, the text of all
 -- that the lines before emit is written, and of a prefix of what comes next; of a write that failed, some prefix of such a
 -- text.
+abbrev pub AnswersRendered : Reading → Scope → Rendering → List (List ℕ) → (old new : Option (List ℕ)) → Result Tally TraceFault → Type 0
+AnswersRendered r scope rendering lines old new (Ok tally) =
+    (events : List At) × (text : List ℕ) × WholeTrace r scope lines events × RenderedTexts rendering events text × Appends old new text × Tallies tally events
+AnswersRendered r scope rendering lines old new (Err (Trace number what)) =
+    (events : List At) × (text : List ℕ) × BrokenTrace r scope lines number what events × RenderedTexts rendering events text × Appends old new text
+AnswersRendered r scope rendering lines old new (Err Write) =
+    (events : List At) × (text : List ℕ) × EventsSoFar r scope lines events × RenderedTexts rendering events text × AppendsPrefix old new text
+AnswersRendered r scope rendering lines old new (Err Memory) =
+    (events : List At) × (text : List ℕ) × EventsSoFar r scope lines events × RenderedTexts rendering events text × Appends old new text
+AnswersRendered r scope rendering lines old new (Err TooLong) = ⊥
+AnswersRendered r scope rendering lines old new (Err Read) = ⊥
+
+-- the same without the times of lines
 abbrev pub AnswersLinesBy : Reading → Scope → Style → List (List ℕ) → (old new : Option (List ℕ)) → Result Tally TraceFault → Type 0
-AnswersLinesBy r scope style lines old new (Ok tally) =
-    (events : List At) × (text : List ℕ) × WholeTrace r scope lines events × EventsText style events text × Appends old new text × Tallies tally events
-AnswersLinesBy r scope style lines old new (Err (Trace number what)) =
-    (events : List At) × (text : List ℕ) × BrokenTrace r scope lines number what events × EventsText style events text × Appends old new text
-AnswersLinesBy r scope style lines old new (Err Write) =
-    (events : List At) × (text : List ℕ) × EventsSoFar r scope lines events × EventsText style events text × AppendsPrefix old new text
-AnswersLinesBy r scope style lines old new (Err Memory) =
-    (events : List At) × (text : List ℕ) × EventsSoFar r scope lines events × EventsText style events text × Appends old new text
-AnswersLinesBy r scope style lines old new (Err TooLong) = ⊥
-AnswersLinesBy r scope style lines old new (Err Read) = ⊥
+AnswersLinesBy r scope style lines old new result = AnswersRendered r scope (untimed style) lines old new result
 
 -- What a command answers for a trace of known bytes, by that reading of lengths.
 abbrev pub AnswersTraceBy : Reading → Style → (trace : List ℕ) → (old new : Option (List ℕ)) → Result Tally TraceFault → Type 0

@@ -88,6 +88,7 @@ impl Follower {
         let mut pages = self.pages.take();
         let mut printer = Printer {
             pages: &mut pages,
+            times: &[],
             writer,
         };
         let answer = self.walker.feed(&mut printer, chunk);
@@ -109,6 +110,7 @@ impl Follower {
         let Follower { mut pages, walker } = self;
         let mut printer = Printer {
             pages: &mut pages,
+            times: &[],
             writer,
         };
         let answer = walker.finish(&mut printer);

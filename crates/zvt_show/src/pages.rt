@@ -1,19 +1,22 @@
 //! Writes the text of a trace in blocks.
-ghost use Rattle.std.specs.Prelude.{[], ◌≡◌, ◌<◌, ◌≤◌, length, Err, IfErr, OnErr, OnOk};
+ghost use Rattle.std.specs.Prelude.{[], ◌≡◌, ◌<◌, ◌≤◌, length, Err, IfErr, IfOk, OnErr, OnOk};
 ghost use Rattle.std.specs.Io.KnownBytes.{Appends, Keeps};
 ghost use Rattle.std.specs.Str.Lines.{lines};
 ghost use Rattle.zvt_grammar.specs.Lengths.{reading_of};
 ghost use Rattle.zvt_io.specs.Devices.{CountsFailure};
 ghost use Rattle.zvt_trace.specs.Written.{AppendsPrefix, limit};
-ghost use Rattle.zvt_show.specs.Written.{AnswersLinesBy, Extends, IsShortOf, after};
+ghost use Rattle.zvt_show.specs.Text.{rendering_of, times_if};
+ghost use Rattle.zvt_show.specs.Written.{AnswersRendered, Extends, IsShortOf, after};
 
-use crate::render::{Style, render_event};
-use std::alloc::Global;
+use crate::render::{Style, render_event, render_timed};
+use std::alloc::{AllocError, Global};
 use std::mem;
 use zvt_grammar::Lengths;
 use zvt_io::Sink;
 use zvt_text::Text;
-use zvt_trace::{Listener, ListenerError, Scope, Tally, TraceEvent, TraceFault, walk};
+use zvt_trace::{
+    Listener, ListenerError, Moments, Scope, Tally, Timed, TraceEvent, TraceFault, moments_of, walk,
+};
 
 /// A block of text that has reached this size is written.
 const BLOCK: usize = 65_536;
@@ -21,29 +24,44 @@ const BLOCK: usize = 65_536;
 /// Writes the text of a trace: each message, and each refusal, cut and loss. Output goes out in blocks; the last block
 /// is written even if the walk fails. In the styles `Json` and `JsonReceipts` each line of the text is one JSON value.
 ///
-/// `scope` says what a refusal leaves unread, `lengths` selects the accepted forms of length. The style `Join` writes
-/// each complete message in its one strict spelling. A stream that is refused or cut off counts as bad.
+/// `timed` says whether the text of an event begins with the moment of its line, if that line has one. `scope` says what
+/// a refusal leaves unread, `lengths` selects the accepted forms of length. The style `Join` writes each complete message
+/// in its one strict spelling. A stream that is refused or cut off counts as bad.
 pub fn render_trace<W: Sink>(
     alloc: Global,
     style: Style,
+    timed: bool,
     scope: Scope,
     lengths: Lengths,
     trace: &[u8],
     writer: &mut W,
 ) -> Result<Tally, TraceFault>
     requires { length trace.now ≤ limit }
-    ensures writes { AnswersLinesBy (reading_of lengths) scope style (lines trace.now) (W.written writer.old)
-        (W.written writer.new) result }
+    ensures writes { AnswersRendered (reading_of lengths) scope (rendering_of style timed (lines trace.now))
+        (lines trace.now) (W.written writer.old) (W.written writer.new) result }
     ensures write { result ≡ Err TraceFault.Write → W.failures writer.old < W.failures writer.new }
 {
+    let times = times_if(alloc, timed, trace)?;
     let mut pages = Pages::new(alloc, style);
     let mut printer = Printer {
         pages: &mut pages,
+        times: times.as_slice(),
         writer,
     };
     let answer = walk(&mut printer, alloc, scope, lengths, trace);
     flush(&mut pages.block, writer)?;
     answer
+}
+
+/// Returns the lines of a trace that have a moment, or none if their moments are not wanted.
+fn times_if(alloc: Global, timed: bool, trace: &[u8]) -> Result<Vec<Timed>, AllocError>
+    ensures { IfOk result (λ times. times.items ≡ times_if timed (lines trace.now)) }
+{
+    if !timed {
+        return Ok(Vec::new(alloc));
+    }
+    let Moments { times, .. } = moments_of(alloc, trace)?;
+    Ok(times)
 }
 
 /// The text that is not written yet. The text of each event joins the block whole or not at all.
@@ -80,6 +98,8 @@ impl Pages {
 #[derive(Drop)]
 pub(crate) struct Printer<'p, W> {
     pub(crate) pages: &'p mut Pages,
+    /// The lines whose moments are written.
+    pub(crate) times: &'p [Timed],
     pub(crate) writer: &'p mut W,
 }
 
@@ -94,10 +114,11 @@ impl<W: Sink> Listener for Printer<'_, W> {
     fn hear(&mut self, number: u64, trace_event: &TraceEvent<'_>) -> Result<(), ListenerError> {
         let pages = &mut *self.pages;
         flush_full(&mut pages.block, self.writer)?;
-        render_event(
+        render_timed(
             &mut pages.block,
             pages.alloc,
             pages.style,
+            self.times,
             number,
             trace_event,
         )?;

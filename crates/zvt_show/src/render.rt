@@ -1,14 +1,15 @@
 //! The text of an event.
-ghost use Rattle.std.specs.Prelude.{◌≡◌, ◌++◌, ◌∷◌, [], IfOk, OnErr, OnOk};
+ghost use Rattle.std.specs.Prelude.{◌≡◌, ◌++◌, ◌∷◌, [], IfOk, List, OnErr, OnOk, ℕ};
 ghost use Rattle.zvt_grammar.specs.Lengths.{reading_of};
 ghost use Rattle.zvt_apdu.specs.Grammar.{Spells};
 ghost use Rattle.zvt_text.specs.Writing.{Adds};
 ghost use Rattle.zvt_trace.specs.Lines.{direction_text};
+ghost use Rattle.zvt_trace.specs.Moments.{time_at};
 ghost use Rattle.zvt_trace.specs.TraceEvent.{HasItsBytes, event_of, on};
 ghost use Rattle.zvt_json.specs.Events.{AddsLine};
 ghost use Rattle.zvt_show.specs.Lines.{lost_text, refused_text, resumed_text, stopped_text, truncated_text};
-ghost use Rattle.zvt_show.specs.Text.{joined, shown};
-ghost use Rattle.zvt_show.specs.Written.{AddsEvent, AddsMessage, AddsPlain};
+ghost use Rattle.zvt_show.specs.Text.{EventText, joined, moment_part, shown};
+ghost use Rattle.zvt_show.specs.Written.{AddsEvent, AddsMessage, AddsPlain, AddsTimed};
 ghost use Rattle.zvt_show.specs.declared.render.Style.TheVariants.{Join};
 
 use crate::receipts::{ReceiptOptions, json_receipt, receipt};
@@ -16,7 +17,7 @@ use std::alloc::{AllocError, Global};
 use zvt_apdu::{ApduView, encode, owned};
 use zvt_grammar::{Lengths, Why};
 use zvt_text::{Text, TextOptions};
-use zvt_trace::{Direction, Refusal, TraceEvent};
+use zvt_trace::{Direction, Moment, Refusal, Timed, TraceEvent, time_at};
 
 /// The styles in which the events of a trace are written.
 #[derive(Clone, Copy, Debug, PartialEq, Eq)]
@@ -72,6 +73,59 @@ pub fn render_event(
         }
         Style::Show(_) | Style::Join | Style::Receipts(_) => plain(text, alloc, style, trace_event),
     }
+}
+
+/// Appends the text of an event, after the moment of its line if it is one of `times`. If an allocation fails, the text
+/// does not change.
+#[inline(always)]
+pub(crate) fn render_timed(
+    text: &mut Text,
+    alloc: Global,
+    style: Style,
+    times: &[Timed],
+    line: u64,
+    trace_event: &TraceEvent<'_>,
+) -> Result<(), AllocError>
+    requires { HasItsBytes trace_event.now }
+    ensures adds { OnOk result (AddsTimed times.now style (on line (event_of trace_event.now)) text.old text.new) }
+    ensures keeps { OnErr result (text.new ≡ text.old) }
+{
+    if times.is_empty() {
+        return render_event(text, alloc, style, line, trace_event);
+    }
+    with_time(text, alloc, style, times, line, trace_event)
+}
+
+/// Appends the moment of the line, if there is one, and the text of an event.
+#[inline(never)]
+fn with_time(
+    text: &mut Text,
+    alloc: Global,
+    style: Style,
+    times: &[Timed],
+    line: u64,
+    trace_event: &TraceEvent<'_>,
+) -> Result<(), AllocError>
+    requires { HasItsBytes trace_event.now }
+    ensures adds { OnOk result ((one : List ℕ) × EventText style (on line (event_of trace_event.now)) one
+        × (text.new ≡ text.old ++ (moment_part (time_at times.now line) ++ one))) }
+    ensures keeps { OnErr result (text.new ≡ text.old) }
+{
+    let mut whole = Text::new(alloc);
+    put_moment(&mut whole, &time_at(times, line))?;
+    render_event(&mut whole, alloc, style, line, trace_event)?;
+    text.word(whole.bytes())
+}
+
+/// Appends a moment and a space, if there is one.
+fn put_moment(text: &mut Text, moment: &Option<Moment>) -> Result<(), AllocError>
+    ensures { OnOk result (text.new ≡ text.old ++ moment_part moment.now) }
+{
+    if let Some(moment) = moment {
+        text.word(moment.text().as_slice())?;
+        text.push(b' ')?;
+    }
+    Ok(())
 }
 
 /// Adds an event as a line of JSON.

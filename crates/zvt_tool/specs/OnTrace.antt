@@ -1,5 +1,5 @@
 -- The results of the commands on a trace.
-use Rattle.std.specs.Prelude.{ℕ, List, [], ◌∷◌, codes, cond, map, Option, Result, Ok, Err, IfSome}
+use Rattle.std.specs.Prelude.{ℕ, Bool, List, [], ◌∷◌, codes, cond, map, Option, Result, Ok, Err, IfSome}
 use Rattle.std.specs.Io.KnownBytes.{Consumes}
 use Rattle.std.specs.Str.{bytes_eq}
 use Rattle.std.specs.Str.Lines.{lines}
@@ -16,7 +16,8 @@ use Rattle.zvt_report.specs.Written.{AnswersReadWritten, AnswersWritten}
 use Rattle.zvt_report.specs.declared.written.ReportSummary.{ReportSummary}
 use Rattle.zvt_tool.specs.Checked.{AnswersVectors}
 use Rattle.zvt_show.specs.Followed.{AnswersFollow}
-use Rattle.zvt_show.specs.Written.{AnswersLinesBy}
+use Rattle.zvt_show.specs.Text.{rendering_of}
+use Rattle.zvt_show.specs.Written.{AnswersRendered}
 use Rattle.zvt_trace.specs.declared.fault.Tally.{Tally}
 use Rattle.zvt_trace.specs.declared.fault.TraceFault.{TraceFault}
 
@@ -38,15 +39,15 @@ file_name [] = []
 file_name (file ∷ files) = cond (bytes_eq file (codes "-")) [] file
 
 -- the result and the output for a trace, with these lengths
-abbrev pub AnswersWork : TraceWork → (name : List ℕ) → Reading → Scope → (trace : List ℕ) → (old new : Option (List ℕ)) → Result AuditSummary TraceFault → Type 0
-AnswersWork (Render style) name r scope trace old new result = AnswersLinesBy r scope style (lines trace) old new (tally_of result)
-AnswersWork (Audit form) name r scope trace old new result = AnswersReadBy r scope form trace old new result
-AnswersWork (Report form zone strict) name r scope trace old new result = AnswersWritten r scope form zone name trace old new (report_of result)
-AnswersWork (Vectors form) name r scope trace old new result = AnswersVectors form trace old new (tally_of result)
+abbrev pub AnswersWork : TraceWork → (timed : Bool) → (name : List ℕ) → Reading → Scope → (trace : List ℕ) → (old new : Option (List ℕ)) → Result AuditSummary TraceFault → Type 0
+AnswersWork (Render style) timed name r scope trace old new result = AnswersRendered r scope (rendering_of style timed (lines trace)) (lines trace) old new (tally_of result)
+AnswersWork (Audit form) timed name r scope trace old new result = AnswersReadBy r scope form trace old new result
+AnswersWork (Report form zone strict) timed name r scope trace old new result = AnswersWritten r scope form zone name trace old new (report_of result)
+AnswersWork (Vectors form) timed name r scope trace old new result = AnswersVectors form trace old new (tally_of result)
 
 -- the result of the command for a trace that was read
 abbrev pub AnswersOnTrace : TraceCommand → (trace : List ℕ) → (old new : Option (List ℕ)) → Result AuditSummary TraceFault → Type 0
-AnswersOnTrace command trace old new result = AnswersWork command.work (file_name (map (λ file. file.now) command.files.items)) (reading_of command.lengths) (work_scope command.work command.reads_on) trace old new result
+AnswersOnTrace command trace old new result = AnswersWork command.work command.times (file_name (map (λ file. file.now) command.files.items)) (reading_of command.lengths) (work_scope command.work command.reads_on) trace old new result
 
 -- the result and the output for a trace that is being read, with these lengths; vectors and the trace of a report are read completely first
 abbrev pub FollowsWork : TraceWork → (name : List ℕ) → Reading → Scope → (left rest old new : Option (List ℕ)) → Result AuditSummary TraceFault → Type 0

@@ -66,6 +66,7 @@ show_app = command_app (codes "show") (
     flag_rule (codes "resync") ∷
     flag_rule (codes "safe") ∷
     flag_rule (codes "explain") ∷
+    flag_rule (codes "times") ∷
     [])
 
 abbrev pub join_app : App
@@ -119,6 +120,7 @@ pub record IsTraceCommandOf (rows : List Row) (writes : TraceWork) (reads : Leng
   pub check : IsFlagOf (codes "check") rows command.check
   pub follow : IsFlagOf (codes "follow") rows command.follow
   pub reads_on : IsByFlag (codes "open") rows (λ by_name. IsByFlag (codes "resync") rows (λ by_other. command.reads_on ≡ (by_name || by_other)))
+  pub times : IsFlagOf (codes "times") rows command.times
   pub html : IsFlagOf (codes "html") rows command.html
   pub codepage : IsTextOf (codes "codepage") rows command.codepage
   pub zone : IsTextOf (codes "zone") rows command.zone

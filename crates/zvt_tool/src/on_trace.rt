@@ -32,7 +32,7 @@ pub fn work_on_trace<W: Sink>(
         TraceWork::Render(style) => {
             found(
                 alloc,
-                render_trace(alloc, style, scope, lengths, trace, writer),
+                render_trace(alloc, style, command.times, scope, lengths, trace, writer),
             )
         }
         TraceWork::Audit(form) => audit_trace(alloc, form, scope, lengths, trace, writer),

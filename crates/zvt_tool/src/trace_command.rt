@@ -55,6 +55,9 @@ pub struct TraceCommand<'a> {
     pub follow: bool,
     /// Whether a side is read on after a refused message. `--resync` is another name for `--open`.
     pub reads_on: bool,
+    /// Whether `--times` asks for the moment of each line. JSON has none, and so has a trace that is written while it
+    /// arrives.
+    pub times: bool,
     /// Whether `--html` asks for a page. With `--json` it can't be written.
     pub html: bool,
     /// The code page of receipts, as it was given. One that [`codepage_named`] does not know decodes nothing.
@@ -75,6 +78,7 @@ impl<'a> TraceCommand<'a> {
             check: false,
             follow: false,
             reads_on: false,
+            times: false,
             html: false,
             codepage: None,
             zone: None,
@@ -293,6 +297,7 @@ fn on_traces<'a>(
         check: flag(inner, "check"),
         follow: flag(inner, "follow"),
         reads_on: open || resync,
+        times: flag(inner, "times"),
         html: flag(inner, "html"),
         codepage: text(inner, "codepage"),
         zone: text(inner, "zone"),

@@ -28,6 +28,7 @@ pub fn show_row() -> CommandRow<'static>
                 "Also hide card data in TLV objects, and the data of messages named Other",
             ),
             CommandOption::Flag("explain", "Also print what codes and numbers mean"),
+            CommandOption::Flag("times", "Begin each message with its time, if the trace has it"),
         ],
     }
 }

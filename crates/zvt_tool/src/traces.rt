@@ -237,6 +237,7 @@ fn render_read<R: Source, W: Sink>(
     render_trace(
         alloc,
         style,
+        false,
         Scope::OneSide,
         lengths,
         trace.as_slice(),

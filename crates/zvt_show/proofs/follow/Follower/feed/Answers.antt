@@ -2,6 +2,7 @@ use Rattle.std.proofs.Common.{◌≡◌, ◌<◌, ◌≤◌, ◌+◌, ◌∙◌,
 use Rattle.std.proofs.lemmas.Result.{err_from_is_err_and}
 use Rattle.std.specs.Io.KnownBytes.{Appends}
 use Rattle.zvt_trace.specs.Written.{AppendsPrefix}
+use Rattle.zvt_show.specs.Text.{untimed}
 use Rattle.zvt_show.specs.Printed.{FailsPrinting, Prints, printed}
 use Rattle.zvt_show.specs.declared.pages.Pages.{Pages}
 use Rattle.zvt_show.proofs.PrinterLemmas.{feed_ended, feed_written, on_page}
@@ -15,7 +16,7 @@ returns-in_err-flush-clause-writes g c = λ r scope style bytes first has.
     let are = feed_ended g.W.Sink.written g.W.Sink.failures _ c.feed-answer.new.listener _ _ r scope _ _ _ c.feed-answer.result c.pages-2-1.given.1 c.writer-1.given.1 fed in
     let said = feed_written g.W.Sink.written g.W.Sink.failures _ c.feed-answer.new.listener r scope _ _ _ c.feed-answer.result fed in
     rw (p.1, p.2, c.in_err-flush.ensures.fault)
-    (turn_lost r scope (printed g.W.Sink.written g.W.Sink.failures) style (bytes ++ c.args.chunk.now) has.events first _ c.feed-answer.new.self c.feed-answer.result _ c.feed-answer.new.listener (ap (λ (p : Pages). p.style) c.take-pages.ensures ∙ has.in_style)
+    (turn_lost r scope (printed g.W.Sink.written g.W.Sink.failures) style (bytes ++ c.args.chunk.now) has.events first _ c.feed-answer.new.self c.feed-answer.result _ c.feed-answer.new.listener (ap untimed (ap (λ (p : Pages). p.style) c.take-pages.ensures ∙ has.in_style))
     (turn_said r scope style bytes first _ c.args.self.now has (ap (λ (p : Pages). p.block) c.take-pages.ensures ∙ c.requires.following.empty)) said
     (on_page g.W.Sink.written g.W.Sink.failures _ c.feed-answer.new.listener _ _ (λ (held : Option (List ℕ)) (block : List ℕ) (failed : ℕ). AppendsPrefix held (g.W.Sink.written c.flush.new.writer) block) are c.in_err-flush.ensures.prefix))
 
@@ -34,7 +35,7 @@ returns-clause-writes g c = λ r scope style bytes first has.
     let fed = turn_fed r scope (Prints g.W.Sink.written g.W.Sink.failures) (FailsPrinting g.W.Sink.written g.W.Sink.failures) style bytes (bytes ++ c.args.chunk.now) first _ c.args.self.now c.feed-answer.new.self c.feed-answer.result _ c.feed-answer.new.listener has (c.feed-answer.ensures.reads bytes has.events) in
     let are = feed_ended g.W.Sink.written g.W.Sink.failures _ c.feed-answer.new.listener _ _ r scope _ _ _ c.feed-answer.result c.pages-2-1.given.1 c.writer-1.given.1 fed in
     let said = feed_written g.W.Sink.written g.W.Sink.failures _ c.feed-answer.new.listener r scope _ _ _ c.feed-answer.result fed in
-    turn_written r scope (printed g.W.Sink.written g.W.Sink.failures) style (bytes ++ c.args.chunk.now) has.events first _ _ c.feed-answer.result _ c.feed-answer.new.listener (ap (λ (p : Pages). p.style) c.take-pages.ensures ∙ has.in_style)
+    turn_written r scope (printed g.W.Sink.written g.W.Sink.failures) style (bytes ++ c.args.chunk.now) has.events first _ _ c.feed-answer.result _ c.feed-answer.new.listener (ap untimed (ap (λ (p : Pages). p.style) c.take-pages.ensures ∙ has.in_style))
     (turn_said r scope style bytes first _ c.args.self.now has (ap (λ (p : Pages). p.block) c.take-pages.ensures ∙ c.requires.following.empty)) said
     (on_page g.W.Sink.written g.W.Sink.failures _ c.feed-answer.new.listener _ _ (λ (held : Option (List ℕ)) (block : List ℕ) (failed : ℕ). Appends held (g.W.Sink.written c.flush.new.writer) block) are c.in_ok-flush.ensures.bytes)
     (ap (λ (p : Pages). p.style) are.pages_are) (c.feed-answer.ensures.reading ∙ has.reading) (c.feed-answer.ensures.scope ∙ has.by_scope)
