@@ -12,6 +12,7 @@ import sys
 
 import json_model
 from audit_model import AMOUNT, CURRENCY, ORDERS, ORIGINAL, RECEIPT, RESULT, TRACE, Audit, all_of, amount_of, only
+from report_sentences import Sentences
 
 # Commands outside the profile that move money. Those with a password have it before their fields.
 MOVES_MONEY = {"0604", "0609", "060A", "0621", "0622", "0623", "0624", "0625", "0631"}
@@ -20,6 +21,7 @@ CONTROLS = {"Registration": "0600", "Authorisation": "0601", "Reversal": "0630",
 ALREADY_REVERSED = "B4"
 DECLINES, GOOD = "declines", "good"
 CHECKS = ("PaymentUnclear", "PaidAlike", "ReversalRefused", "CloseUnclear", "CloseRefused", "CloseDiffers")
+MOVES = ("payment", "reversal", "other", "close")
 TOTALS, CARD_NUMBER, CARD_TYPE, CARD_NAME = "60", "22", "8A", "8B"
 # Whether an order adds its amount to the terminal's total, or takes it from the total.
 SIGNS = {"0604": 1, "0609": 1, "0621": 1, "0624": 1, "0631": -1}
@@ -297,11 +299,21 @@ class Report(Audit):
         for at, order in enumerate(self.orders):
             case = self.case_of(order, self.orders[at + 1:])
             if case == "PaidAlike":
-                yield case, at, self.repeated(order)
+                yield case, at, self.repeated(order), None
             elif case:
                 again = [later for later, one in enumerate(self.orders) if later > at and order.kind == one.kind == "payment"
                          and one.amount == order.amount and one.outcome[0] in ("paid", "unclear")]
-                yield case, at, again[0] if again else None
+                yield case, at, again[0] if again else None, self.confirming(at) if case == "ApprovalRepeated" else None
+
+    def confirming(self, at):
+        """The first order after this payment with an approval of its amount, before the next one that moves money or ends a day."""
+        for place in range(at + 1, len(self.orders)):
+            one = self.orders[place]
+            if one.kind in MOVES:
+                return None
+            if one.approval and one.approval["amount"] == self.orders[at].amount:
+                return place
+        return None
 
     def stands(self, order):
         return order.outcome[0] == "paid" and not self.book[order.entry]["reversed"] and order.card.get("card_number")
@@ -322,14 +334,18 @@ class Report(Audit):
             return "PaidAlike"
         if order.kind == "payment" and word == "unclear":
             if order.approval is None:
-                return "PaymentUnclear"
+                return "PaymentUnclear" if self.confirming(self.orders.index(order)) is None else "ApprovalRepeated"
             return "ApprovedNotCompleted" if order.approval["amount"] == order.amount else "OtherAmount"
         if order.kind == "close":
             if word == "closed":
                 return "CloseDiffers" if "differs" in said(**self.close_members(order)) else None
             return "CloseUnclear" if word == "unclear" else "CloseRefused"
-        if order.kind != "reversal" or not order.is_of_money:
+        if order.kind == "other":
+            return "OtherUnclear" if word == "unclear" else None
+        if order.kind != "reversal":
             return None
+        if not order.is_of_money:
+            return "ReversalElsewhere" if word in ("completed", "unclear") else None
         decided = any(one.kind == "reversal" and one.entry == order.entry and (
             one.outcome[0] in ("reversed", "unclear") or one.outcome[0] in ("refused", "aborted") and one.outcome[1] == ALREADY_REVERSED)
             for one in later)
@@ -343,10 +359,14 @@ class Report(Audit):
 
     def objects(self):
         yield {"summary": self.summary()}
-        for case, at, again in self.looks():
+        sentences = Sentences(self)
+        for case, at, again, confirmed in self.looks():
             order = self.orders[at]
+            weight = "check" if case in CHECKS or case == "ReversalElsewhere" and order.outcome[0] == "completed" else "act"
+            others = [None if place is None else self.orders[place] for place in (again, confirmed)]
             yield {"look": said(again=None if again is None else again + 1, case=case, cause=self.ending(order).get("cause"),
-                                lines=[order.first, order.last], order=at + 1, payment=self.number_of(order), time=self.times.text(order.first), weight="check" if case in CHECKS else "act")}
+                                confirmed_by=None if confirmed is None else confirmed + 1, lines=[order.first, order.last], order=at + 1,
+                                payment=self.number_of(order), time=self.times.text(order.first), weight=weight, **sentences.of(case, order, *others))}
         for number, order in enumerate(self.orders, 1):
             yield {order.kind: said(**getattr(self, f"{order.kind}_members")(order), **self.ending(order), lines=[order.first, order.last], order=number, time=self.times.text(order.first))}
 

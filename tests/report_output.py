@@ -192,12 +192,31 @@ def paid_with(card, amount, number):
     return paid(amount, number, approving(amount, number, card=card), message(COMPLETION))
 
 
+def ordered(control, data, *answers):
+    """An order outside the profile, and what the terminal answers."""
+    return [(">", message(control, data)), ("<", ACK), *(("<", one) for one in answers)]
+
+
+def refunded(amount, *answers):
+    return ordered(b"\x06\x31", bytes(3) + b"\x04" + digits(amount, 6), *answers)
+
+
+def repeated(*answers):
+    """The till asks for the last receipt once more."""
+    return ordered(b"\x06\x20", bytes(3), *answers)
+
+
 LOST, DONE, DECLINED = ("!", None), message(COMPLETION), message(STATUS, b"\x27\x6C")
+UNHEARD = [*paid(500, 1)[:2], LOST]
 TAKEN_BACK = (ACK, approving(500, 2, 1), DONE)
 CASES = [
     ("ApprovedNotCompleted", [*paid(500, 1, approving(500, 1)), LOST], [*paid(500, 1), LOST]),
     ("OtherAmount", [*paid(500, 1, approving(550, 1), DONE)], [*paid(550, 1)]),
     ("PaymentUnclear", [*paid(500, 1, DONE)], [*paid(500, 1, DECLINED, DONE)]),
+    ("ApprovalRepeated", [*UNHEARD, *repeated(approving(500, 1), DONE)], [*UNHEARD, *repeated(approving(501, 1), DONE)]),
+    ("ApprovalRepeated", [*UNHEARD, *ordered(b"\x06\x70", b"", DONE), *repeated(approving(500, 1), DONE)], [*UNHEARD, *paid(700, 1), *repeated(approving(500, 1), DONE)]),
+    ("ApprovalRepeated", [*UNHEARD, *repeated(DECLINED, approving(500, 1), DONE), *paid(500, 2)], [*UNHEARD, *refunded(500, DONE), *repeated(approving(500, 1), DONE)]),
+    ("ApprovalRepeated", [*UNHEARD, *repeated(message(STATUS, b"\x27\0\x04" + digits(500, 6)), DONE)], [*paid(500, 1, approving(500, 1)), LOST, *repeated(approving(500, 1), DONE)]),
     ("PaidAlike", [*paid_with(GIROCARD, 500, 1), *paid_with(VISA, 500, 2), *paid_with(GIROCARD, 500, 3)], [*paid_with(GIROCARD, 500, 1), *paid_with(VISA, 500, 2)]),
     ("PaidAlike", [*paid_with(VISA, 500, 1), *paid(500, 2), *paid_with(VISA, 500, 3)], [*paid_with(VISA, 500, 1), *paid_with(VISA, 700, 2), *paid_with(VISA, 500, 3)]),
     ("PaidAlike", [*paid_with(GIROCARD, 500, 1), *paid_with(GIROCARD, 500, 3), *reversed_by(2, *TAKEN_BACK)],
@@ -205,6 +224,11 @@ CASES = [
     ("PaidAlike", [*paid_with(card("6726EEEE1234"), 500, 1), *paid_with(card("6726EEEE1234FF"), 500, 2)], [*paid_with(card("67261EEE1234"), 500, 1), *paid_with(card("67261EEE1234"), 500, 2)]),
     ("ReversalUnclear", [*paid(500, 1), *reversed_by(1, ACK), LOST], [*paid(500, 1), *reversed_by(1, ACK), LOST, *reversed_by(1, *TAKEN_BACK)]),
     ("ReversalUnclear", [*paid(500, 1), *reversed_by(1, ACK)], [*paid(500, 1), *reversed_by(7, ACK)]),
+    ("ReversalElsewhere", [*paid(500, 1), *reversed_by(7, ACK)], [*paid(500, 1), *reversed_by(1, ACK)]),
+    ("ReversalElsewhere", [*reversed_by(1, ACK, DONE)], [*reversed_by(1, ACK, message(ABORT, b"\x6C"))]),
+    ("OtherUnclear", [*refunded(500), LOST], [*refunded(500, DONE)]),
+    ("OtherUnclear", [*ordered(b"\x06\x25", bytes(3)), LOST], [*ordered(b"\x06\x25", bytes(3), message(ABORT, b"\x6C"))]),
+    ("OtherUnclear", [*ordered(b"\x06\x01", b""), LOST], [*ordered(b"\x06\x70", b""), LOST]),
     ("TakenBackBefore", [*paid(500, 1), *reversed_by(1, message(ABORT, b"\xB4"))], [*paid(500, 1), *reversed_by(1, *TAKEN_BACK), *reversed_by(1, message(ABORT, b"\xB4"))]),
     ("ReversalRefused", [*paid(500, 1), *reversed_by(1, ACK, DECLINED, DONE)], [*paid(500, 1), *reversed_by(1, *TAKEN_BACK)]),
     ("CloseUnclear", [*closed(message(STATUS, b"\x04" + digits(500, 6)), DECLINED, message(STATUS, b"\x27\0"), DONE)], [*closed(message(STATUS, b"\x04" + digits(0, 6)), DONE)]),
@@ -221,6 +245,8 @@ EXPLAINED = [
     ("two unclear payments of one amount", [*paid(500, 1, DONE), *paid(500, 2, DONE), *closed(totalled(500), DONE)], None),
     ("a payment and a refund", [*paid(500, 1, DONE), (">", message(b"\x06\x31", bytes(3) + b"\x04" + digits(200, 6))), ("<", ACK), ("<", DONE), *closed(totalled(300), DONE)], [1, 2]),
     ("an unclear reversal", [*paid(500, 1), *reversed_by(1, ACK), LOST, *closed(totalled(0), DONE)], [2]),
+    ("a refund and an unclear payment", [*refunded(200, DONE), *paid(500, 1, DONE), *closed(totalled(300), DONE)], [1, 2]),
+    ("two refunds and a top-up", [*refunded(200, DONE), *ordered(b"\x06\x09", b"\x04" + digits(50, 6), DONE), *refunded(300, DONE), *paid(500, 1), *closed(totalled(50), DONE)], [1, 2, 3]),
     ("four payments", [*(one for number in range(4) for one in paid(500 + number, number, DONE)), *closed(totalled(2006), DONE)], None),
 ]
 

@@ -33,12 +33,16 @@ use Rattle.zvt_report.specs.declared.members.Word.TheVariants as word
 case_plain : (c : Case) → escape (case_name c) ≡ case_name c
 unfolding escape_byte
 case_plain case_of.ApprovedNotCompleted = refl
+case_plain case_of.ApprovalRepeated = refl
 case_plain case_of.OtherAmount = refl
 case_plain case_of.PaymentUnclear = refl
 case_plain case_of.PaidAlike = refl
 case_plain case_of.ReversalUnclear = refl
 case_plain case_of.TakenBackBefore = refl
 case_plain case_of.ReversalRefused = refl
+case_plain case_of.ReversalElsewhere = refl
+case_plain case_of.ElsewhereUnclear = refl
+case_plain case_of.OtherUnclear = refl
 case_plain case_of.CloseUnclear = refl
 case_plain case_of.CloseRefused = refl
 case_plain case_of.CloseDiffers = refl
@@ -85,8 +89,9 @@ word_plain (word.Meaning code) = meaning_plain code
 word_plain (word.Command high low) = command_plain high low
 word_plain (word.CardType card_type) = card_type_plain card_type
 
-name_plain : (n : Name) → escape (name_text n) ≡ name_text n
+pub name_plain : (n : Name) → escape (name_text n) ≡ name_text n
 unfolding escape_byte
+name_plain name.Advice = refl
 name_plain name.Again = refl
 name_plain name.Amount = refl
 name_plain name.Approved = refl
@@ -98,6 +103,7 @@ name_plain name.CardNumber = refl
 name_plain name.Case = refl
 name_plain name.Cause = refl
 name_plain name.Code = refl
+name_plain name.ConfirmedBy = refl
 name_plain name.Control = refl
 name_plain name.Currency = refl
 name_plain name.Differs = refl
@@ -119,11 +125,13 @@ name_plain name.Reversed = refl
 name_plain name.ReversedBy = refl
 name_plain name.Stated = refl
 name_plain name.TakenBack = refl
+name_plain name.Text = refl
 name_plain name.Time = refl
 name_plain name.TimeFrom = refl
 name_plain name.TimeTo = refl
 name_plain name.TimesBack = refl
 name_plain name.TimesBad = refl
+name_plain name.Title = refl
 name_plain name.Total = refl
 name_plain name.Trace = refl
 name_plain name.Unclear = refl
@@ -131,7 +139,7 @@ name_plain name.UnclearAmount = refl
 name_plain name.Weight = refl
 name_plain name.Words = refl
 
-object_plain : (o : Object) → escape (object_name o) ≡ object_name o
+pub object_plain : (o : Object) → escape (object_name o) ≡ object_name o
 unfolding escape_byte
 object_plain object_of.Close = refl
 object_plain object_of.Look = refl
@@ -156,7 +164,7 @@ pub quoted_said : (r : Result (Unit {0}) AllocError) (old t u new w : List ℕ)
     → t ≡ old ++ 34 ∷ [] → u ≡ t ++ w → escape w ≡ w → Adds r u new (34 ∷ []) → OnOk r (new ≡ old ++ quoted w)
 quoted_said r old t u new w first second plain third = quoted_as r old t u new w w first second plain third
 
-named : (later : Bool) (n text more : List ℕ) → (comma_if later ++ ((34 ∷ n ++ 34 ∷ 58 ∷ []) ++ text)) ++ more ≡ comma_if later ++ ((34 ∷ (n ++ 34 ∷ [])) ++ 58 ∷ (text ++ more))
+pub named : (later : Bool) (n text more : List ℕ) → (comma_if later ++ ((34 ∷ n ++ 34 ∷ 58 ∷ []) ++ text)) ++ more ≡ comma_if later ++ ((34 ∷ (n ++ 34 ∷ [])) ++ 58 ∷ (text ++ more))
 named later n text more = simp append_assoc
 
 -- a member, and what comes after it
@@ -172,7 +180,7 @@ member_added t u later m rest whole before adds =
     ap (λ (l : List ℕ). l ++ members_text true (said rest)) adds ∙ append_assoc t (member_text later m) (members_text true (said rest))
     ∙ ap (λ (l : List ℕ). t ++ l) (member_said later m (said rest)) ∙ before
 
-wrapped : (n m : List ℕ) → codes "{\"" ++ n ++ codes "\":{" ++ m ++ codes "}\n" ≡ (123 ∷ ((34 ∷ (n ++ 34 ∷ [])) ++ 58 ∷ ((123 ∷ m) ++ 125 ∷ []))) ++ 10 ∷ []
+pub wrapped : (n m : List ℕ) → codes "{\"" ++ n ++ codes "\":{" ++ m ++ codes "}\n" ≡ (123 ∷ ((34 ∷ (n ++ 34 ∷ [])) ++ 58 ∷ ((123 ∷ m) ++ 125 ∷ []))) ++ 10 ∷ []
 wrapped n m = simp append_assoc
 
 -- an object with its name around it

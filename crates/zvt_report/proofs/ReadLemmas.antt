@@ -1,23 +1,26 @@
 -- The members of the objects of a report come in the order of their names, so that an object is read back from its text.
-use Rattle.std.proofs.Common.{◌≡◌, ℕ, ◌==◌, ◌≤◌, ◌&&◌, Bool, true, false, cond, nat_le, negsuc, ◌-◌, Some, None, Option, List, [], ◌∷◌, ◌++◌, refl, ◌∙◌, ap, arith}
+use Rattle.std.proofs.Common.{◌≡◌, ℕ, ◌+◌, ◌==◌, ◌≤◌, ◌&&◌, Bool, true, false, cond, nat_le, negsuc, ◌-◌, Some, None, Option, List, [], ◌∷◌, ◌++◌, refl, ◌∙◌, ap, arith}
 use Rattle.std.specs.Option.{option_and_then, option_map}
 use Rattle.std.specs.Ordering.{nat_cmp, match_ordering}
 use Rattle.std.specs.Cmp.Lexicographic.{slice_cmp}
 use Rattle.std.specs.declared.cmp.Ordering.{Ordering}
 use Rattle.std.specs.declared.cmp.Ordering.TheVariants.{Less, Equal, Greater}
 use Rattle.std.proofs.lemmas.Bool.{and_from, and_parts}
-use Rattle.serde_json.specs.Data.{Data, number as numeral, unsigned, negative, Members, no_members, member, depth, members_depth}
+use Rattle.serde_json.specs.Data.{Data, string, number as numeral, unsigned, negative, Members, no_members, member, depth, members_depth}
 use Rattle.zvt_json.specs.Reading.{and_then, comes_after, members_ordered, ordered}
 use Rattle.zvt_json.proofs.ReadBack.{reads_back}
 use Rattle.zvt_text.specs.Meanings.{command_name, meaning_of}
 use Rattle.zvt_till.specs.declared.outcomes.Cause.{Cause}
 use Rattle.zvt_till.specs.declared.outcomes.Outcome.{Outcome}
+use Rattle.zvt_report.specs.Advices.{advice}
+use Rattle.zvt_report.specs.LookObjects.{Told, look_told, look_value, of_member, order_member, payment_at, told, weight_member}
 use Rattle.zvt_report.specs.Members.{name_text, object_value, orders_value, said, value_data}
-use Rattle.zvt_report.specs.Objects.{again, close_members, code, code_of, command, look_members, maybe_cause, maybe_count, maybe_currency, maybe_receipt, other_members, payment_members, plain_members, reversal_members, summary_members, true_if, words}
+use Rattle.zvt_report.specs.Objects.{cause_of, close_members, code, code_of, command, count, lines, maybe_cause, maybe_count, maybe_currency, maybe_receipt, other_members, payment_members, plain_members, reversal_members, said_as, summary_members, true_if, words}
+use Rattle.zvt_report.specs.Sentences.{account, title}
 use Rattle.zvt_report.specs.CardObjects.{card_value, maybe_card, maybe_card_number}
 use Rattle.zvt_report.specs.Cards.{card_number}
 use Rattle.zvt_report.specs.CloseObjects.{book_member, difference_member, differs_member, explained_member, orders_of, receipts_member, receipts_of, stated_member}
-use Rattle.zvt_report.specs.Reading.{ObjectsReadBack, ReadsBack}
+use Rattle.zvt_report.specs.Reading.{IsReadBack, ObjectsReadBack, ReadsBack}
 use Rattle.zvt_report.specs.TimeMembers.{back_member, bad_member, from_member, maybe_time, to_member}
 use Rattle.zvt_trace.specs.declared.moment.Moment.{Moment}
 use Rattle.zvt_report.specs.declared.cards.Card.{Card}
@@ -33,7 +36,11 @@ use Rattle.zvt_report.specs.declared.members.Object.TheVariants as object_of
 use Rattle.zvt_report.specs.declared.members.Value.{Value}
 use Rattle.zvt_report.specs.declared.members.Value.TheVariants as value
 use Rattle.zvt_report.specs.declared.members.Word.TheVariants as word
+use Rattle.zvt_report.specs.declared.cases.Look.{Look}
+use Rattle.zvt_report.specs.declared.currencies.Decimals.{Decimals}
+use Rattle.zvt_report.specs.declared.facts.Facts.{Facts}
 use Rattle.zvt_report.specs.declared.rows.OrderMessage.{OrderMessage}
+use Rattle.zvt_report.specs.declared.rows.OrderRow.{OrderRow}
 
 -- ---- names in order
 
@@ -171,6 +178,51 @@ read_named o ms ns named order = λ fit.
     let names = said_ordered ms ns [] no_members named order (λ k h. refl) in
     reads_back (object_value o ms) fit (ap (λ (b : Bool). b && true) names) (omega (arith, said_shallow ms))
 
+-- ---- members of which some are sentences
+
+-- the member has this name, and a value without objects
+abbrev IsTold : Told → Name → Type 0
+IsTold None n = Unit {0}
+IsTold (Some t) n = (t.0 ≡ n) × ((ordered t.1 ≡ true) × (depth t.1 ≤ 1))
+
+abbrev AreTold : List Told → List Name → Type 0
+AreTold [] ns = Unit {0}
+AreTold (t ∷ ts) [] = ⊥
+AreTold (t ∷ ts) (n ∷ ns) = IsTold t n × AreTold ts ns
+
+told_of : (m : Option Member) (n : Name) → IsNamed m n → IsTold (of_member m) n
+told_of None n named = tt
+told_of (Some m) n named = (named, (value_ordered m.value, value_shallow m.value))
+
+told_ordered : (ts : List Told) (ns before : List Name) (found : Members) → AreTold ts ns → in_order before ns ≡ true → Covers before found → members_ordered (told ts) found ≡ true
+told_ordered [] ns before found named order covers = refl
+told_ordered (t ∷ ts) [] before found named order covers = absurd named
+told_ordered (None ∷ ts) (n ∷ ns) before found named order covers =
+    let p = and_parts (after_all (name_text n) before) (in_order (before ++ n ∷ []) ns) order in
+    told_ordered ts ns (before ++ n ∷ []) found named.1 p.1 (covers_less before n found covers)
+told_ordered (Some t ∷ ts) (n ∷ ns) before found named order covers =
+    let p = and_parts (after_all (name_text n) before) (in_order (before ++ n ∷ []) ns) order in
+    let d = t.1 in
+    let all : members_ordered (member (name_text n) d (told ts)) found ≡ true =
+    and_from (comes_after (name_text n) found) (ordered d && members_ordered (told ts) (and_then found (member (name_text n) d no_members))) (covers (name_text n) p.0)
+    (and_from (ordered d) (members_ordered (told ts) (and_then found (member (name_text n) d no_members))) named.0.1.0
+    (told_ordered ts ns (before ++ n ∷ []) (and_then found (member (name_text n) d no_members)) named.1 p.1 (covers_more before n d found covers))) in
+    ap (λ (k : Name). members_ordered (member (name_text k) d (told ts)) found) named.0.0 ∙ all
+
+told_shallow : (ts : List Told) (ns : List Name) → AreTold ts ns → members_depth (told ts) ≤ 1
+told_shallow [] ns named = omega arith
+told_shallow (t ∷ ts) [] named = absurd named
+told_shallow (None ∷ ts) (n ∷ ns) named = told_shallow ts ns named.1
+told_shallow (Some t ∷ ts) (n ∷ ns) named = omega (arith, named.0.1.1, told_shallow ts ns named.1)
+
+sentence_told : (n : Name) (text : List ℕ) → IsTold (Some (n, string text)) n
+sentence_told n text = (refl, (refl, omega arith))
+
+read_told : (ts : List Told) (ns : List Name) → AreTold ts ns → in_order [] ns ≡ true → IsReadBack (look_value ts)
+read_told ts ns named order = λ fit.
+    let names = told_ordered ts ns [] no_members named order (λ k h. refl) in
+    reads_back (look_value ts) fit (ap (λ (b : Bool). b && true) names) (omega (arith, told_shallow ts ns named))
+
 -- ---- the members
 
 count_named : (n : Name) (number : Option ℕ) → IsNamed (maybe_count n number) n
@@ -203,9 +255,9 @@ currency_named : (currency : Option ℕ) → IsNamed (maybe_currency currency) n
 currency_named None = tt
 currency_named (Some currency) = refl
 
-again_named : (place : Option ℕ) → IsNamed (again place) name.Again
-again_named None = tt
-again_named (Some place) = refl
+order_named : (n : Name) (place : Option ℕ) → IsNamed (order_member n place) n
+order_named n None = tt
+order_named n (Some place) = refl
 
 true_named : (n : Name) (holds : Bool) → IsNamed (true_if n holds) n
 true_named n false = tt
@@ -303,7 +355,7 @@ abbrev names_of_summary : List Name
 names_of_summary = name.Bad ∷ name.Booked ∷ name.Currency ∷ name.Looks ∷ name.Messages ∷ name.Net ∷ name.Others ∷ name.ReversalsUnclear ∷ name.Reversed ∷ name.TimeFrom ∷ name.TimeTo ∷ name.TimesBack ∷ name.TimesBad ∷ name.Total ∷ name.Unclear ∷ name.UnclearAmount ∷ []
 
 abbrev names_of_look : List Name
-names_of_look = name.Again ∷ name.Case ∷ name.Cause ∷ name.Lines ∷ name.Order ∷ name.Payment ∷ name.Time ∷ name.Weight ∷ []
+names_of_look = name.Advice ∷ name.Again ∷ name.Case ∷ name.Cause ∷ name.ConfirmedBy ∷ name.Lines ∷ name.Order ∷ name.Payment ∷ name.Text ∷ name.Time ∷ name.Title ∷ name.Weight ∷ []
 
 abbrev names_of_payment : List Name
 names_of_payment = name.Amount ∷ name.Approved ∷ name.Card ∷ name.CardNumber ∷ name.Cause ∷ name.Code ∷ name.Lines ∷ name.Order ∷ name.Outcome ∷ name.Payment ∷ name.Receipt ∷ name.ReversalUnclear ∷ name.ReversedBy ∷ name.TakenBack ∷ name.Time ∷ name.Trace ∷ name.Words ∷ []
@@ -320,10 +372,15 @@ names_of_close = name.Book ∷ name.Cause ∷ name.Code ∷ name.Differs ∷ nam
 abbrev names_of_order : List Name
 names_of_order = name.Cause ∷ name.Code ∷ name.Control ∷ name.Lines ∷ name.Name ∷ name.Order ∷ name.Outcome ∷ name.Time ∷ name.Words ∷ []
 
+look_read : (decimals : Decimals) (facts : Facts) (rows : List OrderRow) (look : Look) → IsReadBack (look_value (look_told decimals facts rows look))
+look_read decimals facts rows look =
+    read_told (look_told decimals facts rows look) names_of_look
+    (sentence_told name.Advice (advice decimals facts look.case), (told_of (order_member name.Again look.again) name.Again (order_named name.Again look.again), (told_of (said_as name.Case (value.Word (word.Case look.case))) name.Case refl, (told_of (maybe_cause name.Cause (cause_of facts.row.outcome)) name.Cause (cause_named name.Cause (cause_of facts.row.outcome)), (told_of (order_member name.ConfirmedBy look.confirmed_by) name.ConfirmedBy (order_named name.ConfirmedBy look.confirmed_by), (told_of (lines facts.row) name.Lines refl, (told_of (count name.Order (look.order + 1)) name.Order refl, (told_of (maybe_count name.Payment (payment_at look.order rows facts.row.order)) name.Payment (count_named name.Payment (payment_at look.order rows facts.row.order)), (sentence_told name.Text (account decimals facts look.case), (told_of (maybe_time facts.row.time) name.Time (time_named facts.row.time), (sentence_told name.Title (title decimals facts look.case), (told_of (weight_member look) name.Weight refl, tt)))))))))))) refl
+
 pub objects_read_back : ObjectsReadBack
 objects_read_back = (
   (λ tally currency times books messages looks. read_named object_of.Summary (summary_members tally currency times books messages looks) names_of_summary (refl, (refl, (currency_named currency, (refl, (refl, (refl, (refl, (refl, (refl, (from_named times.span, (to_named times.span, (back_named times.went_back, (bad_named times.bad times.first_bad, (refl, (refl, (refl, tt)))))))))))))))) refl),
-  (λ rows look row. read_named object_of.Look (look_members rows look row) names_of_look (again_named look.again, (refl, (cause_named name.Cause _, (refl, (refl, (count_named name.Payment _, (time_named row.time, (refl, tt)))))))) refl),
+  (λ decimals facts rows look. look_read decimals facts rows look),
   (λ books place row amount. read_named object_of.Payment (payment_members books place row amount) names_of_payment (refl, (count_named name.Approved _, (card_named row.card, (card_number_named row.card, (cause_named name.Cause _, (code_named row.outcome, (refl, (refl, (refl, (count_named name.Payment _, (receipt_named _, (cause_named name.ReversalUnclear _, (count_named name.ReversedBy _, (true_named name.TakenBack _, (time_named row.time, (count_named name.Trace _, (words_named row.outcome, tt))))))))))))))))) refl),
   (λ books place row message. read_named object_of.Reversal (reversal_members books place row message) names_of_reversal (count_named name.Amount _, (cause_named name.Cause _, (code_named row.outcome, (refl, (refl, (refl, (count_named name.Payment _, (receipt_named message.receipt, (time_named row.time, (words_named row.outcome, tt)))))))))) refl),
   (λ place row message. read_named object_of.Other (other_members place row message) names_of_other (count_named name.Amount _, (cause_named name.Cause _, (code_named row.outcome, (refl, (refl, (command_named message, (refl, (refl, (time_named row.time, (words_named row.outcome, tt)))))))))) refl),

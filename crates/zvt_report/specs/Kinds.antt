@@ -1,10 +1,12 @@
--- The kinds of orders in a report.
-use Rattle.std.specs.Prelude.{◌≡◌, ℕ, ◌==◌, cond, List, [], ◌∷◌, refl}
+-- The messages and the kinds of orders in a report.
+use Rattle.std.specs.Prelude.{◌≡◌, ℕ, ◌==◌, cond, List, [], ◌∷◌, Some, None, slice_get, refl}
 use Rattle.std.specs.List.{list_any}
 use Rattle.zvt_till.specs.declared.happenings.Sent.{Sent}
 use Rattle.zvt_till.specs.declared.happenings.Sent.TheVariants.{Register, Pay, Reverse, CloseDay, Cancel, Foreign}
 use Rattle.zvt_report.specs.declared.kinds.OrderKind.{OrderKind}
 use Rattle.zvt_report.specs.declared.kinds.OrderKind.TheVariants.{Payment, Reversal, OtherMoney, Close, Plain}
+use Rattle.zvt_report.specs.declared.rows.OrderMessage.{OrderMessage}
+use Rattle.zvt_report.specs.declared.rows.OrderRow.{OrderRow}
 
 -- The second control byte, after 06, of the orders that move money and that the book does not follow: a payment without exactly one
 -- amount, 04, 09, 0A, the orders of a pre-authorisation, and a refund
@@ -23,6 +25,19 @@ kind_of (Reverse e) high low = Reversal
 kind_of CloseDay high low = Close
 kind_of Cancel high low = Plain
 kind_of Foreign high low = foreign_kind high low
+
+-- ---- orders with their messages
+
+-- the message of an order that has none
+abbrev pub no_message : OrderMessage
+no_message = record { high = 0; low = 0; amount = None; receipt = None }
+
+abbrev pub message_at : List OrderMessage → (place : ℕ) → OrderMessage
+message_at messages place = elim (slice_get messages place) [ None ↦ no_message | Some message ↦ message ]
+
+-- the kind of the order with this row, which stands at this place
+abbrev pub kind_at : List OrderMessage → (place : ℕ) → OrderRow → OrderKind
+kind_at messages place row = kind_of row.order (message_at messages place).high (message_at messages place).low
 
 -- ---- rows worked by hand
 

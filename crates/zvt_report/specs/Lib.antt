@@ -28,9 +28,15 @@ pub mod Objects
 pub mod Amounts
 pub mod Columns
 pub mod Currencies
+pub mod Apart
+pub mod Facts
+pub mod Differences
 pub mod Phrases
 pub mod Sentences
+pub mod Advices
 pub mod Summary
+pub mod LookObjects
+pub mod JsonReport
 pub mod Reading
 pub mod Wrapping
 pub mod LookList

@@ -1,18 +1,18 @@
 -- The orders that a person should look at, as text.
-use Rattle.std.specs.Prelude.{◌≡◌, ℕ, ◌+◌, Bool, true, false, not, cond, List, [], ◌∷◌, ◌++◌, codes, count_by, Option, Some, None, slice_get, refl}
+use Rattle.std.specs.Prelude.{◌≡◌, ℕ, ◌+◌, Bool, true, false, not, cond, List, [], ◌∷◌, ◌++◌, codes, count_by, Option, Some, None, refl}
 use Rattle.std.specs.Fmt.{decimal, digits}
-use Rattle.std.specs.Option.{option_and_then}
 use Rattle.hex.specs.Hex.{encode_with}
 use Rattle.zvt_till.specs.declared.entries.Entry.{Entry}
-use Rattle.zvt_till.specs.declared.happenings.Sent.{Sent}
-use Rattle.zvt_till.specs.declared.happenings.Sent.TheVariants.{Pay, Reverse, CloseDay}
+use Rattle.zvt_till.specs.declared.happenings.Sent.TheVariants.{Pay, CloseDay}
 use Rattle.zvt_till.specs.declared.outcomes.Cause.TheVariants.{Line}
 use Rattle.zvt_till.specs.declared.outcomes.Outcome.TheVariants.{Unclear}
+use Rattle.zvt_report.specs.Advices.{advice}
 use Rattle.zvt_report.specs.Amounts.{amount_text}
 use Rattle.zvt_report.specs.Columns.{right_aligned}
+use Rattle.zvt_report.specs.Facts.{facts_of}
 use Rattle.zvt_report.specs.Looks.{weight_of}
-use Rattle.zvt_report.specs.Phrases.{again_part, amount_or_dash, approval_part, approved_receipt, reason, twice_part}
-use Rattle.zvt_report.specs.Sentences.{account, advice, title}
+use Rattle.zvt_report.specs.Phrases.{again_part, counted_as_paid, amount_or_dash, approval_part, approved_receipt, reason, twice_part}
+use Rattle.zvt_report.specs.Sentences.{account, title}
 use Rattle.zvt_report.specs.Wrapping.{wrapped}
 use Rattle.zvt_report.specs.declared.cases.Case.{Case}
 use Rattle.zvt_report.specs.declared.cases.Case.TheVariants.{ApprovedNotCompleted, CloseUnclear}
@@ -21,20 +21,14 @@ use Rattle.zvt_report.specs.Times.{time_first}
 use Rattle.zvt_trace.specs.Marks.{moment}
 use Rattle.zvt_report.specs.declared.cases.Weight.{Weight}
 use Rattle.zvt_report.specs.declared.cases.Weight.TheVariants.{Act, Check}
+use Rattle.zvt_report.specs.declared.closings.Closing.{Closing}
 use Rattle.zvt_report.specs.declared.currencies.Decimals.{Decimals}
 use Rattle.zvt_report.specs.declared.currencies.Decimals.TheVariants.{Two}
+use Rattle.zvt_report.specs.declared.facts.Facts.{Facts}
+use Rattle.zvt_report.specs.declared.rows.OrderMessage.{OrderMessage}
 use Rattle.zvt_report.specs.declared.rows.OrderRow.{OrderRow}
 
 -- ---- one order
-
--- the payment that a reversal takes back
-abbrev pub entry_of : List Entry → Sent → Option Entry
-entry_of book (Reverse e) = slice_get book e
-entry_of book _ = None
-
--- the order that paid the same amount again
-abbrev pub row_at : List OrderRow → (place : Option ℕ) → Option OrderRow
-row_at rows place = option_and_then (λ (p : ℕ). slice_get rows p) place
 
 unfoldable pub weight_text : Weight → List ℕ
 weight_text Act = codes "ACT    "
@@ -45,9 +39,8 @@ unfoldable pub lines_part : OrderRow → List ℕ
 lines_part row = codes " (" ++ time_first row.time ++ codes "lines " ++ decimal row.first ++ 45 ∷ decimal row.last ++ codes ")\n"
 
 -- an empty line, and the line with the title
-unfoldable pub look_head : Decimals → (number : ℕ) → Option Entry → OrderRow → (again : Option OrderRow) → Case → List ℕ
-look_head decimals number entry row again case =
-    10 ∷ right_aligned 2 (decimal number) ++ codes ". " ++ weight_text (weight_of case) ++ title decimals entry row again case ++ lines_part row
+unfoldable pub look_head : Decimals → (number : ℕ) → Facts → Case → List ℕ
+look_head decimals number facts case = 10 ∷ right_aligned 2 (decimal number) ++ codes ". " ++ weight_text (weight_of case) ++ title decimals facts case ++ lines_part facts.row
 
 unfoldable pub account_lines : List ℕ → List ℕ
 account_lines sentence = codes "    " ++ wrapped 4 sentence ++ 10 ∷ []
@@ -55,13 +48,12 @@ account_lines sentence = codes "    " ++ wrapped 4 sentence ++ 10 ∷ []
 unfoldable pub advice_lines : List ℕ → List ℕ
 advice_lines sentence = codes "    -> " ++ wrapped 7 sentence ++ 10 ∷ []
 
-unfoldable pub look_text : Decimals → (number : ℕ) → Option Entry → OrderRow → (again : Option OrderRow) → Case → List ℕ
-look_text decimals number entry row again case =
-    look_head decimals number entry row again case ++ account_lines (account decimals entry row again case) ++ advice_lines (advice decimals entry row again case)
+unfoldable pub look_text : Decimals → (number : ℕ) → Facts → Case → List ℕ
+look_text decimals number facts case = look_head decimals number facts case ++ account_lines (account decimals facts case) ++ advice_lines (advice decimals facts case)
 
-unfoldable pub look_of : Decimals → List Entry → List OrderRow → (number : ℕ) → Look → List ℕ
-look_of decimals book rows number look =
-    elim (slice_get rows look.order) [ None ↦ [] | Some row ↦ look_text decimals number (entry_of book row.order) row (row_at rows look.again) look.case ]
+unfoldable pub look_of : Decimals → List Entry → List (Option Closing) → List OrderMessage → List OrderRow → (number : ℕ) → Look → List ℕ
+look_of decimals book closings messages rows number look =
+    elim (facts_of book closings messages rows look) [ None ↦ [] | Some facts ↦ look_text decimals number facts look.case ]
 
 -- ---- all of them
 
@@ -72,29 +64,29 @@ is_urgent case = elim (weight_of case) [ Act ↦ true | Check ↦ false ]
 abbrev pub is_listed : (urgent : Bool) → Case → Bool
 is_listed urgent case = cond urgent (is_urgent case) (not (is_urgent case))
 
-abbrev pub step_text : Decimals → List Entry → List OrderRow → (urgent : Bool) → (listed : ℕ) → Look → List ℕ
-step_text decimals book rows urgent listed look = cond (is_listed urgent look.case) (look_of decimals book rows (listed + 1) look) []
+abbrev pub step_text : Decimals → List Entry → List (Option Closing) → List OrderMessage → List OrderRow → (urgent : Bool) → (listed : ℕ) → Look → List ℕ
+step_text decimals book closings messages rows urgent listed look = cond (is_listed urgent look.case) (look_of decimals book closings messages rows (listed + 1) look) []
 
 abbrev pub listed_after : (urgent : Bool) → (listed : ℕ) → Look → ℕ
 listed_after urgent listed look = cond (is_listed urgent look.case) (listed + 1) listed
 
 -- the looks of one round; their numbers follow the number of looks listed before
-abbrev pub looks_from : Decimals → List Entry → List OrderRow → (urgent : Bool) → (listed : ℕ) → List Look → List ℕ
-looks_from decimals book rows urgent listed [] = []
-looks_from decimals book rows urgent listed (look ∷ looks) =
-    step_text decimals book rows urgent listed look ++ looks_from decimals book rows urgent (listed_after urgent listed look) looks
+abbrev pub looks_from : Decimals → List Entry → List (Option Closing) → List OrderMessage → List OrderRow → (urgent : Bool) → (listed : ℕ) → List Look → List ℕ
+looks_from decimals book closings messages rows urgent listed [] = []
+looks_from decimals book closings messages rows urgent listed (look ∷ looks) =
+    step_text decimals book closings messages rows urgent listed look ++ looks_from decimals book closings messages rows urgent (listed_after urgent listed look) looks
 
 abbrev pub urgent_count : List Look → ℕ
 urgent_count looks = count_by (λ (look : Look). is_urgent look.case) looks
 
 -- the urgent ones first, with numbers from 1
-unfoldable pub listed_looks : Decimals → List Entry → List OrderRow → List Look → List ℕ
-listed_looks decimals book rows looks =
-    codes "Look at these\n" ++ looks_from decimals book rows true 0 looks ++ looks_from decimals book rows false (urgent_count looks) looks
+unfoldable pub listed_looks : Decimals → List Entry → List (Option Closing) → List OrderMessage → List OrderRow → List Look → List ℕ
+listed_looks decimals book closings messages rows looks =
+    codes "Look at these\n" ++ looks_from decimals book closings messages rows true 0 looks ++ looks_from decimals book closings messages rows false (urgent_count looks) looks
 
-abbrev pub looks_text : Decimals → List Entry → List OrderRow → List Look → List ℕ
-looks_text decimals book rows [] = codes "Look at these: nothing\n"
-looks_text decimals book rows (look ∷ looks) = listed_looks decimals book rows (look ∷ looks)
+abbrev pub looks_text : Decimals → List Entry → List (Option Closing) → List OrderMessage → List OrderRow → List Look → List ℕ
+looks_text decimals book closings messages rows [] = codes "Look at these: nothing\n"
+looks_text decimals book closings messages rows (look ∷ looks) = listed_looks decimals book closings messages rows (look ∷ looks)
 
 -- ---- rows worked by hand
 
@@ -105,9 +97,12 @@ a_payment amount first =
 abbrev an_end : OrderRow
 an_end = record { order = CloseDay; first = 10; last = 16; outcome = Unclear Line; approval = None; time = Some (moment 2026 11 28 18 30 1 0); card = None }
 
+abbrev a_look : Case → (order : ℕ) → Look
+a_look case order = record { case = case; order = order; again = None; confirmed_by = None }
+
 -- the end of day is the first order, and not urgent
 urgent_first :
-    looks_text Two [] (an_end ∷ a_payment 3499 128 ∷ []) (record { case = CloseUnclear; order = 0; again = None } ∷ record { case = ApprovedNotCompleted; order = 1; again = None } ∷ [])
+    looks_text Two [] [] [] (an_end ∷ a_payment 3499 128 ∷ []) (a_look CloseUnclear 0 ∷ a_look ApprovedNotCompleted 1 ∷ [])
     ≡ codes "Look at these\n\n"
     ++ codes " 1. ACT    34.99 may have been charged (lines 128-136)\n"
     ++ codes "    The terminal approved 34.99 (line 134, trace 000020, receipt 0008), but\n"
@@ -118,5 +113,5 @@ urgent_first :
     ++ codes "    The end of day is unclear: the connection was lost.\n"
     ++ codes "    -> If the terminal printed no end-of-day receipt, start the end of day\n"
     ++ codes "       again.\n"
-unfolding account_lines advice_lines again_part amount_or_dash amount_text approval_part approved_receipt digits encode_with lines_part listed_looks look_head look_of look_text reason time_first twice_part weight_text wrapped
+unfolding account_lines advice_lines again_part counted_as_paid amount_or_dash amount_text approval_part approved_receipt digits encode_with lines_part listed_looks look_head look_of look_text reason time_first twice_part weight_text wrapped
 urgent_first = refl

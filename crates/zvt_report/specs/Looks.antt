@@ -11,14 +11,18 @@ use Rattle.zvt_till.specs.declared.outcomes.Outcome.{Outcome}
 use Rattle.zvt_till.specs.declared.outcomes.Outcome.TheVariants.{Registered, Paid, Declined, Refused, Aborted, Unclear, Reversed, DayClosed}
 use Rattle.zvt_report.specs.Alike.{is_marked, repeated_at, repeated_payments}
 use Rattle.zvt_report.specs.Differing.{differs_at}
+use Rattle.zvt_report.specs.Kinds.{kind_at, kind_of}
 use Rattle.zvt_report.specs.declared.cases.Case.{Case}
-use Rattle.zvt_report.specs.declared.cases.Case.TheVariants.{ApprovedNotCompleted, OtherAmount, PaymentUnclear, PaidAlike, ReversalUnclear, TakenBackBefore, ReversalRefused, CloseUnclear, CloseRefused, CloseDiffers}
+use Rattle.zvt_report.specs.declared.cases.Case.TheVariants.{ApprovedNotCompleted, ApprovalRepeated, OtherAmount, PaymentUnclear, PaidAlike, ReversalUnclear, TakenBackBefore, ReversalRefused, ReversalElsewhere, ElsewhereUnclear, OtherUnclear, CloseUnclear, CloseRefused, CloseDiffers}
 use Rattle.zvt_report.specs.declared.cases.Look.{Look}
 use Rattle.zvt_report.specs.declared.cases.Weight.{Weight}
 use Rattle.zvt_report.specs.declared.cases.Weight.TheVariants.{Act, Check}
 use Rattle.zvt_report.specs.declared.closings.Closing.{Closing}
 use Rattle.zvt_report.specs.declared.explaining.Explained.TheVariants.{Nothing}
+use Rattle.zvt_report.specs.declared.kinds.OrderKind.{OrderKind}
+use Rattle.zvt_report.specs.declared.kinds.OrderKind.TheVariants as kind
 use Rattle.zvt_report.specs.declared.rows.Approval.{Approval}
+use Rattle.zvt_report.specs.declared.rows.OrderMessage.{OrderMessage}
 use Rattle.zvt_report.specs.declared.rows.OrderRow.{OrderRow}
 
 -- ---- rows among each other
@@ -55,12 +59,40 @@ decides_as Foreign outcome place = false
 abbrev pub decides : (place : ℕ) → OrderRow → Bool
 decides place row = decides_as row.order row.outcome place
 
+-- the terminal approved this amount in the order
+abbrev pub approves : (amount : ℕ) → OrderRow → Bool
+approves amount row = elim row.approval [ None ↦ false | Some approval ↦ approval.amount == amount ]
+
+abbrev pub is_plain : OrderKind → Bool
+is_plain kind.Payment = false
+is_plain kind.Reversal = false
+is_plain kind.OtherMoney = false
+is_plain kind.Close = false
+is_plain kind.Plain = true
+
+-- The first order with an approval of this amount, before the next one that moves money or ends a day. The first later row has this
+-- place.
+abbrev pub confirmed_in : (amount : ℕ) → List OrderMessage → (place : ℕ) → (later : List OrderRow) → Option ℕ
+confirmed_in amount messages place [] = None
+confirmed_in amount messages place (row ∷ later) =
+    cond (is_plain (kind_at messages place row)) (cond (approves amount row) (Some place) (confirmed_in amount messages (place + 1) later)) None
+
+-- the later order in which the terminal repeated the approval of a payment
+abbrev pub confirming : Sent → List OrderMessage → (place : ℕ) → (later : List OrderRow) → Option ℕ
+confirming (Register c) messages place later = None
+confirming (Pay a) messages place later = confirmed_in a messages place later
+confirming (Reverse e) messages place later = None
+confirming CloseDay messages place later = None
+confirming Cancel messages place later = None
+confirming Foreign messages place later = None
+
 -- ---- one row
 
--- an unclear payment: by the first approval that the terminal stated for it
-abbrev pub payment_case : (amount : ℕ) → Option Approval → Case
-payment_case amount None = PaymentUnclear
-payment_case amount (Some approval) = cond (approval.amount == amount) ApprovedNotCompleted OtherAmount
+-- an unclear payment: by the first approval that the terminal stated for it, or by the later order that repeated it
+abbrev pub payment_case : (amount : ℕ) → (confirmed : Option ℕ) → Option Approval → Case
+payment_case amount None None = PaymentUnclear
+payment_case amount (Some order) None = ApprovalRepeated
+payment_case amount confirmed (Some approval) = cond (approval.amount == amount) ApprovedNotCompleted OtherAmount
 
 -- a reversal that the terminal refused or aborted with this code
 abbrev pub refused_case : List Entry → (place code : ℕ) → (decided : Bool) → Option Case
@@ -95,24 +127,55 @@ alike_case None = None
 alike_case (Some earlier) = Some PaidAlike
 
 -- a payment
-abbrev pub paid_case : (amount : ℕ) → (repeats : Option ℕ) → Option Approval → Outcome → Option Case
-paid_case amount repeats approval Registered = None
-paid_case amount repeats approval (Paid trace receipt) = alike_case repeats
-paid_case amount repeats approval (Declined code) = None
-paid_case amount repeats approval (Refused code) = None
-paid_case amount repeats approval (Aborted code) = None
-paid_case amount repeats approval (Unclear cause) = Some (payment_case amount approval)
-paid_case amount repeats approval Reversed = None
-paid_case amount repeats approval DayClosed = None
+abbrev pub paid_case : (amount : ℕ) → (repeats confirmed : Option ℕ) → Option Approval → Outcome → Option Case
+paid_case amount repeats confirmed approval Registered = None
+paid_case amount repeats confirmed approval (Paid trace receipt) = alike_case repeats
+paid_case amount repeats confirmed approval (Declined code) = None
+paid_case amount repeats confirmed approval (Refused code) = None
+paid_case amount repeats confirmed approval (Aborted code) = None
+paid_case amount repeats confirmed approval (Unclear cause) = Some (payment_case amount confirmed approval)
+paid_case amount repeats confirmed approval Reversed = None
+paid_case amount repeats confirmed approval DayClosed = None
 
--- why to look at an order, in this book, before these later rows; a payment repeats an earlier one or not
-abbrev pub case_as : List Entry → (differs : Bool) → (repeats : Option ℕ) → (later : List OrderRow) → Option Approval → Outcome → Sent → Option Case
-case_as book differs repeats later approval outcome (Register c) = None
-case_as book differs repeats later approval outcome (Pay a) = paid_case a repeats approval outcome
-case_as book differs repeats later approval outcome (Reverse e) = reversal_case book e (list_any (decides e) later) outcome
-case_as book differs repeats later approval outcome CloseDay = close_case differs outcome
-case_as book differs repeats later approval outcome Cancel = None
-case_as book differs repeats later approval outcome Foreign = None
+-- a reversal of a payment that is not in the trace
+abbrev pub elsewhere_case : Outcome → Option Case
+elsewhere_case Registered = None
+elsewhere_case (Paid trace receipt) = None
+elsewhere_case (Declined code) = None
+elsewhere_case (Refused code) = None
+elsewhere_case (Aborted code) = None
+elsewhere_case (Unclear cause) = Some ElsewhereUnclear
+elsewhere_case Reversed = None
+elsewhere_case DayClosed = Some ReversalElsewhere
+
+-- another order that moves money
+abbrev pub money_case : Outcome → Option Case
+money_case Registered = None
+money_case (Paid trace receipt) = None
+money_case (Declined code) = None
+money_case (Refused code) = None
+money_case (Aborted code) = None
+money_case (Unclear cause) = Some OtherUnclear
+money_case Reversed = None
+money_case DayClosed = None
+
+-- an order that the book does not know
+abbrev pub foreign_case : OrderKind → Outcome → Option Case
+foreign_case kind.Payment outcome = None
+foreign_case kind.Reversal outcome = elsewhere_case outcome
+foreign_case kind.OtherMoney outcome = money_case outcome
+foreign_case kind.Close outcome = None
+foreign_case kind.Plain outcome = None
+
+-- Why to look at an order of this kind, in this book, before these later rows. A payment repeats an earlier one or not, and its
+-- approval is repeated in a later order or not.
+abbrev pub case_as : List Entry → (differs : Bool) → (repeats confirmed : Option ℕ) → OrderKind → (later : List OrderRow) → Option Approval → Outcome → Sent → Option Case
+case_as book differs repeats confirmed k later approval outcome (Register c) = None
+case_as book differs repeats confirmed k later approval outcome (Pay a) = paid_case a repeats confirmed approval outcome
+case_as book differs repeats confirmed k later approval outcome (Reverse e) = reversal_case book e (list_any (decides e) later) outcome
+case_as book differs repeats confirmed k later approval outcome CloseDay = close_case differs outcome
+case_as book differs repeats confirmed k later approval outcome Cancel = None
+case_as book differs repeats confirmed k later approval outcome Foreign = foreign_case k outcome
 
 -- the first later payment of the same amount that is booked or unclear; the first later row has this place
 abbrev pub paid_again : Sent → (place : ℕ) → (later : List OrderRow) → Option ℕ
@@ -126,42 +189,61 @@ paid_again Foreign place later = None
 -- the other payment of a case: the one before it with the same card, or the one after it
 abbrev pub other_payment : Case → (repeats again : Option ℕ) → Option ℕ
 other_payment ApprovedNotCompleted repeats again = again
+other_payment ApprovalRepeated repeats again = again
 other_payment OtherAmount repeats again = again
 other_payment PaymentUnclear repeats again = again
 other_payment PaidAlike repeats again = repeats
 other_payment ReversalUnclear repeats again = again
 other_payment TakenBackBefore repeats again = again
 other_payment ReversalRefused repeats again = again
+other_payment ReversalElsewhere repeats again = again
+other_payment ElsewhereUnclear repeats again = again
+other_payment OtherUnclear repeats again = again
 other_payment CloseUnclear repeats again = again
 other_payment CloseRefused repeats again = again
 other_payment CloseDiffers repeats again = again
 
-abbrev pub look_at : List Entry → List (Option Closing) → List (Option ℕ) → (place : ℕ) → OrderRow → (later : List OrderRow) → Option Look
-look_at book closings repeated place row later =
-    option_map (λ case. record { case = case; order = place; again = other_payment case (repeated_at repeated place) (paid_again row.order (place + 1) later) })
-    (case_as book (differs_at closings place) (repeated_at repeated place) later row.approval row.outcome row.order)
+-- the order that repeated the approval of a payment, if that is the case
+abbrev pub confirmed_if : Case → (confirmed : Option ℕ) → Option ℕ
+confirmed_if ApprovalRepeated confirmed = confirmed
+confirmed_if _ confirmed = None
+
+-- a look in this case at the order of this place
+abbrev pub look_with : (place : ℕ) → (repeats confirmed again : Option ℕ) → Case → Look
+look_with place repeats confirmed again case = record { case = case; order = place; again = other_payment case repeats again; confirmed_by = confirmed_if case confirmed }
+
+abbrev pub look_at : List Entry → List (Option Closing) → List OrderMessage → List (Option ℕ) → (place : ℕ) → OrderRow → (later : List OrderRow) → Option Look
+look_at book closings messages repeated place row later =
+    let confirmed = confirming row.order messages (place + 1) later in
+    option_map (look_with place (repeated_at repeated place) confirmed (paid_again row.order (place + 1) later))
+    (case_as book (differs_at closings place) (repeated_at repeated place) confirmed (kind_at messages place row) later row.approval row.outcome row.order)
 
 abbrev pub weight_of : Case → Weight
 weight_of ApprovedNotCompleted = Act
+weight_of ApprovalRepeated = Act
 weight_of OtherAmount = Act
 weight_of PaymentUnclear = Check
 weight_of PaidAlike = Check
 weight_of ReversalUnclear = Act
 weight_of TakenBackBefore = Act
 weight_of ReversalRefused = Check
+weight_of ReversalElsewhere = Check
+weight_of ElsewhereUnclear = Act
+weight_of OtherUnclear = Act
 weight_of CloseUnclear = Check
 weight_of CloseRefused = Check
 weight_of CloseDiffers = Check
 
 -- ---- all rows
 
-abbrev pub looks_from : List Entry → List (Option Closing) → List (Option ℕ) → (place : ℕ) → List OrderRow → List Look
-looks_from book closings repeated place [] = []
-looks_from book closings repeated place (row ∷ later) = cons_option (look_at book closings repeated place row later) (looks_from book closings repeated (place + 1) later)
+abbrev pub looks_from : List Entry → List (Option Closing) → List OrderMessage → List (Option ℕ) → (place : ℕ) → List OrderRow → List Look
+looks_from book closings messages repeated place [] = []
+looks_from book closings messages repeated place (row ∷ later) =
+    cons_option (look_at book closings messages repeated place row later) (looks_from book closings messages repeated (place + 1) later)
 
 -- in the order of the rows
-abbrev pub looks : List Entry → List (Option Closing) → List OrderRow → List Look
-looks book closings rows = looks_from book closings (repeated_payments book rows) 0 rows
+abbrev pub looks : List Entry → List (Option Closing) → List OrderMessage → List OrderRow → List Look
+looks book closings messages rows = looks_from book closings messages (repeated_payments book rows) 0 rows
 
 -- ---- laws
 
@@ -176,12 +258,16 @@ unclear_places place (row ∷ later) = cond (is_unclear_by row.order row.outcome
 
 abbrev pub is_of_payment : Case → Bool
 is_of_payment ApprovedNotCompleted = true
+is_of_payment ApprovalRepeated = true
 is_of_payment OtherAmount = true
 is_of_payment PaymentUnclear = true
 is_of_payment PaidAlike = false
 is_of_payment ReversalUnclear = false
 is_of_payment TakenBackBefore = false
 is_of_payment ReversalRefused = false
+is_of_payment ReversalElsewhere = false
+is_of_payment ElsewhereUnclear = false
+is_of_payment OtherUnclear = false
 is_of_payment CloseUnclear = false
 is_of_payment CloseRefused = false
 is_of_payment CloseDiffers = false
@@ -193,7 +279,7 @@ payments_looked_at (look ∷ more) = cond (is_of_payment look.case) (look.order 
 
 -- each unclear payment is looked at once, and no other payment is called unclear
 abbrev pub EachPaymentIsLookedAt : Type 0
-EachPaymentIsLookedAt = (book : List Entry) (closings : List (Option Closing)) (rows : List OrderRow) → payments_looked_at (looks book closings rows) ≡ unclear_places 0 rows
+EachPaymentIsLookedAt = (book : List Entry) (closings : List (Option Closing)) (messages : List OrderMessage) (rows : List OrderRow) → payments_looked_at (looks book closings messages rows) ≡ unclear_places 0 rows
 
 abbrev pub is_open_by : (place : ℕ) → Sent → Outcome → Bool
 is_open_by place (Reverse e) (Unclear cause) = e == place
@@ -215,12 +301,16 @@ open_places place (row ∷ later) = cond (open_by row.order row.outcome later) (
 
 abbrev pub is_of_reversal : Case → Bool
 is_of_reversal ApprovedNotCompleted = false
+is_of_reversal ApprovalRepeated = false
 is_of_reversal OtherAmount = false
 is_of_reversal PaymentUnclear = false
 is_of_reversal PaidAlike = false
 is_of_reversal ReversalUnclear = true
 is_of_reversal TakenBackBefore = false
 is_of_reversal ReversalRefused = false
+is_of_reversal ReversalElsewhere = false
+is_of_reversal ElsewhereUnclear = false
+is_of_reversal OtherUnclear = false
 is_of_reversal CloseUnclear = false
 is_of_reversal CloseRefused = false
 is_of_reversal CloseDiffers = false
@@ -232,7 +322,37 @@ reversals_looked_at (look ∷ more) = cond (is_of_reversal look.case) (look.orde
 
 -- each reversal that was left open is looked at once, and no other is called unclear
 abbrev pub EachReversalIsLookedAt : Type 0
-EachReversalIsLookedAt = (book : List Entry) (closings : List (Option Closing)) (rows : List OrderRow) → reversals_looked_at (looks book closings rows) ≡ open_places 0 rows
+EachReversalIsLookedAt = (book : List Entry) (closings : List (Option Closing)) (messages : List OrderMessage) (rows : List OrderRow) → reversals_looked_at (looks book closings messages rows) ≡ open_places 0 rows
+
+abbrev pub is_unclear : Outcome → Bool
+is_unclear (Unclear cause) = true
+is_unclear _ = false
+
+-- an unclear order of a kind that moves money, and that the book does not follow
+abbrev pub is_unclear_other : OrderKind → Outcome → Bool
+is_unclear_other kind.Payment outcome = false
+is_unclear_other kind.Reversal outcome = false
+is_unclear_other kind.OtherMoney outcome = is_unclear outcome
+is_unclear_other kind.Close outcome = false
+is_unclear_other kind.Plain outcome = false
+
+-- the places of these orders among these rows; the first row has this place
+abbrev pub unclear_others : List OrderMessage → (place : ℕ) → List OrderRow → List ℕ
+unclear_others messages place [] = []
+unclear_others messages place (row ∷ later) = cond (is_unclear_other (kind_at messages place row) row.outcome) (place ∷ []) [] ++ unclear_others messages (place + 1) later
+
+abbrev pub is_of_other : Case → Bool
+is_of_other OtherUnclear = true
+is_of_other _ = false
+
+-- the places of these looks that are about such an order
+abbrev pub others_looked_at : List Look → List ℕ
+others_looked_at [] = []
+others_looked_at (look ∷ more) = cond (is_of_other look.case) (look.order ∷ []) [] ++ others_looked_at more
+
+-- each unclear order that moves money beside the book is looked at once, and no other order is called that
+abbrev pub EachOtherIsLookedAt : Type 0
+EachOtherIsLookedAt = (book : List Entry) (closings : List (Option Closing)) (messages : List OrderMessage) (rows : List OrderRow) → others_looked_at (looks book closings messages rows) ≡ unclear_others messages 0 rows
 
 -- ---- rows worked by hand
 
@@ -243,32 +363,52 @@ abbrev approved : ℕ → Option Approval
 approved amount = Some (record { line = 2; amount = amount; trace = Some 20; receipt = None })
 
 abbrev looked : Case → ℕ → Option ℕ → Look
-looked case order again = record { case = case; order = order; again = again }
+looked case order again = record { case = case; order = order; again = again; confirmed_by = None }
 
 -- paid again after a lost line, with a decline between
-twice : looks [] [] (a_row (Pay 3499) (Unclear Line) (approved 3499) ∷ a_row (Pay 3499) (Declined 0x65) None ∷ a_row (Pay 3499) (Paid 21 None) (approved 3499) ∷ []) ≡ looked ApprovedNotCompleted 0 (Some 2) ∷ []
+twice : looks [] [] [] (a_row (Pay 3499) (Unclear Line) (approved 3499) ∷ a_row (Pay 3499) (Declined 0x65) None ∷ a_row (Pay 3499) (Paid 21 None) (approved 3499) ∷ []) ≡ looked ApprovedNotCompleted 0 (Some 2) ∷ []
 twice = refl
 
-a_tip : looks [] [] (a_row (Pay 5000) (Unclear NoStatus) (approved 5500) ∷ a_row (Pay 500) (Unclear Line) None ∷ []) ≡ looked OtherAmount 0 None ∷ looked PaymentUnclear 1 None ∷ []
+a_tip : looks [] [] [] (a_row (Pay 5000) (Unclear NoStatus) (approved 5500) ∷ a_row (Pay 500) (Unclear Line) None ∷ []) ≡ looked OtherAmount 0 None ∷ looked PaymentUnclear 1 None ∷ []
 a_tip = refl
 
 abbrev an_entry : Bool → Entry
 an_entry reversed = record { amount = 500; trace = 1; receipt = None; reversed = reversed; doubt = No }
 
 -- a second reversal decided what the first one left open
-decided_later : looks (an_entry true ∷ []) [] (a_row (Reverse 0) (Unclear Line) None ∷ a_row (Reverse 0) Reversed None ∷ a_row (Reverse 0) (Aborted 0xB4) None ∷ []) ≡ []
+decided_later : looks (an_entry true ∷ []) [] [] (a_row (Reverse 0) (Unclear Line) None ∷ a_row (Reverse 0) Reversed None ∷ a_row (Reverse 0) (Aborted 0xB4) None ∷ []) ≡ []
 decided_later = refl
 
 abbrev by_card : OrderRow
 by_card = record { order = Pay 500; first = 1; last = 2; outcome = Paid 1 None; approval = None; time = None; card = Some (record { card_type = None; name = None; number = Some (0x12 ∷ []) }) }
 
-paid_alike : looks (an_entry false ∷ an_entry false ∷ []) [] (by_card ∷ by_card ∷ []) ≡ looked PaidAlike 1 (Some 0) ∷ []
+paid_alike : looks (an_entry false ∷ an_entry false ∷ []) [] [] (by_card ∷ by_card ∷ []) ≡ looked PaidAlike 1 (Some 0) ∷ []
 paid_alike = refl
 
-taken_back_before : looks (an_entry false ∷ []) [] (a_row (Reverse 0) (Unclear Line) None ∷ a_row (Reverse 0) (Refused 0xB4) None ∷ a_row CloseDay (Aborted 0x6C) None ∷ []) ≡ looked TakenBackBefore 1 None ∷ looked CloseRefused 2 None ∷ []
+taken_back_before : looks (an_entry false ∷ []) [] [] (a_row (Reverse 0) (Unclear Line) None ∷ a_row (Reverse 0) (Refused 0xB4) None ∷ a_row CloseDay (Aborted 0x6C) None ∷ []) ≡ looked TakenBackBefore 1 None ∷ looked CloseRefused 2 None ∷ []
 taken_back_before = refl
 
 -- a total of 3.00 after a payment of 5.00
-closed_differently : looks [] (None ∷ Some (record { stated = Some 300; totals = None; booked = 500; taken_back = 0; covered = Some 300; explained = Nothing }) ∷ []) (a_row (Pay 500) (Paid 17 None) None ∷ a_row CloseDay DayClosed None ∷ [])
+closed_differently : looks [] (None ∷ Some (record { stated = Some 300; totals = None; booked = 500; taken_back = 0; covered = Some 300; explained = Nothing }) ∷ []) [] (a_row (Pay 500) (Paid 17 None) None ∷ a_row CloseDay DayClosed None ∷ [])
     ≡ looked CloseDiffers 1 None ∷ []
 closed_differently = refl
+
+abbrev with_control : (low : ℕ) → OrderMessage
+with_control low = record { high = 0x06; low = low; amount = Some 500; receipt = None }
+
+-- a refund, a pre-authorisation that was completed, and two reversals of payments of another trace
+beside_the_book :
+    looks [] [] (with_control 0x31 ∷ with_control 0x22 ∷ with_control 0x30 ∷ with_control 0x30 ∷ with_control 0x30 ∷ [])
+    (a_row Foreign (Unclear Line) None ∷ a_row Foreign DayClosed None ∷ a_row Foreign DayClosed None ∷ a_row Foreign (Unclear Line) None ∷ a_row Foreign (Aborted 0x6C) None ∷ [])
+    ≡ looked OtherUnclear 0 None ∷ looked ReversalElsewhere 2 None ∷ looked ElsewhereUnclear 3 None ∷ []
+beside_the_book = refl
+
+-- the receipt is printed again, after the till had asked for the terminal's state
+confirmed_later : looks [] [] (with_control 0x01 ∷ with_control 0x70 ∷ with_control 0x20 ∷ []) (a_row (Pay 500) (Unclear Line) None ∷ a_row Foreign DayClosed None ∷ a_row Foreign DayClosed (approved 500) ∷ [])
+    ≡ record (looked ApprovalRepeated 0 None) { confirmed_by = Some 2 } ∷ []
+confirmed_later = refl
+
+-- with another amount, and after the next order that moves money
+not_confirmed : looks [] [] (with_control 0x01 ∷ with_control 0x20 ∷ with_control 0x31 ∷ with_control 0x20 ∷ [])
+    (a_row (Pay 500) (Unclear Line) None ∷ a_row Foreign DayClosed (approved 700) ∷ a_row Foreign DayClosed None ∷ a_row Foreign DayClosed (approved 500) ∷ []) ≡ looked PaymentUnclear 0 None ∷ []
+not_confirmed = refl

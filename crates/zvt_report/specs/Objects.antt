@@ -1,6 +1,5 @@
 -- The report of a trace as JSON.
-use Rattle.std.specs.Prelude.{◌≡◌, ℕ, ◌+◌, Bool, true, false, cond, List, [], ◌∷◌, ◌++◌, length, Option, Some, None, codes, option_map, slice_get, take, refl}
-use Rattle.std.specs.List.{flat_map}
+use Rattle.std.specs.Prelude.{◌≡◌, ℕ, ◌+◌, Bool, true, false, cond, List, [], ◌∷◌, ◌++◌, length, Option, Some, None, codes, option_map, slice_get, refl}
 use Rattle.std.specs.Fmt.{digits}
 use Rattle.std.specs.Option.{option_and_then, option_or}
 use Rattle.hex.specs.Hex.{encode_with}
@@ -23,15 +22,14 @@ use Rattle.zvt_report.specs.CloseObjects.{book_member, differs_member, explained
 use Rattle.zvt_report.specs.Differing.{closing_at}
 use Rattle.zvt_report.specs.Day.{DayValue}
 use Rattle.zvt_report.specs.Kinds.{kind_of}
+pub use Rattle.zvt_report.specs.Kinds.{message_at}
 use Rattle.zvt_report.specs.Laws.{booked_total}
-use Rattle.zvt_report.specs.Looks.{looks, weight_of}
 use Rattle.zvt_report.specs.Members.{object_text}
 use Rattle.zvt_report.specs.Places.{counted, no_counts, payment_of, payments_in, place_after, reversed_by}
 use Rattle.zvt_report.specs.Sums.{reversed_count, unclear_reversals, unclear_total}
 use Rattle.zvt_report.specs.TimeMembers.{back_member, bad_member, from_member, maybe_time, to_member}
 use Rattle.zvt_report.specs.Times.{no_times}
 use Rattle.zvt_report.specs.Words.{ending_of}
-use Rattle.zvt_report.specs.declared.cases.Case.TheVariants as case_of
 use Rattle.zvt_report.specs.declared.cases.Look.{Look}
 use Rattle.zvt_report.specs.declared.closings.Closing.{Closing}
 use Rattle.zvt_report.specs.declared.kinds.OrderKind.{OrderKind}
@@ -245,48 +243,11 @@ row_line books place row message closing = row_line_as row.order books place row
 
 -- ---- all rows
 
--- the message of an order that has none
-abbrev pub no_message : OrderMessage
-no_message = record { high = 0; low = 0; amount = None; receipt = None }
-
-abbrev pub message_at : List OrderMessage → (place : ℕ) → OrderMessage
-message_at messages place = elim (slice_get messages place) [ None ↦ no_message | Some message ↦ message ]
-
 -- a line for each row, after these counts
 abbrev pub rows_json : DayValue → List OrderMessage → List (Option Closing) → Counts → List OrderRow → List ℕ
 rows_json books messages closings c [] = []
 rows_json books messages closings c (row ∷ rows) =
     row_line books (place_after c row) row (message_at messages c.orders) (closing_at closings c.orders) ++ rows_json books messages closings (counted c row) rows
-
--- ---- looks
-
--- the number of the payment at this place, if the order there is one
-abbrev pub payment_at : (place : ℕ) → List OrderRow → Sent → Option ℕ
-payment_at place rows (sent.Pay amount) = Some (payments_in (take place rows) + 1)
-payment_at place rows _ = None
-
--- the number of the order that paid the same amount again
-abbrev pub again : Option ℕ → Option Member
-again place = option_map (λ (p : ℕ). record { name = name.Again; value = value.Count (p + 1) }) place
-
-abbrev pub look_members : List OrderRow → Look → OrderRow → List (Option Member)
-look_members rows look row =
-    again look.again
-    ∷ said_as name.Case (value.Word (word.Case look.case))
-    ∷ maybe_cause name.Cause (cause_of row.outcome)
-    ∷ lines row
-    ∷ count name.Order (look.order + 1)
-    ∷ maybe_count name.Payment (payment_at look.order rows row.order)
-    ∷ maybe_time row.time
-    ∷ said_as name.Weight (value.Word (word.Weight (weight_of look.case)))
-    ∷ []
-
--- the line of a look at one of these rows
-abbrev pub look_line : List OrderRow → Look → List ℕ
-look_line rows look = elim (slice_get rows look.order) [ None ↦ [] | Some row ↦ object_text object_of.Look (look_members rows look row) ]
-
-abbrev pub looks_json : List OrderRow → List Look → List ℕ
-looks_json rows looks = flat_map (look_line rows) looks
 
 -- ---- the summary
 
@@ -326,11 +287,6 @@ summary_members tally currency times books messages looks =
 
 abbrev pub summary_line : Tally → (currency : Option ℕ) → Times → DayValue → List OrderMessage → List Look → List ℕ
 summary_line tally currency times books messages looks = object_text object_of.Summary (summary_members tally currency times books messages looks)
-
--- the summary, then the looks, then the orders
-abbrev pub report_json : Tally → (currency : Option ℕ) → Times → DayValue → List OrderMessage → List (Option Closing) → List Look → List ℕ
-report_json tally currency times books messages closings looks =
-    summary_line tally currency times books messages looks ++ looks_json books.orders looks ++ rows_json books messages closings no_counts books.orders
 
 -- ---- rows worked by hand
 
@@ -379,13 +335,6 @@ other_orders : let orders = a_row sent.Foreign 2 6 outcome.DayClosed None ∷ a_
 unfolding object_text digits escape_byte encode_with command_name meaning_of
 other_orders = refl
 
--- a payment that was made twice
-paid_twice : let orders = a_row (sent.Register None) 2 4 outcome.Registered None ∷ a_row (sent.Pay 3499) 6 8 (outcome.Unclear cause.Line) None ∷ a_row (sent.Pay 3499) 10 12 (outcome.Paid 21 None) None ∷ [] in
-    looks_json orders (record { case = case_of.PaymentUnclear; order = 1; again = Some 2 } ∷ [])
-    ≡ codes "{\"look\":{\"again\":3,\"case\":\"PaymentUnclear\",\"cause\":\"Line\",\"lines\":[6,8],\"order\":2,\"payment\":1,\"weight\":\"check\"}}\n"
-unfolding object_text digits escape_byte
-paid_twice = refl
-
 a_summary : summary_line (record { messages = 12; bad = 0 }) (Some 978) no_times (record { book = an_entry 1234 true doubt.No ∷ an_entry 500 false doubt.No ∷ []; unclear = (700, cause.Line) ∷ []; orders = [] }) [] []
     ≡ codes "{\"summary\":{\"bad\":0,\"booked\":2,\"currency\":\"0978\",\"looks\":0,\"messages\":12,\"net\":500,\"others\":0,\"reversals_unclear\":0,\"reversed\":1,\"total\":1734,\"unclear\":1,\"unclear_amount\":700}}\n"
 unfolding object_text digits escape_byte
@@ -395,11 +344,3 @@ a_summary = refl
 a_time : object_text object_of.Order (maybe_time (Some (moment 2026 11 28 8 14 3 250_000_000)) ∷ []) ≡ codes "{\"order\":{\"time\":\"2026-11-28T08:14:03.250Z\"}}\n"
 unfolding object_text escape_byte
 a_time = refl
-
--- the summary comes first, then the look, then the orders
-a_report : let orders = a_row (sent.Register None) 2 4 outcome.Registered None ∷ a_row (sent.Pay 3499) 6 8 (outcome.Unclear cause.Line) None ∷ a_row (sent.Pay 3499) 10 12 (outcome.Paid 21 None) None ∷ [] in
-    let book : List Entry = record { amount = 3499; trace = 21; receipt = None; reversed = false; doubt = doubt.No } ∷ [] in
-    report_json (record { messages = 24; bad = 0 }) (Some 978) no_times (record { book = book; unclear = (3499, cause.Line) ∷ []; orders = orders }) (a_message 0x00 None None ∷ a_message 0x01 (Some 3499) None ∷ a_message 0x01 (Some 3499) None ∷ []) [] (looks book [] orders)
-    ≡ codes "{\"summary\":{\"bad\":0,\"booked\":1,\"currency\":\"0978\",\"looks\":1,\"messages\":24,\"net\":3499,\"others\":0,\"reversals_unclear\":0,\"reversed\":0,\"total\":3499,\"unclear\":1,\"unclear_amount\":3499}}\n{\"look\":{\"again\":3,\"case\":\"PaymentUnclear\",\"cause\":\"Line\",\"lines\":[6,8],\"order\":2,\"payment\":1,\"weight\":\"check\"}}\n{\"order\":{\"control\":\"0600\",\"lines\":[2,4],\"order\":1,\"outcome\":\"completed\"}}\n{\"payment\":{\"amount\":3499,\"cause\":\"Line\",\"lines\":[6,8],\"order\":2,\"outcome\":\"unclear\",\"payment\":1}}\n{\"payment\":{\"amount\":3499,\"lines\":[10,12],\"order\":3,\"outcome\":\"paid\",\"payment\":2,\"trace\":21}}\n"
-unfolding object_text digits escape_byte encode_with command_name
-a_report = refl

@@ -50,8 +50,8 @@ skip_link = element A ((Class, codes "skip") ∷ (Href, codes "#look") ∷ []) (
 
 unfoldable pub sections : (name : List ℕ) → Option Money → Times → DayValue → List OrderMessage → List (Option Closing) → List Look → Html
 sections name money times books messages closings looks =
-    all (page_head name money times ∷ cards (decimals_of money) books messages ∷ looks_section (decimals_of money) books looks ∷ payments_section (decimals_of money) books
-    ∷ others_section (decimals_of money) books messages ∷ closings_section (decimals_of money) closings books.orders ∷ [])
+    all (page_head name money times ∷ cards (decimals_of money) books messages ∷ looks_section (decimals_of money) books closings messages looks
+    ∷ payments_section (decimals_of money) books ∷ others_section (decimals_of money) books messages ∷ closings_section (decimals_of money) closings books.orders ∷ [])
 
 -- the body of the page
 unfoldable pub page_of : (name : List ℕ) → Option Money → Tally → Times → DayValue → List OrderMessage → List (Option Closing) → List Look → (dialogue : Html) → Html

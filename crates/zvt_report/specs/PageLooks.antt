@@ -8,21 +8,26 @@ use Rattle.zvt_till.specs.declared.entries.Entry.{Entry}
 use Rattle.zvt_till.specs.declared.happenings.Sent.TheVariants.{CloseDay}
 use Rattle.zvt_till.specs.declared.outcomes.Cause.TheVariants.{Line}
 use Rattle.zvt_till.specs.declared.outcomes.Outcome.TheVariants.{Unclear}
+use Rattle.zvt_report.specs.Advices.{advice}
 use Rattle.zvt_report.specs.Day.{DayValue}
-use Rattle.zvt_report.specs.LookList.{entry_of, is_listed, row_at}
+use Rattle.zvt_report.specs.Facts.{facts_of}
+use Rattle.zvt_report.specs.LookList.{is_listed}
 use Rattle.zvt_report.specs.Looks.{weight_of}
 use Rattle.zvt_report.specs.PageParts.{from_to}
 use Rattle.zvt_report.specs.Phrases.{reason}
 use Rattle.zvt_report.specs.Times.{time_first}
 use Rattle.zvt_trace.specs.Marks.{moment}
-use Rattle.zvt_report.specs.Sentences.{account, advice, title}
+use Rattle.zvt_report.specs.Sentences.{about, account, title}
 use Rattle.zvt_report.specs.declared.cases.Case.{Case}
 use Rattle.zvt_report.specs.declared.cases.Case.TheVariants.{CloseUnclear}
 use Rattle.zvt_report.specs.declared.cases.Look.{Look}
 use Rattle.zvt_report.specs.declared.cases.Weight.{Weight}
 use Rattle.zvt_report.specs.declared.cases.Weight.TheVariants.{Act, Check}
+use Rattle.zvt_report.specs.declared.closings.Closing.{Closing}
 use Rattle.zvt_report.specs.declared.currencies.Decimals.{Decimals}
 use Rattle.zvt_report.specs.declared.currencies.Decimals.TheVariants.{Two}
+use Rattle.zvt_report.specs.declared.facts.Facts.{Facts}
+use Rattle.zvt_report.specs.declared.rows.OrderMessage.{OrderMessage}
 use Rattle.zvt_report.specs.declared.rows.OrderRow.{OrderRow}
 
 -- how urgent a case is: by a class, which gives a shape and a colour, and by a word
@@ -34,55 +39,54 @@ abbrev pub weight_word : Weight → List ℕ
 weight_word Act = codes "Act"
 weight_word Check = codes "Check"
 
-unfoldable pub title_part : Decimals → Option Entry → OrderRow → (again : Option OrderRow) → Case → Html
-title_part decimals entry row again case = leaf H3 [] (title decimals entry row again case)
+unfoldable pub title_part : Decimals → Facts → Case → Html
+title_part decimals facts case = leaf H3 [] (title decimals facts case)
 
 unfoldable pub lines_part : OrderRow → Html
 lines_part row = leaf Span (codes "at") (time_first row.time ++ codes "lines " ++ from_to row.first row.last)
 
-unfoldable pub account_part : Decimals → Option Entry → OrderRow → (again : Option OrderRow) → Case → Html
-account_part decimals entry row again case = leaf P (codes "why") (account decimals entry row again case)
+unfoldable pub account_part : Decimals → Facts → Case → Html
+account_part decimals facts case = leaf P (codes "why") (account decimals facts case)
 
-unfoldable pub advice_part : Decimals → Option Entry → OrderRow → (again : Option OrderRow) → Case → Html
-advice_part decimals entry row again case = leaf P (codes "do") (advice decimals entry row again case)
+unfoldable pub advice_part : Decimals → Facts → Case → Html
+advice_part decimals facts case = leaf P (codes "do") (advice decimals facts case)
 
 -- one order: its weight, a title, its lines, what happened and what to do
-unfoldable pub item : Decimals → Option Entry → OrderRow → (again : Option OrderRow) → Case → Html
-item decimals entry row again case =
+unfoldable pub item : Decimals → Facts → Case → Html
+item decimals facts case =
     element Li (class_of (weight_class (weight_of case)))
-    (all (leaf Span (codes "sev") (weight_word (weight_of case)) ∷ title_part decimals entry row again case ∷ lines_part row
-    ∷ account_part decimals entry row again case ∷ advice_part decimals entry row again case ∷ []))
+    (all (leaf Span (codes "sev") (weight_word (weight_of case)) ∷ title_part decimals facts case ∷ lines_part facts.row
+    ∷ account_part decimals facts case ∷ advice_part decimals facts case ∷ []))
 
-unfoldable pub item_of : Decimals → List Entry → List OrderRow → Look → Html
-item_of decimals book rows look =
-    elim (slice_get rows look.order) [ None ↦ nothing | Some row ↦ item decimals (entry_of book row.order) row (row_at rows look.again) look.case ]
+unfoldable pub item_of : Decimals → List Entry → List (Option Closing) → List OrderMessage → List OrderRow → Look → Html
+item_of decimals book closings messages rows look = elim (facts_of book closings messages rows look) [ None ↦ nothing | Some facts ↦ item decimals facts look.case ]
 
 -- an order is listed in the round of the urgent ones, or in the other one
-abbrev pub listed_item : Decimals → List Entry → List OrderRow → (urgent : Bool) → Look → Html
-listed_item decimals book rows urgent look = cond (is_listed urgent look.case) (item_of decimals book rows look) nothing
+abbrev pub listed_item : Decimals → List Entry → List (Option Closing) → List OrderMessage → List OrderRow → (urgent : Bool) → Look → Html
+listed_item decimals book closings messages rows urgent look = cond (is_listed urgent look.case) (item_of decimals book closings messages rows look) nothing
 
-abbrev pub items : Decimals → List Entry → List OrderRow → (urgent : Bool) → List Look → Html
-items decimals book rows urgent [] = nothing
-items decimals book rows urgent (look ∷ looks) = both (listed_item decimals book rows urgent look) (items decimals book rows urgent looks)
+abbrev pub items : Decimals → List Entry → List (Option Closing) → List OrderMessage → List OrderRow → (urgent : Bool) → List Look → Html
+items decimals book closings messages rows urgent [] = nothing
+items decimals book closings messages rows urgent (look ∷ looks) = both (listed_item decimals book closings messages rows urgent look) (items decimals book closings messages rows urgent looks)
 
-abbrev pub items_or_none : Decimals → List Entry → List OrderRow → List Look → Html
-items_or_none decimals book rows [] = leaf P (codes "none") (codes "Nothing in this trace needs a look.")
-items_or_none decimals book rows (look ∷ looks) =
-    element Ol ((Class, codes "look") ∷ []) (both (items decimals book rows true (look ∷ looks)) (items decimals book rows false (look ∷ looks)))
+abbrev pub items_or_none : Decimals → List Entry → List (Option Closing) → List OrderMessage → List OrderRow → List Look → Html
+items_or_none decimals book closings messages rows [] = leaf P (codes "none") (codes "Nothing in this trace needs a look.")
+items_or_none decimals book closings messages rows (look ∷ looks) =
+    element Ol ((Class, codes "look") ∷ []) (both (items decimals book closings messages rows true (look ∷ looks)) (items decimals book closings messages rows false (look ∷ looks)))
 
 unfoldable pub look_heading : Html
 look_heading = element H2 ((Id, codes "look") ∷ []) (text (codes "Look at these"))
 
 -- the urgent ones first
-unfoldable pub looks_section : Decimals → DayValue → List Look → Html
-looks_section decimals books looks = both look_heading (items_or_none decimals books.book books.orders looks)
+unfoldable pub looks_section : Decimals → DayValue → List (Option Closing) → List OrderMessage → List Look → Html
+looks_section decimals books closings messages looks = both look_heading (items_or_none decimals books.book closings messages books.orders looks)
 
 -- ---- a row worked by hand
 
 abbrev an_end : OrderRow
 an_end = record { order = CloseDay; first = 10; last = 16; outcome = Unclear Line; approval = None; time = Some (moment 2026 11 28 18 30 1 0); card = None }
 
-an_item : render (item Two None an_end None CloseUnclear)
+an_item : render (item Two (about an_end None) CloseUnclear)
     ≡ codes "<li class=\"check\"><span class=\"sev\">Check</span><h3>End of day unclear</h3><span class=\"at\">18:30:01, lines 10-16</span>"
     ++ codes "<p class=\"why\">The end of day is unclear: the connection was lost.</p>"
     ++ codes "<p class=\"do\">If the terminal printed no end-of-day receipt, start the end of day again.</p></li>"

@@ -14,7 +14,7 @@ use Rattle.zvt_till.specs.declared.outcomes.Outcome.TheVariants.{Paid}
 use Rattle.zvt_report.specs.Amounts.{amount_text}
 use Rattle.zvt_report.specs.CardTexts.{card_or_nothing}
 use Rattle.zvt_report.specs.Day.{DayValue}
-use Rattle.zvt_report.specs.Kinds.{kind_of}
+use Rattle.zvt_report.specs.Kinds.{kind_at}
 use Rattle.zvt_report.specs.Objects.{amount_at, approved_of, entry_at, message_at, receipt_by, trace_by}
 use Rattle.zvt_report.specs.OtherTable.{money_name, reversal_name}
 use Rattle.zvt_report.specs.PageParts.{amount_cell, column, lines_cell, outcome_cell, receipt_cell, time_cell, time_heading, trace_cell}
@@ -106,9 +106,6 @@ unfoldable pub other_of : (timed : Bool) → OrderKind → Decimals → List Ent
 other_of timed Reversal decimals book place row message = reversal_row timed decimals book place row message
 other_of timed OtherMoney decimals book place row message = money_row timed decimals row message
 other_of timed _ decimals book place row message = nothing
-
-abbrev pub kind_at : List OrderMessage → (place : ℕ) → OrderRow → OrderKind
-kind_at messages place row = kind_of row.order (message_at messages place).high (message_at messages place).low
 
 abbrev pub other_rows : (timed : Bool) → Decimals → List Entry → List OrderMessage → Counts → List OrderRow → Html
 other_rows timed decimals book messages c [] = nothing

@@ -1,6 +1,7 @@
 -- The parts of sentences about an order.
 use Rattle.std.specs.Prelude.{ℕ, Bool, true, false, List, [], ◌++◌, codes, Option, Some, None, option_map}
 use Rattle.std.specs.Fmt.{decimal}
+use Rattle.std.specs.Option.{option_and_then}
 use Rattle.hex.specs.Hex.{encode_upper}
 use Rattle.zvt_text.specs.Numbers.{zero_padded}
 use Rattle.zvt_text.specs.Results.{result_words}
@@ -11,6 +12,7 @@ use Rattle.zvt_till.specs.declared.happenings.Sent.TheVariants.{Register, Pay, R
 use Rattle.zvt_till.specs.declared.outcomes.Outcome.{Outcome}
 use Rattle.zvt_till.specs.declared.outcomes.Outcome.TheVariants.{Registered, Paid, Declined, Refused, Aborted, Unclear, Reversed, DayClosed}
 use Rattle.zvt_report.specs.Amounts.{amount_text}
+use Rattle.zvt_report.specs.Apart.{apart_part, card_part}
 use Rattle.zvt_report.specs.Objects.{receipt_by}
 use Rattle.zvt_report.specs.declared.currencies.Decimals.{Decimals}
 use Rattle.zvt_report.specs.declared.rows.Approval.{Approval}
@@ -95,15 +97,55 @@ abbrev pub paid_numbers : Outcome → Option (ℕ × Option (List ℕ))
 paid_numbers (Paid trace receipt) = Some (trace, receipt)
 paid_numbers _ = None
 
-unfoldable pub paid_again_by : Decimals → (line : ℕ) → Option ℕ → Option (ℕ × Option (List ℕ)) → List ℕ
-paid_again_by decimals line amount None = codes " A later payment of " ++ amount_or_dash decimals amount ++ codes " (line " ++ decimal line ++ codes ") is unclear, too."
-paid_again_by decimals line amount (Some numbers) =
-    codes " Then " ++ amount_or_dash decimals amount ++ codes " was paid again" ++ numbers_part line (Some numbers.0) numbers.1 ++ codes "."
+-- with one card, and how much later, as far as is known
+unfoldable pub likeness : OrderRow → (again : OrderRow) → List ℕ
+likeness row again = card_part row again ++ apart_part (codes "later") row again
+
+unfoldable pub paid_again_by : Decimals → Option ℕ → OrderRow → (again : OrderRow) → Option (ℕ × Option (List ℕ)) → List ℕ
+paid_again_by decimals amount row again None =
+    codes " A later payment of " ++ amount_or_dash decimals amount ++ codes " (line " ++ decimal again.first ++ codes ") is unclear, too."
+paid_again_by decimals amount row again (Some numbers) =
+    codes " Then " ++ amount_or_dash decimals amount ++ codes " was paid again" ++ likeness row again ++ numbers_part again.first (Some numbers.0) numbers.1 ++ codes "."
 
 -- a later payment of the same amount
-unfoldable pub again_part : Decimals → Option ℕ → Option OrderRow → List ℕ
-again_part decimals amount None = []
-again_part decimals amount (Some again) = paid_again_by decimals again.first amount (paid_numbers again.outcome)
+unfoldable pub again_part : Decimals → Option ℕ → OrderRow → Option OrderRow → List ℕ
+again_part decimals amount row None = []
+again_part decimals amount row (Some again) = paid_again_by decimals amount row again (paid_numbers again.outcome)
+
+-- the end of day with this line counts the payment
+unfoldable pub counted_as_paid : Option ℕ → List ℕ
+counted_as_paid None = []
+counted_as_paid (Some line) = codes " The end of day (line " ++ decimal line ++ codes ") counts it as paid."
+
+-- ---- an approval that was repeated
+
+abbrev pub asking : (again : Bool) → List ℕ
+asking true = codes ". The till then asked the terminal to repeat its last receipt (line "
+asking false = codes ". The till then sent an order that moves no money (line "
+
+unfoldable pub confirmed_by : Decimals → Option ℕ → (asked_again : Bool) → OrderRow → List ℕ
+confirmed_by decimals amount asked_again row =
+    asking asked_again ++ decimal row.first ++ codes "), and the answer approves " ++ amount_or_dash decimals amount ++ approval_part row.approval
+
+unfoldable pub confirmed_part : Decimals → Option ℕ → (asked_again : Bool) → Option OrderRow → List ℕ
+confirmed_part decimals amount asked_again None = []
+confirmed_part decimals amount asked_again (Some row) = confirmed_by decimals amount asked_again row
+
+-- the receipt number of an approval
+abbrev pub receipt_of : Option OrderRow → Option (List ℕ)
+receipt_of None = None
+receipt_of (Some row) = option_and_then (λ (approval : Approval). approval.receipt) row.approval
+
+-- if the receipt is not one of an earlier payment
+abbrev pub unless_earlier : Option (List ℕ) → List ℕ
+unless_earlier None = codes "If the receipt is not that of an earlier payment"
+unless_earlier (Some receipt) = codes "If no earlier payment has receipt " ++ encode_upper receipt
+
+-- ---- an order beside the book
+
+abbrev pub of_amount : Decimals → Option ℕ → List ℕ
+of_amount decimals None = []
+of_amount decimals (Some amount) = codes " of " ++ amount_text decimals amount
 
 abbrev pub total_part : Bool → List ℕ
 total_part true = codes " The net total does not count the payment."

@@ -31,8 +31,8 @@ footer tally = count_text tally.messages (codes "message") ++ codes ", " ++ bad_
 unfoldable pub summary_part : Option Money → DayValue → List ℕ
 summary_part money books = summary_text money books ++ 10 ∷ []
 
-unfoldable pub looks_part : Decimals → DayValue → List Look → List ℕ
-looks_part decimals books looks = looks_text decimals books.book books.orders looks ++ 10 ∷ []
+unfoldable pub looks_part : Decimals → DayValue → List OrderMessage → List (Option Closing) → List Look → List ℕ
+looks_part decimals books messages closings looks = looks_text decimals books.book closings messages books.orders looks ++ 10 ∷ []
 
 unfoldable pub tables_part : Decimals → DayValue → List OrderMessage → List (Option Closing) → List ℕ
 tables_part decimals books messages closings =
@@ -41,7 +41,7 @@ tables_part decimals books messages closings =
 -- the sections, with empty lines between them
 abbrev pub report_in : Option Money → Tally → Times → DayValue → List OrderMessage → List (Option Closing) → List Look → List ℕ
 report_in money tally times books messages closings looks =
-    span_part times ++ summary_part money books ++ looks_part (decimals_of money) books looks ++ tables_part (decimals_of money) books messages closings ++ footer tally
+    span_part times ++ summary_part money books ++ looks_part (decimals_of money) books messages closings looks ++ tables_part (decimals_of money) books messages closings ++ footer tally
     ++ clock_notes times
 
 abbrev pub report_text : Tally → (currency : Option ℕ) → Times → DayValue → List OrderMessage → List (Option Closing) → List Look → List ℕ

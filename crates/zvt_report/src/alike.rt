@@ -75,7 +75,7 @@ fn standing_payment(book: &[Entry], counts: &Counts, row: &OrderRow) -> Option<S
 }
 
 /// Returns seconds that grow with time. Each month counts as 31 days.
-fn seconds(moment: &Moment) -> u64
+pub(crate) fn seconds(moment: &Moment) -> u64
     ensures { result ≡ seconds moment.now }
 {
     let days = (u64::from(moment.year) * 12 + u64::from(moment.month)) * 31 + u64::from(moment.day);

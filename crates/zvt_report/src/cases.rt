@@ -1,20 +1,18 @@
 //! The orders that a person should look at, and why.
 ghost use Rattle.std.specs.Prelude.{◌≡◌, ◌+◌, ◌<◌, ◌^◌, IfOk, length};
-ghost use Rattle.std.specs.List.{list_any, position};
-ghost use Rattle.zvt_report.specs.Looks.{alike_case, case_as, close_case, decides, decides_by, look_at, looks};
-ghost use Rattle.zvt_report.specs.Looks.{may_pay, other_payment, paid_again, paid_case, payment_case, refused_case};
-ghost use Rattle.zvt_report.specs.Looks.{reversal_case};
+ghost use Rattle.zvt_report.specs.Looks.{alike_case, case_as, close_case, confirmed_if, elsewhere_case, foreign_case};
+ghost use Rattle.zvt_report.specs.Looks.{look_at, look_with, looks, money_case, other_payment, paid_case};
+ghost use Rattle.zvt_report.specs.Looks.{payment_case, refused_case, reversal_case};
 
 use crate::alike::{is_marked, repeated_at, repeated_payments};
 use crate::closings::Closing;
 use crate::differing::differs_at;
-use crate::rows::{Approval, OrderRow};
+use crate::kinds::{OrderKind, kind_at};
+use crate::later_orders::{ALREADY_REVERSED, confirming, is_decided, paid_again};
+use crate::rows::{Approval, OrderMessage, OrderRow};
 use std::alloc::{AllocError, Global};
 use zvt_bcd::Amount;
 use zvt_till::{Entry, Outcome, Sent};
-
-/// The result code of a reversal if the terminal had reversed the payment before.
-const ALREADY_REVERSED: u8 = 0xB4;
 
 /// How urgent it is to look at an order.
 #[derive(Clone, Copy, Debug, PartialEq, Eq)]
@@ -45,6 +43,8 @@ impl Weight {
 pub enum Case {
     /// The terminal approved the payment, but the till does not know that it was completed.
     ApprovedNotCompleted,
+    /// It is unknown whether the payment took place, and the terminal repeated its approval in a later order.
+    ApprovalRepeated,
     /// The terminal approved another amount than the till asked for, perhaps with a tip.
     OtherAmount,
     /// It is unknown whether the payment took place, and no approval of it was heard.
@@ -57,6 +57,12 @@ pub enum Case {
     TakenBackBefore,
     /// The terminal did not take the payment back.
     ReversalRefused,
+    /// The terminal took back a payment that is not booked in the trace.
+    ReversalElsewhere,
+    /// It is unknown whether a payment that is not booked in the trace was taken back.
+    ElsewhereUnclear,
+    /// The outcome of an order that moves money beside the book is unknown.
+    OtherUnclear,
     /// It is unknown whether the day was closed.
     CloseUnclear,
     /// The terminal did not close the day.
@@ -76,12 +82,15 @@ impl Case {
     {
         match self {
             Case::ApprovedNotCompleted => "ApprovedNotCompleted",
+            Case::ApprovalRepeated => "ApprovalRepeated",
             Case::OtherAmount => "OtherAmount",
             Case::PaymentUnclear => "PaymentUnclear",
             Case::PaidAlike => "PaidAlike",
             Case::ReversalUnclear => "ReversalUnclear",
             Case::TakenBackBefore => "TakenBackBefore",
             Case::ReversalRefused => "ReversalRefused",
+            Case::ReversalElsewhere | Case::ElsewhereUnclear => "ReversalElsewhere",
+            Case::OtherUnclear => "OtherUnclear",
             Case::CloseUnclear => "CloseUnclear",
             Case::CloseRefused => "CloseRefused",
             Case::CloseDiffers => "CloseDiffers",
@@ -94,12 +103,16 @@ impl Case {
     {
         match self {
             Case::ApprovedNotCompleted
+            | Case::ApprovalRepeated
             | Case::OtherAmount
             | Case::ReversalUnclear
-            | Case::TakenBackBefore => Weight::Act,
+            | Case::TakenBackBefore
+            | Case::ElsewhereUnclear
+            | Case::OtherUnclear => Weight::Act,
             Case::PaymentUnclear
             | Case::PaidAlike
             | Case::ReversalRefused
+            | Case::ReversalElsewhere
             | Case::CloseUnclear
             | Case::CloseRefused
             | Case::CloseDiffers => Weight::Check,
@@ -116,47 +129,19 @@ pub struct Look {
     /// The index of the first later payment of the same amount that is booked or unclear, or of the earlier payment
     /// that this one is like.
     pub again: Option<usize>,
+    /// The index of the later order in which the terminal repeated the approval.
+    pub confirmed_by: Option<usize>,
 }
 
-/// Whether this order is a payment of this amount that is booked or unclear.
-fn may_pay(amount: Amount, row: &OrderRow) -> bool
-    ensures { result ≡ may_pay amount row.now }
+/// Returns why to look at an unclear payment, whose approval was repeated in a later order or not.
+fn payment_case(amount: Amount, confirmed: Option<usize>, approval: &Option<Approval>) -> Case
+    ensures { result ≡ payment_case amount confirmed approval.now }
 {
-    match (&row.order, &row.outcome) {
-        (Sent::Pay(own), Outcome::Paid { .. } | Outcome::Unclear(_)) => *own == amount,
-        _ => false,
-    }
-}
-
-/// Whether a reversal with this outcome changes the mark or the doubt of its entry.
-fn decides_by(outcome: &Outcome) -> bool
-    ensures { result ≡ decides_by outcome.now }
-{
-    match outcome {
-        Outcome::Unclear(_) | Outcome::Reversed => true,
-        Outcome::Refused(code) | Outcome::Aborted(code) => *code == ALREADY_REVERSED,
-        _ => false,
-    }
-}
-
-/// Whether this order is a reversal of the entry at this place that changes its mark or its doubt.
-fn decides(place: usize, row: &OrderRow) -> bool
-    ensures { result ≡ decides place row.now }
-{
-    match &row.order {
-        Sent::Reverse(own) => *own == place && decides_by(&row.outcome),
-        _ => false,
-    }
-}
-
-/// Returns why to look at an unclear payment.
-fn payment_case(amount: Amount, approval: &Option<Approval>) -> Case
-    ensures { result ≡ payment_case amount approval.now }
-{
-    match approval {
-        None => Case::PaymentUnclear,
-        Some(approval) if approval.amount == amount => Case::ApprovedNotCompleted,
-        Some(_) => Case::OtherAmount,
+    match (approval, confirmed) {
+        (None, None) => Case::PaymentUnclear,
+        (None, Some(_)) => Case::ApprovalRepeated,
+        (Some(approval), _) if approval.amount == amount => Case::ApprovedNotCompleted,
+        (Some(_), _) => Case::OtherAmount,
     }
 }
 
@@ -211,86 +196,118 @@ fn alike_case(repeats: Option<usize>) -> Option<Case>
     }
 }
 
-/// Returns why to look at a payment, which repeats an earlier one or not.
+/// Returns why to look at a payment. It repeats an earlier one or not, and its approval was repeated in a later order
+/// or not.
 fn paid_case(
     amount: Amount,
     repeats: Option<usize>,
+    confirmed: Option<usize>,
     approval: &Option<Approval>,
     outcome: &Outcome,
 ) -> Option<Case>
-    ensures { result ≡ paid_case amount repeats approval.now outcome.now }
+    ensures { result ≡ paid_case amount repeats confirmed approval.now outcome.now }
 {
     match outcome {
-        Outcome::Unclear(_) => Some(payment_case(amount, approval)),
+        Outcome::Unclear(_) => Some(payment_case(amount, confirmed, approval)),
         Outcome::Paid { .. } => alike_case(repeats),
         _ => None,
     }
 }
 
-/// Returns why to look at an order, given the book and the later orders. `differs` says whether the total of an end of
-/// day differs from the book, and `repeats` which payment a payment repeats.
+/// Returns why to look at a reversal of a payment that is not in the trace.
+fn elsewhere_case(outcome: &Outcome) -> Option<Case>
+    ensures { result ≡ elsewhere_case outcome.now }
+{
+    match outcome {
+        Outcome::Unclear(_) => Some(Case::ElsewhereUnclear),
+        Outcome::DayClosed => Some(Case::ReversalElsewhere),
+        _ => None,
+    }
+}
+
+/// Returns why to look at another order that moves money.
+fn money_case(outcome: &Outcome) -> Option<Case>
+    ensures { result ≡ money_case outcome.now }
+{
+    match outcome {
+        Outcome::Unclear(_) => Some(Case::OtherUnclear),
+        _ => None,
+    }
+}
+
+/// Returns why to look at an order of this kind that the book does not know.
+fn foreign_case(kind: OrderKind, outcome: &Outcome) -> Option<Case>
+    ensures { result ≡ foreign_case kind outcome.now }
+{
+    match kind {
+        OrderKind::Reversal => elsewhere_case(outcome),
+        OrderKind::OtherMoney => money_case(outcome),
+        OrderKind::Payment | OrderKind::Close | OrderKind::Plain => None,
+    }
+}
+
+/// Returns why to look at an order of this kind, given the book and the later orders. `differs` says whether the total
+/// of an end of day differs from the book, `repeats` which payment a payment repeats, and `confirmed` which later order
+/// repeated its approval.
 fn case_of(
     book: &[Entry],
     differs: bool,
     repeats: Option<usize>,
+    confirmed: Option<usize>,
+    kind: OrderKind,
     row: &OrderRow,
     later: &[OrderRow],
 ) -> Option<Case>
-    ensures { result ≡ case_as book.now differs repeats later.now row.now.approval row.now.outcome row.now.order }
+    ensures { result ≡ case_as book.now differs repeats confirmed kind later.now row.now.approval row.now.outcome
+        row.now.order }
 {
     match &row.order {
-        Sent::Pay(amount) => paid_case(*amount, repeats, &row.approval, &row.outcome),
+        Sent::Pay(amount) => { paid_case(*amount, repeats, confirmed, &row.approval, &row.outcome) }
         Sent::Reverse(place) => {
             let decided = is_decided(*place, later);
             reversal_case(book, *place, decided, &row.outcome)
         }
         Sent::CloseDay => close_case(differs, &row.outcome),
+        Sent::Foreign => foreign_case(kind, &row.outcome),
         _ => None,
     }
 }
 
-/// Whether one of these orders is a reversal of the entry at this place that changes its mark or its doubt.
-pub(crate) fn is_decided(place: usize, rows: &[OrderRow]) -> bool
-    ensures { result ≡ list_any (decides place) rows.now }
-{
-    rows.iter().any(|row| decides(place, row))
-}
-
-/// Returns the index of the first of these orders that is a payment of this amount and is booked or unclear.
-fn first_paid(amount: Amount, rows: &[OrderRow]) -> Option<usize>
-    ensures { result ≡ position (may_pay amount) rows.now }
-{
-    rows.iter().position(|row| may_pay(amount, row))
-}
-
-/// Returns the place of the first later payment of the same amount that is booked or unclear. The first later order has
-/// this place.
-fn paid_again(order: &Sent, place: usize, later: &[OrderRow]) -> Option<usize>
-    requires { place + length later.now < 2 ^ 64 }
-    ensures { result ≡ paid_again order.now place later.now }
-{
-    let Sent::Pay(amount) = order else {
-        return None;
-    };
-    let skipped = first_paid(*amount, later)?;
-    Some(place + skipped)
-}
-
-/// Returns the place of the other payment of a case: the one that it repeats, or the first later one. The first later
-/// order has this place.
-fn other_payment(
-    case: Case,
-    repeats: Option<usize>,
-    order: &Sent,
-    place: usize,
-    later: &[OrderRow],
-) -> Option<usize>
-    requires { place + length later.now < 2 ^ 64 }
-    ensures { result ≡ other_payment case repeats (paid_again order.now place later.now) }
+/// Returns the place of the other payment of a case: the one that it repeats, or the first later one.
+fn other_payment(case: Case, repeats: Option<usize>, again: Option<usize>) -> Option<usize>
+    ensures { result ≡ other_payment case repeats again }
 {
     match case {
         Case::PaidAlike => repeats,
-        _ => paid_again(order, place, later),
+        _ => again,
+    }
+}
+
+/// Returns the place of the order that repeated the approval, if that is the case.
+fn confirmed_if(case: Case, confirmed: Option<usize>) -> Option<usize>
+    ensures { result ≡ confirmed_if case confirmed }
+{
+    match case {
+        Case::ApprovalRepeated => confirmed,
+        _ => None,
+    }
+}
+
+/// Returns a look in this case at the order of this place.
+fn look_with(
+    place: usize,
+    repeats: Option<usize>,
+    confirmed: Option<usize>,
+    again: Option<usize>,
+    case: Case,
+) -> Look
+    ensures { result ≡ look_with place repeats confirmed again case }
+{
+    Look {
+        case,
+        order: place,
+        again: other_payment(case, repeats, again),
+        confirmed_by: confirmed_if(case, confirmed),
     }
 }
 
@@ -298,38 +315,42 @@ fn other_payment(
 fn look_at(
     book: &[Entry],
     closings: &[Option<Closing>],
+    messages: &[OrderMessage],
     repeated: &[Option<usize>],
     place: usize,
     row: &OrderRow,
     later: &[OrderRow],
 ) -> Option<Look>
     requires { place + length later.now + 1 < 2 ^ 64 }
-    ensures { result ≡ look_at book.now closings.now repeated.now place row.now later.now }
+    ensures { result ≡ look_at book.now closings.now messages.now repeated.now place row.now later.now }
 {
+    let differs = differs_at(closings, place);
     let repeats = repeated_at(repeated, place);
-    let case = case_of(book, differs_at(closings, place), repeats, row, later)?;
-    Some(Look {
-        case,
-        order: place,
-        again: other_payment(case, repeats, &row.order, place + 1, later),
-    })
+    let confirmed = confirming(&row.order, messages, place + 1, later);
+    let kind = kind_at(messages, place, row);
+    let case = case_of(book, differs, repeats, confirmed, kind, row, later)?;
+    let again = paid_again(&row.order, place + 1, later);
+    Some(look_with(place, repeats, confirmed, again, case))
 }
 
-/// Returns the orders that a person should look at, in the order of their rows. Fails only if memory runs out.
+/// Returns the orders that a person should look at, in the order of their rows. `messages` has the message of each
+/// order. Fails only if memory runs out.
 pub fn looks(
     alloc: Global,
     book: &[Entry],
     closings: &[Option<Closing>],
+    messages: &[OrderMessage],
     rows: &[OrderRow],
 ) -> Result<Vec<Look>, AllocError>
-    ensures { IfOk result (λ found. found.items ≡ looks book.now closings.now rows.now) }
+    ensures { IfOk result (λ found. found.items ≡ looks book.now closings.now messages.now rows.now) }
 {
     let repeated = repeated_payments(alloc, book, rows)?;
     let mut found = Vec::new(alloc);
     let mut rest = rows;
     let mut place = 0;
     'rows: while let [row, later @ ..] = rest {
-        if let Some(look) = look_at(book, closings, repeated.as_slice(), place, row, later) {
+        let repeats = repeated.as_slice();
+        if let Some(look) = look_at(book, closings, messages, repeats, place, row, later) {
             found.push(look)?;
         }
         rest = later;

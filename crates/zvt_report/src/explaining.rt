@@ -5,7 +5,7 @@ ghost use Rattle.zvt_report.specs.Explaining.{added_by, at_once, explain, explai
 ghost use Rattle.zvt_report.specs.Explaining.{money_sign, open_item, reversal_item, taken_by};
 ghost use Rattle.zvt_report.specs.Looks.{decides};
 
-use crate::cases::is_decided;
+use crate::later_orders::is_decided;
 use crate::parts::{amount_at, approved_of};
 use crate::rows::{OrderMessage, OrderRow};
 use zvt_bcd::Amount;

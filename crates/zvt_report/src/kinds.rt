@@ -1,7 +1,9 @@
 //! The kinds of orders in a report.
 ghost use Rattle.std.specs.Prelude.{◌≡◌};
-ghost use Rattle.zvt_report.specs.Kinds.{foreign_kind, kind_of};
+ghost use Rattle.zvt_report.specs.Kinds.{foreign_kind, kind_at, kind_of};
 
+use crate::objects::message_at;
+use crate::rows::{OrderMessage, OrderRow};
 use zvt_till::Sent;
 
 /// The kind of an order in a report.
@@ -45,4 +47,12 @@ pub(crate) fn kind_of(order: &Sent, high: u8, low: u8) -> OrderKind
         Sent::Foreign => foreign_kind(high, low),
         Sent::Register(_) | Sent::Cancel => OrderKind::Plain,
     }
+}
+
+/// Returns the kind of the order with this row, which stands at this place.
+pub(crate) fn kind_at(messages: &[OrderMessage], place: usize, row: &OrderRow) -> OrderKind
+    ensures { result ≡ kind_at messages.now place row.now }
+{
+    let message = message_at(messages, place);
+    kind_of(&row.order, message.high, message.low)
 }

@@ -1,6 +1,6 @@
 //! Laws of every day and of every report, each stated as the contract of an empty function.
 ghost use Rattle.zvt_report.specs.Laws.{DoubtsAreLeftOpen, EachOrderHasARow, SameBooks, SameMarks, SumsMakeBooked};
-ghost use Rattle.zvt_report.specs.Looks.{EachPaymentIsLookedAt, EachReversalIsLookedAt};
+ghost use Rattle.zvt_report.specs.Looks.{EachOtherIsLookedAt, EachPaymentIsLookedAt, EachReversalIsLookedAt};
 ghost use Rattle.zvt_report.specs.Naming.{ReversalsNameEntries};
 ghost use Rattle.zvt_report.specs.Reported.{EachOrderHasAMessage, EachReversalNamesAnEntry, SameBooksAsAudit};
 ghost use Rattle.zvt_report.specs.Page.{ReportsAreDocuments};
@@ -38,6 +38,11 @@ pub fn each_payment_is_looked_at()
 /// A person is told to look at each unclear reversal that no later one of its entry decides, once each.
 pub fn each_reversal_is_looked_at()
     ensures { EachReversalIsLookedAt }
+{}
+
+/// A person is told to look at each unclear order that moves money beside the book, once each.
+pub fn each_other_is_looked_at()
+    ensures { EachOtherIsLookedAt }
 {}
 
 /// If each reversal of a day names an entry of the book, the reversal of an entry is unclear exactly if one was left

@@ -1,8 +1,10 @@
 //! The report of a trace: what became of each order of a till, and the book that is left.
 #![tactic(auto)]
 
+mod advices;
 mod alike;
 mod amounts;
+mod apart;
 mod books;
 mod card_texts;
 mod card_totals;
@@ -12,16 +14,21 @@ mod close_object;
 mod close_table;
 mod closings;
 mod columns;
+mod confirmations;
 mod currencies;
 mod day;
 mod dialogue;
+mod differences;
 mod differing;
 mod endings;
 mod explaining;
+mod facts;
 mod form;
 mod kinds;
+mod later_orders;
 pub mod laws;
 mod look_list;
+mod look_objects;
 mod member_orders;
 mod members;
 mod naming;
@@ -41,6 +48,7 @@ mod parts;
 mod payment_table;
 mod phrases;
 mod places;
+mod quoting;
 mod report;
 mod reporter;
 mod rows;

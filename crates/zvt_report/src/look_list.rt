@@ -1,36 +1,22 @@
 //! Writes the orders that a person should look at.
 ghost use Rattle.std.specs.Prelude.{◌≡◌, ◌++◌, ◌≤◌, ◌^◌, IfOk, OnOk};
-ghost use Rattle.zvt_report.specs.LookList.{account_lines, advice_lines, entry_of, is_listed, is_urgent, lines_part};
+ghost use Rattle.zvt_report.specs.LookList.{account_lines, advice_lines, is_listed, is_urgent, lines_part};
 ghost use Rattle.zvt_report.specs.LookList.{listed_after, listed_looks, look_head, look_of, look_text, looks_from};
-ghost use Rattle.zvt_report.specs.LookList.{looks_text, row_at, step_text, urgent_count, weight_text};
+ghost use Rattle.zvt_report.specs.LookList.{looks_text, step_text, urgent_count, weight_text};
 
+use crate::advices::advice;
 use crate::cases::{Case, Look, Weight};
+use crate::closings::Closing;
 use crate::columns::right;
 use crate::currencies::Decimals;
-use crate::rows::OrderRow;
-use crate::sentences::{account, advice, title};
+use crate::facts::{Facts, facts_of};
+use crate::rows::{OrderMessage, OrderRow};
+use crate::sentences::{account, title};
 use crate::times::time_first;
 use crate::wrapping::wrapped;
 use std::alloc::AllocError;
 use zvt_text::Text;
-use zvt_till::{Entry, Sent};
-
-/// Returns the payment that a reversal takes back.
-pub(crate) fn entry_of(book: &[Entry], order: &Sent) -> Option<Entry>
-    ensures { result ≡ entry_of book.now order.now }
-{
-    match order {
-        Sent::Reverse(place) => book.get(*place).copied(),
-        _ => None,
-    }
-}
-
-/// Returns the order at this place.
-pub(crate) fn row_at(rows: &[OrderRow], place: Option<usize>) -> Option<OrderRow>
-    ensures { result ≡ row_at rows.now place }
-{
-    rows.get(place?).copied()
-}
+use zvt_till::Entry;
 
 /// Writes how urgent a case is.
 #[tactic(auto, unfolding(crate::specs::LookList::weight_text))]
@@ -63,19 +49,17 @@ fn look_head(
     text: &mut Text,
     decimals: Decimals,
     number: u128,
-    entry: &Option<Entry>,
-    row: &OrderRow,
-    again: &Option<OrderRow>,
+    facts: &Facts,
     case: Case,
 ) -> Result<(), AllocError>
-    ensures { OnOk result (text.new ≡ text.old ++ look_head decimals number entry.now row.now again.now case) }
+    ensures { OnOk result (text.new ≡ text.old ++ look_head decimals number facts.now case) }
 {
     text.push(b'\n')?;
     right(text, 2, b"", number)?;
     text.word(b". ")?;
     weight(text, case.weight())?;
-    title(text, decimals, entry, row, again, case)?;
-    lines_part(text, row)
+    title(text, decimals, facts, case)?;
+    lines_part(text, &facts.row)
 }
 
 /// Writes what happened to an order.
@@ -105,19 +89,17 @@ fn look_text(
     note: &mut Text,
     decimals: Decimals,
     number: u128,
-    entry: &Option<Entry>,
-    row: &OrderRow,
-    again: &Option<OrderRow>,
+    facts: &Facts,
     case: Case,
 ) -> Result<(), AllocError>
-    ensures { OnOk result (text.new ≡ text.old ++ look_text decimals number entry.now row.now again.now case) }
+    ensures { OnOk result (text.new ≡ text.old ++ look_text decimals number facts.now case) }
 {
-    look_head(text, decimals, number, entry, row, again, case)?;
+    look_head(text, decimals, number, facts, case)?;
     note.clear();
-    account(note, decimals, entry, row, again, case)?;
+    account(note, decimals, facts, case)?;
     account_lines(text, note.bytes())?;
     note.clear();
-    advice(note, decimals, entry, row, again, case)?;
+    advice(note, decimals, facts, case)?;
     advice_lines(text, note.bytes())
 }
 
@@ -128,18 +110,19 @@ fn look_of(
     note: &mut Text,
     decimals: Decimals,
     book: &[Entry],
+    closings: &[Option<Closing>],
+    messages: &[OrderMessage],
     rows: &[OrderRow],
     number: u128,
     look: &Look,
 ) -> Result<(), AllocError>
-    ensures { OnOk result (text.new ≡ text.old ++ look_of decimals book.now rows.now number look.now) }
+    ensures { OnOk result (text.new ≡ text.old
+        ++ look_of decimals book.now closings.now messages.now rows.now number look.now) }
 {
-    let Some(row) = rows.get(look.order) else {
+    let Some(facts) = facts_of(book, closings, messages, rows, look) else {
         return Ok(());
     };
-    let entry = entry_of(book, &row.order);
-    let again = row_at(rows, look.again);
-    look_text(text, note, decimals, number, &entry, row, &again, look.case)
+    look_text(text, note, decimals, number, &facts, look.case)
 }
 
 /// Whether the case is urgent.
@@ -169,6 +152,8 @@ fn step(
     note: &mut Text,
     decimals: Decimals,
     book: &[Entry],
+    closings: &[Option<Closing>],
+    messages: &[OrderMessage],
     rows: &[OrderRow],
     urgent: bool,
     listed: u128,
@@ -176,12 +161,23 @@ fn step(
 ) -> Result<u128, AllocError>
     requires { listed ≤ 2 ^ 100 }
     ensures { IfOk result (λ after. (after ≡ listed_after urgent listed look.now)
-        × (text.new ≡ text.old ++ step_text decimals book.now rows.now urgent listed look.now)) }
+        × (text.new ≡ text.old
+        ++ step_text decimals book.now closings.now messages.now rows.now urgent listed look.now)) }
 {
     if !is_listed(urgent, look.case) {
         return Ok(listed);
     }
-    look_of(text, note, decimals, book, rows, listed + 1, look)?;
+    look_of(
+        text,
+        note,
+        decimals,
+        book,
+        closings,
+        messages,
+        rows,
+        listed + 1,
+        look,
+    )?;
     Ok(listed + 1)
 }
 
@@ -191,6 +187,8 @@ fn looks_from(
     note: &mut Text,
     decimals: Decimals,
     book: &[Entry],
+    closings: &[Option<Closing>],
+    messages: &[OrderMessage],
     rows: &[OrderRow],
     urgent: bool,
     before: u128,
@@ -198,12 +196,14 @@ fn looks_from(
 ) -> Result<(), AllocError>
     requires { before ≤ 2 ^ 64 }
     ensures { OnOk result (text.new ≡ text.old
-        ++ looks_from decimals book.now rows.now urgent before looks.now) }
+        ++ looks_from decimals book.now closings.now messages.now rows.now urgent before looks.now) }
 {
     let mut listed = before;
     let mut rest = looks;
     'looks: while let [look, later @ ..] = rest {
-        listed = step(text, note, decimals, book, rows, urgent, listed, look)?;
+        listed = step(
+            text, note, decimals, book, closings, messages, rows, urgent, listed, look,
+        )?;
         rest = later;
     }
     Ok(())
@@ -222,15 +222,22 @@ fn listed_looks(
     note: &mut Text,
     decimals: Decimals,
     book: &[Entry],
+    closings: &[Option<Closing>],
+    messages: &[OrderMessage],
     rows: &[OrderRow],
     looks: &[Look],
 ) -> Result<(), AllocError>
-    ensures { OnOk result (text.new ≡ text.old ++ listed_looks decimals book.now rows.now looks.now) }
+    ensures { OnOk result (text.new ≡ text.old
+        ++ listed_looks decimals book.now closings.now messages.now rows.now looks.now) }
 {
     let urgent = urgent_count(looks) as u128;
     text.word(b"Look at these\n")?;
-    looks_from(text, note, decimals, book, rows, true, 0, looks)?;
-    looks_from(text, note, decimals, book, rows, false, urgent, looks)
+    looks_from(
+        text, note, decimals, book, closings, messages, rows, true, 0, looks,
+    )?;
+    looks_from(
+        text, note, decimals, book, closings, messages, rows, false, urgent, looks,
+    )
 }
 
 /// Writes the looks, the urgent ones first. The sentences are put together in `note`, whose own text is lost.
@@ -239,14 +246,17 @@ pub(crate) fn looks_text(
     note: &mut Text,
     decimals: Decimals,
     book: &[Entry],
+    closings: &[Option<Closing>],
+    messages: &[OrderMessage],
     rows: &[OrderRow],
     looks: &[Look],
 ) -> Result<(), AllocError>
-    ensures { OnOk result (text.new ≡ text.old ++ looks_text decimals book.now rows.now looks.now) }
+    ensures { OnOk result (text.new ≡ text.old
+        ++ looks_text decimals book.now closings.now messages.now rows.now looks.now) }
 {
     if looks.is_empty() {
         text.word(b"Look at these: nothing\n")
     } else {
-        listed_looks(text, note, decimals, book, rows, looks)
+        listed_looks(text, note, decimals, book, closings, messages, rows, looks)
     }
 }

@@ -54,6 +54,7 @@ impl Object {
 /// The name of a member.
 #[derive(Clone, Copy, Debug, PartialEq, Eq)]
 pub(crate) enum Name {
+    Advice,
     Again,
     Amount,
     Approved,
@@ -65,6 +66,7 @@ pub(crate) enum Name {
     Case,
     Cause,
     Code,
+    ConfirmedBy,
     Control,
     Currency,
     Differs,
@@ -86,11 +88,13 @@ pub(crate) enum Name {
     ReversedBy,
     Stated,
     TakenBack,
+    Text,
     Time,
     TimeFrom,
     TimeTo,
     TimesBack,
     TimesBad,
+    Title,
     Total,
     Trace,
     Unclear,
@@ -108,6 +112,7 @@ impl Name {
         ensures { result.now ≡ name_text self }
     {
         match self {
+            Name::Advice => "advice",
             Name::Again => "again",
             Name::Amount => "amount",
             Name::Approved => "approved",
@@ -119,6 +124,7 @@ impl Name {
             Name::Case => "case",
             Name::Cause => "cause",
             Name::Code => "code",
+            Name::ConfirmedBy => "confirmed_by",
             Name::Control => "control",
             Name::Currency => "currency",
             Name::Differs => "differs",
@@ -140,11 +146,13 @@ impl Name {
             Name::ReversedBy => "reversed_by",
             Name::Stated => "stated",
             Name::TakenBack => "taken_back",
+            Name::Text => "text",
             Name::Time => "time",
             Name::TimeFrom => "time_from",
             Name::TimeTo => "time_to",
             Name::TimesBack => "times_back",
             Name::TimesBad => "times_bad",
+            Name::Title => "title",
             Name::Total => "total",
             Name::Trace => "trace",
             Name::Unclear => "unclear",
@@ -256,7 +264,7 @@ fn write_members(text: &mut Text, members: &[Option<Member>]) -> Result<(), Allo
 }
 
 /// Writes a member, with a comma before it if there is an earlier one.
-fn write_member(text: &mut Text, later: bool, member: &Member) -> Result<(), AllocError>
+pub(crate) fn write_member(text: &mut Text, later: bool, member: &Member) -> Result<(), AllocError>
     ensures { OnOk result (text.new ≡ text.old ++ member_text later member.now) }
 {
     write_comma(text, later)?;
@@ -265,7 +273,7 @@ fn write_member(text: &mut Text, later: bool, member: &Member) -> Result<(), All
 }
 
 /// Writes a comma if there is an earlier member.
-fn write_comma(text: &mut Text, later: bool) -> Result<(), AllocError>
+pub(crate) fn write_comma(text: &mut Text, later: bool) -> Result<(), AllocError>
     ensures { OnOk result (text.new ≡ text.old ++ comma_if later) }
 {
     if later {
@@ -275,7 +283,7 @@ fn write_comma(text: &mut Text, later: bool) -> Result<(), AllocError>
 }
 
 /// Writes the name of a member and a colon.
-fn write_name(text: &mut Text, name: Name) -> Result<(), AllocError>
+pub(crate) fn write_name(text: &mut Text, name: Name) -> Result<(), AllocError>
     ensures { OnOk result (text.new ≡ text.old ++ 34 ∷ name_text name ++ 34 ∷ 58 ∷ []) }
 {
     text.push(b'"')?;

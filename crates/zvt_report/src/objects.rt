@@ -1,27 +1,29 @@
 //! The report of a trace as JSON objects, one per line.
-ghost use Rattle.std.specs.Prelude.{◌≡◌, ◌++◌, ◌<◌, ◌^◌, OnOk, length};
-ghost use Rattle.zvt_report.specs.Members.{object_text};
-ghost use Rattle.zvt_report.specs.Objects.{again, look_line, look_members, looks_json, message_at};
-ghost use Rattle.zvt_report.specs.Objects.{one_if_other, order_line, others_from, payment_at, report_json};
-ghost use Rattle.zvt_report.specs.Objects.{row_line, rows_json, summary_line};
+ghost use Rattle.std.specs.Prelude.{◌≡◌, ◌++◌, OnOk};
+ghost use Rattle.zvt_report.specs.Currencies.{decimals_of, money_of};
+ghost use Rattle.zvt_report.specs.JsonReport.{report_json};
+ghost use Rattle.zvt_report.specs.Kinds.{message_at};
+ghost use Rattle.zvt_report.specs.LookObjects.{looks_json};
+ghost use Rattle.zvt_report.specs.Objects.{one_if_other, order_line, others_from, row_line, rows_json, summary_line};
 ghost use Rattle.zvt_report.specs.Places.{no_counts};
-ghost use Rattle.zvt_report.specs.declared.members.Object.TheVariants as object_of;
 
 use crate::books::DayBooks;
 use crate::cases::Look;
 use crate::close_object::close;
 use crate::closings::Closing;
+use crate::currencies::{decimals_of, money_of};
 use crate::differing::closing_at;
 use crate::kinds::{OrderKind, kind_of};
-use crate::members::{Member, Name, Object, Value, Word, write_object};
+use crate::look_objects::look_rows;
+use crate::members::{Name, Object, Value, write_object};
 use crate::order_objects::{other, payment, plain, reversal};
-use crate::parts::{cause_of, count, lines, maybe_cause, maybe_count, maybe_currency, said_as};
-use crate::places::{Counts, Place, payments_in};
+use crate::parts::{count, maybe_currency, said_as};
+use crate::places::{Counts, Place};
 use crate::rows::{OrderMessage, OrderRow};
 use crate::sums::{booked_total, net_total, reversed_count, unclear_reversals, unclear_total};
-use crate::time_members::{back_member, bad_member, from_member, maybe_time, to_member};
+use crate::time_members::{back_member, bad_member, from_member, to_member};
 use crate::times::Times;
-use std::alloc::AllocError;
+use std::alloc::{AllocError, Global};
 use zvt_bcd::Currency;
 use zvt_text::Text;
 use zvt_till::Sent;
@@ -30,6 +32,7 @@ use zvt_trace::Tally;
 /// Writes an object for the whole trace, then one per order that a person should look at, and then one per order.
 /// `messages` has the message of each order.
 pub(crate) fn write(
+    alloc: Global,
     text: &mut Text,
     tally: Tally,
     currency: Option<Currency>,
@@ -43,8 +46,30 @@ pub(crate) fn write(
         ++ report_json tally currency times.now books.now messages.now closings.now looks.now) }
 {
     summary(text, tally, currency, times, books, messages, looks)?;
-    look_rows(text, books.orders.as_slice(), looks)?;
+    look_lines(alloc, text, currency, books, messages, closings, looks)?;
     order_rows(text, books, messages, closings)
+}
+
+/// Writes one object per look.
+fn look_lines(
+    alloc: Global,
+    text: &mut Text,
+    currency: Option<Currency>,
+    books: &DayBooks,
+    messages: &[OrderMessage],
+    closings: &[Option<Closing>],
+    looks: &[Look],
+) -> Result<(), AllocError>
+    ensures { OnOk result (text.new ≡ text.old ++ looks_json (decimals_of (money_of currency)) books.now.book
+        closings.now messages.now books.now.orders looks.now) }
+{
+    let mut note = Text::new(alloc);
+    let decimals = decimals_of(&money_of(currency));
+    let book = books.book.as_slice();
+    let rows = books.orders.as_slice();
+    look_rows(
+        text, &mut note, decimals, book, closings, messages, rows, looks,
+    )
 }
 
 /// Writes the object of the whole trace.
@@ -125,68 +150,6 @@ pub(crate) fn others(rows: &[OrderRow], messages: &[OrderMessage]) -> usize
         rest = later;
     }
     found
-}
-
-/// Writes one object per look.
-fn look_rows(text: &mut Text, rows: &[OrderRow], looks: &[Look]) -> Result<(), AllocError>
-    ensures { OnOk result (text.new ≡ text.old ++ looks_json rows.now looks.now) }
-{
-    for look in looks {
-        look_row(text, rows, look)?;
-    }
-    Ok(())
-}
-
-/// Writes the object of a look at one of these rows.
-fn look_row(text: &mut Text, rows: &[OrderRow], look: &Look) -> Result<(), AllocError>
-    ensures { OnOk result (text.new ≡ text.old ++ look_line rows.now look.now) }
-{
-    match rows.get(look.order) {
-        Some(row) => write_look(text, rows, look, row),
-        None => Ok(()),
-    }
-}
-
-/// Writes the object of a look at this row.
-fn write_look(
-    text: &mut Text,
-    rows: &[OrderRow],
-    look: &Look,
-    row: &OrderRow,
-) -> Result<(), AllocError>
-    requires { look.now.order < length rows.now }
-    ensures { OnOk result (text.new ≡ text.old ++ object_text object_of.Look
-        (look_members rows.now look.now row.now)) }
-{
-    let members = [
-        again(look.again),
-        said_as(Name::Case, Value::Word(Word::Case(look.case))),
-        maybe_cause(Name::Cause, cause_of(&row.outcome)),
-        lines(row),
-        count(Name::Order, look.order as u64 + 1),
-        maybe_count(Name::Payment, payment_at(look.order, rows, &row.order)),
-        maybe_time(&row.time),
-        said_as(Name::Weight, Value::Word(Word::Weight(look.case.weight()))),
-    ];
-    write_object(text, Object::Look, &members)
-}
-
-/// Returns the member of the order that paid the same amount again, if there is one.
-fn again(place: Option<usize>) -> Option<Member>
-    ensures { result ≡ again place }
-{
-    said_as(Name::Again, Value::Count(u128::from(place? as u64) + 1))
-}
-
-/// Returns the number of the payment at this place, if the order there is one.
-fn payment_at(place: usize, rows: &[OrderRow], order: &Sent) -> Option<usize>
-    requires { place < length rows.now }
-    ensures { result ≡ payment_at place rows.now order.now }
-{
-    match order {
-        Sent::Pay(_) => Some(payments_in(&rows[..place]) + 1),
-        _ => None,
-    }
 }
 
 /// Writes one object per order.

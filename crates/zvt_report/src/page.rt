@@ -133,7 +133,7 @@ fn sections(
     let decimals = decimals_of(money);
     page_head(page, note, name, money, times)?;
     cards(page, note, decimals, books, messages)?;
-    looks_section(page, note, decimals, books, looks)?;
+    looks_section(page, note, decimals, books, closings, messages, looks)?;
     payments_section(page, note, decimals, books)?;
     others_section(page, note, decimals, books, messages)?;
     closings_section(page, note, decimals, closings, books.orders.as_slice())

@@ -5,13 +5,16 @@ ghost use Rattle.zvt_report.specs.PageLooks.{account_part, advice_part, item, it
 ghost use Rattle.zvt_report.specs.PageLooks.{lines_part, listed_item, look_heading, looks_section, title_part};
 ghost use Rattle.zvt_report.specs.PageLooks.{weight_class, weight_word};
 
+use crate::advices::advice;
 use crate::books::DayBooks;
 use crate::cases::{Case, Look, Weight};
+use crate::closings::Closing;
 use crate::currencies::Decimals;
-use crate::look_list::{entry_of, is_listed, row_at};
+use crate::facts::{Facts, facts_of};
+use crate::look_list::is_listed;
 use crate::page_parts::from_to;
-use crate::rows::OrderRow;
-use crate::sentences::{account, advice, title};
+use crate::rows::{OrderMessage, OrderRow};
+use crate::sentences::{account, title};
 use crate::times::time_first;
 use std::alloc::AllocError;
 use zvt_page::{Attribute, Element, end, escaped, leaf, start};
@@ -44,15 +47,13 @@ fn title_part(
     page: &mut Text,
     note: &mut Text,
     decimals: Decimals,
-    entry: &Option<Entry>,
-    row: &OrderRow,
-    again: &Option<OrderRow>,
+    facts: &Facts,
     case: Case,
 ) -> Result<(), AllocError>
-    ensures { OnOk result (page.new ≡ page.old ++ render (title_part decimals entry.now row.now again.now case)) }
+    ensures { OnOk result (page.new ≡ page.old ++ render (title_part decimals facts.now case)) }
 {
     note.clear();
-    title(note, decimals, entry, row, again, case)?;
+    title(note, decimals, facts, case)?;
     leaf(page, Element::H3, b"", note.bytes())
 }
 
@@ -74,15 +75,13 @@ fn account_part(
     page: &mut Text,
     note: &mut Text,
     decimals: Decimals,
-    entry: &Option<Entry>,
-    row: &OrderRow,
-    again: &Option<OrderRow>,
+    facts: &Facts,
     case: Case,
 ) -> Result<(), AllocError>
-    ensures { OnOk result (page.new ≡ page.old ++ render (account_part decimals entry.now row.now again.now case)) }
+    ensures { OnOk result (page.new ≡ page.old ++ render (account_part decimals facts.now case)) }
 {
     note.clear();
-    account(note, decimals, entry, row, again, case)?;
+    account(note, decimals, facts, case)?;
     leaf(page, Element::P, b"why", note.bytes())
 }
 
@@ -92,15 +91,13 @@ fn advice_part(
     page: &mut Text,
     note: &mut Text,
     decimals: Decimals,
-    entry: &Option<Entry>,
-    row: &OrderRow,
-    again: &Option<OrderRow>,
+    facts: &Facts,
     case: Case,
 ) -> Result<(), AllocError>
-    ensures { OnOk result (page.new ≡ page.old ++ render (advice_part decimals entry.now row.now again.now case)) }
+    ensures { OnOk result (page.new ≡ page.old ++ render (advice_part decimals facts.now case)) }
 {
     note.clear();
-    advice(note, decimals, entry, row, again, case)?;
+    advice(note, decimals, facts, case)?;
     leaf(page, Element::P, b"do", note.bytes())
 }
 
@@ -110,20 +107,18 @@ fn item(
     page: &mut Text,
     note: &mut Text,
     decimals: Decimals,
-    entry: &Option<Entry>,
-    row: &OrderRow,
-    again: &Option<OrderRow>,
+    facts: &Facts,
     case: Case,
 ) -> Result<(), AllocError>
-    ensures { OnOk result (page.new ≡ page.old ++ render (item decimals entry.now row.now again.now case)) }
+    ensures { OnOk result (page.new ≡ page.old ++ render (item decimals facts.now case)) }
 {
     let weight = case.weight();
     start(page, Element::Li, weight_class(weight), None)?;
     leaf(page, Element::Span, b"sev", weight_word(weight))?;
-    title_part(page, note, decimals, entry, row, again, case)?;
-    lines_part(page, note, row)?;
-    account_part(page, note, decimals, entry, row, again, case)?;
-    advice_part(page, note, decimals, entry, row, again, case)?;
+    title_part(page, note, decimals, facts, case)?;
+    lines_part(page, note, &facts.row)?;
+    account_part(page, note, decimals, facts, case)?;
+    advice_part(page, note, decimals, facts, case)?;
     end(page, Element::Li)
 }
 
@@ -134,17 +129,18 @@ fn item_of(
     note: &mut Text,
     decimals: Decimals,
     book: &[Entry],
+    closings: &[Option<Closing>],
+    messages: &[OrderMessage],
     rows: &[OrderRow],
     look: &Look,
 ) -> Result<(), AllocError>
-    ensures { OnOk result (page.new ≡ page.old ++ render (item_of decimals book.now rows.now look.now)) }
+    ensures { OnOk result (page.new ≡ page.old
+        ++ render (item_of decimals book.now closings.now messages.now rows.now look.now)) }
 {
-    let Some(row) = rows.get(look.order) else {
+    let Some(facts) = facts_of(book, closings, messages, rows, look) else {
         return Ok(());
     };
-    let entry = entry_of(book, &row.order);
-    let again = row_at(rows, look.again);
-    item(page, note, decimals, &entry, row, &again, look.case)
+    item(page, note, decimals, &facts, look.case)
 }
 
 /// Writes a look if it is listed in this round.
@@ -153,17 +149,19 @@ fn listed_item(
     note: &mut Text,
     decimals: Decimals,
     book: &[Entry],
+    closings: &[Option<Closing>],
+    messages: &[OrderMessage],
     rows: &[OrderRow],
     urgent: bool,
     look: &Look,
 ) -> Result<(), AllocError>
     ensures { OnOk result (page.new ≡ page.old
-        ++ render (listed_item decimals book.now rows.now urgent look.now)) }
+        ++ render (listed_item decimals book.now closings.now messages.now rows.now urgent look.now)) }
 {
     if !is_listed(urgent, look.case) {
         return Ok(());
     }
-    item_of(page, note, decimals, book, rows, look)
+    item_of(page, note, decimals, book, closings, messages, rows, look)
 }
 
 /// Writes the looks of one round.
@@ -172,15 +170,20 @@ fn items(
     note: &mut Text,
     decimals: Decimals,
     book: &[Entry],
+    closings: &[Option<Closing>],
+    messages: &[OrderMessage],
     rows: &[OrderRow],
     urgent: bool,
     looks: &[Look],
 ) -> Result<(), AllocError>
-    ensures { OnOk result (page.new ≡ page.old ++ render (items decimals book.now rows.now urgent looks.now)) }
+    ensures { OnOk result (page.new ≡ page.old
+        ++ render (items decimals book.now closings.now messages.now rows.now urgent looks.now)) }
 {
     let mut rest = looks;
     'looks: while let [look, later @ ..] = rest {
-        listed_item(page, note, decimals, book, rows, urgent, look)?;
+        listed_item(
+            page, note, decimals, book, closings, messages, rows, urgent, look,
+        )?;
         rest = later;
     }
     Ok(())
@@ -192,10 +195,13 @@ fn items_or_none(
     note: &mut Text,
     decimals: Decimals,
     book: &[Entry],
+    closings: &[Option<Closing>],
+    messages: &[OrderMessage],
     rows: &[OrderRow],
     looks: &[Look],
 ) -> Result<(), AllocError>
-    ensures { OnOk result (page.new ≡ page.old ++ render (items_or_none decimals book.now rows.now looks.now)) }
+    ensures { OnOk result (page.new ≡ page.old
+        ++ render (items_or_none decimals book.now closings.now messages.now rows.now looks.now)) }
 {
     if looks.is_empty() {
         return leaf(
@@ -206,8 +212,12 @@ fn items_or_none(
         );
     }
     start(page, Element::Ol, b"look", None)?;
-    items(page, note, decimals, book, rows, true, looks)?;
-    items(page, note, decimals, book, rows, false, looks)?;
+    items(
+        page, note, decimals, book, closings, messages, rows, true, looks,
+    )?;
+    items(
+        page, note, decimals, book, closings, messages, rows, false, looks,
+    )?;
     end(page, Element::Ol)
 }
 
@@ -228,11 +238,15 @@ pub(crate) fn looks_section(
     note: &mut Text,
     decimals: Decimals,
     books: &DayBooks,
+    closings: &[Option<Closing>],
+    messages: &[OrderMessage],
     looks: &[Look],
 ) -> Result<(), AllocError>
-    ensures { OnOk result (page.new ≡ page.old ++ render (looks_section decimals books.now looks.now)) }
+    ensures { OnOk result (page.new ≡ page.old
+        ++ render (looks_section decimals books.now closings.now messages.now looks.now)) }
 {
     look_heading(page)?;
     let book = books.book.as_slice();
-    items_or_none(page, note, decimals, book, books.orders.as_slice(), looks)
+    let rows = books.orders.as_slice();
+    items_or_none(page, note, decimals, book, closings, messages, rows, looks)
 }

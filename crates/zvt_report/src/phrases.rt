@@ -2,11 +2,13 @@
 ghost use Rattle.std.specs.Prelude.{◌≡◌, ◌++◌, OnOk, option_map};
 ghost use Rattle.zvt_till.specs.declared.entries.Entry.{Entry};
 ghost use Rattle.zvt_report.specs.Phrases.{again_part, amount_of, amount_or_dash, approval_part};
-ghost use Rattle.zvt_report.specs.Phrases.{approved_receipt, counted_part, entry_part, maybe_payment_at, numbers_part};
-ghost use Rattle.zvt_report.specs.Phrases.{own_receipt, paid_again_by, paid_numbers, payment_at, payment_name};
-ghost use Rattle.zvt_report.specs.Phrases.{reason, receipt_name, receipt_part, total_part, trace_part, twice_part};
+ghost use Rattle.zvt_report.specs.Phrases.{approved_receipt, counted_part, entry_part, likeness, maybe_payment_at};
+ghost use Rattle.zvt_report.specs.Phrases.{numbers_part, own_receipt, paid_again_by, paid_numbers, payment_at};
+ghost use Rattle.zvt_report.specs.Phrases.{payment_name, reason, receipt_name, receipt_part, total_part, trace_part};
+ghost use Rattle.zvt_report.specs.Phrases.{twice_part};
 
 use crate::amounts::amount;
+use crate::apart::{apart_part, card_part};
 use crate::columns::zeros;
 use crate::currencies::Decimals;
 use crate::parts::receipt_by;
@@ -135,7 +137,7 @@ pub(crate) fn receipt_name(text: &mut Text, receipt: &Option<[u8; 2]>) -> Result
 }
 
 /// Writes the receipt number of a payment, or that it is one.
-fn payment_name(text: &mut Text, receipt: &Option<[u8; 2]>) -> Result<(), AllocError>
+pub(crate) fn payment_name(text: &mut Text, receipt: &Option<[u8; 2]>) -> Result<(), AllocError>
     ensures { OnOk result (text.new ≡ text.old ++ payment_name receipt.now) }
 {
     match receipt {
@@ -243,26 +245,38 @@ pub(crate) fn paid_numbers(outcome: &Outcome) -> Option<(Trace, Option<[u8; 2]>)
     }
 }
 
-/// Writes how an amount was paid again at this line, with these numbers if the payment was booked.
+/// Writes whether a later payment was made with the same card, and how much later, as far as is known.
+#[tactic(auto, unfolding(crate::specs::Phrases::likeness))]
+fn likeness(text: &mut Text, row: &OrderRow, again: &OrderRow) -> Result<(), AllocError>
+    ensures { OnOk result (text.new ≡ text.old ++ likeness row.now again.now) }
+{
+    card_part(text, row, again)?;
+    apart_part(text, b"later", row, again)
+}
+
+/// Writes how an amount was paid again, with these numbers if the later payment was booked.
 #[tactic(auto, unfolding(crate::specs::Phrases::paid_again_by))]
 fn paid_again_by(
     text: &mut Text,
     decimals: Decimals,
-    line: u64,
     amount: &Option<Amount>,
+    row: &OrderRow,
+    again: &OrderRow,
     numbers: &Option<(Trace, Option<[u8; 2]>)>,
 ) -> Result<(), AllocError>
-    ensures { OnOk result (text.new ≡ text.old ++ paid_again_by decimals line amount.now numbers.now) }
+    ensures { OnOk result (text.new ≡ text.old
+        ++ paid_again_by decimals amount.now row.now again.now numbers.now) }
 {
     match numbers {
         Some((trace, receipt)) => {
             phrase(text, decimals, b" Then ", amount, b" was paid again")?;
-            numbers_part(text, line, &Some(*trace), receipt)?;
+            likeness(text, row, again)?;
+            numbers_part(text, again.first, &Some(*trace), receipt)?;
             text.push(b'.')
         }
         None => {
             phrase(text, decimals, b" A later payment of ", amount, b" (line ")?;
-            text.number(line)?;
+            text.number(again.first)?;
             text.word(b") is unclear, too.")
         }
     }
@@ -274,14 +288,15 @@ pub(crate) fn again_part(
     text: &mut Text,
     decimals: Decimals,
     amount: &Option<Amount>,
+    row: &OrderRow,
     again: &Option<OrderRow>,
 ) -> Result<(), AllocError>
-    ensures { OnOk result (text.new ≡ text.old ++ again_part decimals amount.now again.now) }
+    ensures { OnOk result (text.new ≡ text.old ++ again_part decimals amount.now row.now again.now) }
 {
     match again {
         Some(again) => {
             let numbers = paid_numbers(&again.outcome);
-            paid_again_by(text, decimals, again.first, amount, &numbers)
+            paid_again_by(text, decimals, amount, row, again, &numbers)
         }
         None => Ok(()),
     }

@@ -1,74 +1,155 @@
 //! Writes the sentences about an order that a person should look at: a title, what happened, and what to do.
 ghost use Rattle.std.specs.Prelude.{◌≡◌, ◌++◌, OnOk};
-ghost use Rattle.zvt_report.specs.Sentences.{account, advice, alike_account, alike_advice, approved_account};
-ghost use Rattle.zvt_report.specs.Sentences.{approved_advice, close_account, fixed_advice};
-ghost use Rattle.zvt_report.specs.Sentences.{other_amount_account, other_amount_advice};
-ghost use Rattle.zvt_report.specs.Sentences.{refused_account, reversal_account, taken_back_account, title};
-ghost use Rattle.zvt_report.specs.Sentences.{unclear_account, unclear_advice};
+ghost use Rattle.zvt_report.specs.Sentences.{account, alike_account, alike_payments, apart_from, approved_account};
+ghost use Rattle.zvt_report.specs.Sentences.{asked_of, charged_title, close_account, differs_account, differs_title};
+ghost use Rattle.zvt_report.specs.Sentences.{elsewhere_account, elsewhere_unclear_account, later_part, other_account};
+ghost use Rattle.zvt_report.specs.Sentences.{other_amount_account, other_amount_title, other_title, refused_account};
+ghost use Rattle.zvt_report.specs.Sentences.{repeated_account, reversal_account, taken_back_account, title};
+ghost use Rattle.zvt_report.specs.Sentences.{unclear_account};
 
+use crate::apart::apart_part;
 use crate::card_texts::card_or_dash;
 use crate::cases::Case;
+use crate::closings::Closing;
+use crate::confirmations::{confirmed_part, counted_as_paid, of_amount};
 use crate::currencies::Decimals;
-use crate::parts::{approved_of, receipt_by};
+use crate::differences::{distance_part, shares_part, totals_part};
+use crate::facts::Facts;
+use crate::other_table::money_name;
+use crate::parts::approved_of;
 use crate::phrases::{
-    again_part, amount_of, amount_or_dash, approval_part, approved_receipt, counted_part,
-    entry_part, maybe_payment_at, payment_at, phrase, reason, receipt_name, twice_part,
+    again_part, amount_of, amount_or_dash, approval_part, counted_part, entry_part,
+    maybe_payment_at, payment_at, payment_name, phrase, reason, twice_part,
 };
-use crate::rows::{Approval, OrderRow};
+use crate::rows::{OrderMessage, OrderRow};
 use std::alloc::AllocError;
 use zvt_bcd::Amount;
 use zvt_text::Text;
 use zvt_till::{Entry, Outcome};
 
-/// Writes the title of an order in this case. `entry` is the payment that a reversal takes back.
+/// Returns the amount of a payment, or of the payment that a reversal takes back.
+pub(crate) fn asked_of(facts: &Facts) -> Option<Amount>
+    ensures { result ≡ asked_of facts.now }
+{
+    amount_of(&facts.entry, &facts.row.order)
+}
+
+/// Writes the title of an unclear order that moves money beside the book.
+fn other_title(
+    text: &mut Text,
+    decimals: Decimals,
+    message: &OrderMessage,
+    row: &OrderRow,
+) -> Result<(), AllocError>
+    ensures { OnOk result (text.new ≡ text.old ++ other_title decimals message.now row.now) }
+{
+    text.word(b"Order")?;
+    of_amount(text, decimals, &message.amount.or(approved_of(row)))?;
+    text.word(b" unclear: ")?;
+    money_name(text, message.high, message.low)
+}
+
+/// Writes the title of a payment that may have been charged.
+fn charged_title(
+    text: &mut Text,
+    decimals: Decimals,
+    asked: &Option<Amount>,
+    again: &Option<OrderRow>,
+) -> Result<(), AllocError>
+    ensures { OnOk result (text.new ≡ text.old ++ charged_title decimals asked.now again.now) }
+{
+    phrase(text, decimals, b"", asked, b" may have been charged")?;
+    twice_part(text, again)
+}
+
+/// Writes the title of a payment if the terminal approved another amount.
+fn other_amount_title(
+    text: &mut Text,
+    decimals: Decimals,
+    asked: &Option<Amount>,
+    row: &OrderRow,
+) -> Result<(), AllocError>
+    ensures { OnOk result (text.new ≡ text.old ++ other_amount_title decimals asked.now row.now) }
+{
+    phrase(text, decimals, b"", asked, b" asked for, ")?;
+    amount_or_dash(text, decimals, &approved_of(row))?;
+    text.word(b" approved")
+}
+
+/// Writes the title of an end of day whose total differs from the book.
+fn differs_title(
+    text: &mut Text,
+    decimals: Decimals,
+    closing: &Option<Closing>,
+) -> Result<(), AllocError>
+    ensures { OnOk result (text.new ≡ text.old ++ differs_title decimals closing.now) }
+{
+    text.word(b"End of day differs")?;
+    distance_part(text, decimals, closing)
+}
+
+/// Writes the title of an order in this case.
 pub(crate) fn title(
     text: &mut Text,
     decimals: Decimals,
-    entry: &Option<Entry>,
-    row: &OrderRow,
-    again: &Option<OrderRow>,
+    facts: &Facts,
     case: Case,
 ) -> Result<(), AllocError>
-    ensures { OnOk result (text.new ≡ text.old ++ title decimals entry.now row.now again.now case) }
+    ensures { OnOk result (text.new ≡ text.old ++ title decimals facts.now case) }
 {
-    let asked = &amount_of(entry, &row.order);
+    let asked = &asked_of(facts);
     match case {
-        Case::ApprovedNotCompleted => {
-            phrase(text, decimals, b"", asked, b" may have been charged")?;
-            twice_part(text, again)
+        Case::ApprovedNotCompleted | Case::ApprovalRepeated => {
+            charged_title(text, decimals, asked, &facts.again)
         }
-        Case::OtherAmount => {
-            phrase(text, decimals, b"", asked, b" asked for, ")?;
-            amount_or_dash(text, decimals, &approved_of(row))?;
-            text.word(b" approved")
-        }
+        Case::OtherAmount => other_amount_title(text, decimals, asked, &facts.row),
         Case::PaymentUnclear => phrase(text, decimals, b"Payment of ", asked, b" unclear"),
         Case::PaidAlike => phrase(text, decimals, b"", asked, b" paid twice with one card"),
         Case::ReversalUnclear => phrase(text, decimals, b"Reversal of ", asked, b" unclear"),
         Case::TakenBackBefore => phrase(text, decimals, b"", asked, b" already taken back"),
         Case::ReversalRefused => phrase(text, decimals, b"Reversal of ", asked, b" not done"),
+        Case::ReversalElsewhere => text.word(b"Reversal of a payment that is not in this trace"),
+        Case::ElsewhereUnclear => {
+            text.word(b"Reversal of a payment that is not in this trace unclear")
+        }
+        Case::OtherUnclear => other_title(text, decimals, &facts.message, &facts.row),
         Case::CloseUnclear => text.word(b"End of day unclear"),
         Case::CloseRefused => text.word(b"Day not closed"),
-        Case::CloseDiffers => text.word(b"End of day differs from the book"),
+        Case::CloseDiffers => differs_title(text, decimals, &facts.closing),
     }
 }
 
-/// Writes what happened to a payment that was approved, but is unclear.
-fn approved_account(
-    text: &mut Text,
-    decimals: Decimals,
-    asked: &Option<Amount>,
-    row: &OrderRow,
-    again: &Option<OrderRow>,
-) -> Result<(), AllocError>
-    ensures { OnOk result (text.new ≡ text.old ++ approved_account decimals asked.now row.now again.now) }
+/// Writes what happened to a payment later: it was paid again, or an end of day counts it.
+fn later_part(text: &mut Text, decimals: Decimals, facts: &Facts) -> Result<(), AllocError>
+    ensures { OnOk result (text.new ≡ text.old ++ later_part decimals facts.now) }
 {
-    phrase(text, decimals, b"The terminal approved ", asked, b"")?;
-    approval_part(text, &row.approval)?;
+    again_part(text, decimals, &asked_of(facts), &facts.row, &facts.again)?;
+    counted_as_paid(text, facts.counted)
+}
+
+/// Writes what happened to a payment that was approved, but is unclear.
+fn approved_account(text: &mut Text, decimals: Decimals, facts: &Facts) -> Result<(), AllocError>
+    ensures { OnOk result (text.new ≡ text.old ++ approved_account decimals facts.now) }
+{
+    let asked = asked_of(facts);
+    phrase(text, decimals, b"The terminal approved ", &asked, b"")?;
+    approval_part(text, &facts.row.approval)?;
     text.word(b", but the payment is unclear: ")?;
-    reason(text, &row.outcome)?;
+    reason(text, &facts.row.outcome)?;
     text.push(b'.')?;
-    again_part(text, decimals, asked, again)
+    later_part(text, decimals, facts)
+}
+
+/// Writes what happened to an unclear payment whose approval the terminal repeated in a later order.
+fn repeated_account(text: &mut Text, decimals: Decimals, facts: &Facts) -> Result<(), AllocError>
+    ensures { OnOk result (text.new ≡ text.old ++ repeated_account decimals facts.now) }
+{
+    let asked = asked_of(facts);
+    phrase(text, decimals, b"The payment of ", &asked, b" is unclear: ")?;
+    reason(text, &facts.row.outcome)?;
+    confirmed_part(text, decimals, &asked, facts.asked_again, &facts.confirmed)?;
+    text.push(b'.')?;
+    later_part(text, decimals, facts)
 }
 
 /// Writes what happened to a payment if the terminal approved another amount.
@@ -93,23 +174,44 @@ fn other_amount_account(
     text.word(b", perhaps with a tip. The payment is unclear: ")?;
     reason(text, &row.outcome)?;
     text.push(b'.')?;
-    again_part(text, decimals, asked, again)
+    again_part(text, decimals, asked, row, again)
 }
 
 /// Writes what happened to an unclear payment without an approval.
-fn unclear_account(
-    text: &mut Text,
-    decimals: Decimals,
-    asked: &Option<Amount>,
-    row: &OrderRow,
-    again: &Option<OrderRow>,
-) -> Result<(), AllocError>
-    ensures { OnOk result (text.new ≡ text.old ++ unclear_account decimals asked.now row.now again.now) }
+fn unclear_account(text: &mut Text, decimals: Decimals, facts: &Facts) -> Result<(), AllocError>
+    ensures { OnOk result (text.new ≡ text.old ++ unclear_account decimals facts.now) }
 {
-    phrase(text, decimals, b"The payment of ", asked, b" is unclear: ")?;
-    reason(text, &row.outcome)?;
+    let asked = asked_of(facts);
+    phrase(text, decimals, b"The payment of ", &asked, b" is unclear: ")?;
+    reason(text, &facts.row.outcome)?;
     text.word(b". The till heard no approval, but the terminal may have given one.")?;
-    again_part(text, decimals, asked, again)
+    later_part(text, decimals, facts)
+}
+
+/// Writes how far a payment is apart from an earlier one, if that is known.
+#[tactic(auto, unfolding(crate::specs::Sentences::apart_from))]
+fn apart_from(text: &mut Text, earlier: &Option<OrderRow>, row: &OrderRow) -> Result<(), AllocError>
+    ensures { OnOk result (text.new ≡ text.old ++ apart_from earlier.now row.now) }
+{
+    match earlier {
+        Some(earlier) => apart_part(text, b"apart", earlier, row),
+        None => Ok(()),
+    }
+}
+
+/// Writes which payments have one amount.
+fn alike_payments(
+    text: &mut Text,
+    row: &OrderRow,
+    earlier: &Option<OrderRow>,
+) -> Result<(), AllocError>
+    ensures { OnOk result (text.new ≡ text.old ++ alike_payments row.now earlier.now) }
+{
+    apart_from(text, earlier, row)?;
+    text.word(b": ")?;
+    maybe_payment_at(text, earlier)?;
+    text.word(b" and ")?;
+    payment_at(text, row)
 }
 
 /// Writes how one card paid an amount twice.
@@ -123,10 +225,8 @@ fn alike_account(
     ensures { OnOk result (text.new ≡ text.old ++ alike_account decimals asked.now row.now earlier.now) }
 {
     card_or_dash(text, &row.card)?;
-    phrase(text, decimals, b" paid ", asked, b" twice: ")?;
-    maybe_payment_at(text, earlier)?;
-    text.word(b" and ")?;
-    payment_at(text, row)?;
+    phrase(text, decimals, b" paid ", asked, b" twice")?;
+    alike_payments(text, row, earlier)?;
     text.word(b". Both are booked.")
 }
 
@@ -192,6 +292,39 @@ fn refused_account(
     text.push(b'.')
 }
 
+/// Writes what happened to a reversal of a payment that is not in the trace.
+fn elsewhere_account(text: &mut Text, receipt: &Option<[u8; 2]>) -> Result<(), AllocError>
+    ensures { OnOk result (text.new ≡ text.old ++ elsewhere_account receipt.now) }
+{
+    text.word(b"The terminal took back ")?;
+    payment_name(text, receipt)?;
+    text.word(b". The payment is not booked in this trace, so the net total does not change.")
+}
+
+/// Writes what happened to such a reversal that is unclear.
+fn elsewhere_unclear_account(
+    text: &mut Text,
+    receipt: &Option<[u8; 2]>,
+    outcome: &Outcome,
+) -> Result<(), AllocError>
+    ensures { OnOk result (text.new ≡ text.old ++ elsewhere_unclear_account receipt.now outcome.now) }
+{
+    text.word(b"The reversal of ")?;
+    payment_name(text, receipt)?;
+    text.word(b" is unclear: ")?;
+    reason(text, outcome)?;
+    text.word(b". The payment is not booked in this trace, so the net total does not change.")
+}
+
+/// Writes what happened to an unclear order that moves money beside the book.
+fn other_account(text: &mut Text, outcome: &Outcome) -> Result<(), AllocError>
+    ensures { OnOk result (text.new ≡ text.old ++ other_account outcome.now) }
+{
+    text.word(b"The order is unclear: ")?;
+    reason(text, outcome)?;
+    text.word(b". No total of this report counts it.")
+}
+
 /// Writes what happened to an end of day.
 fn close_account(text: &mut Text, start: &[u8], outcome: &Outcome) -> Result<(), AllocError>
     ensures { OnOk result (text.new ≡ text.old ++ close_account start.now outcome.now) }
@@ -201,149 +334,42 @@ fn close_account(text: &mut Text, start: &[u8], outcome: &Outcome) -> Result<(),
     text.push(b'.')
 }
 
-/// Writes what happened to an order in this case. `entry` is the payment that a reversal takes back.
+/// Writes how the total of an end of day differs from the book.
+fn differs_account(text: &mut Text, decimals: Decimals, facts: &Facts) -> Result<(), AllocError>
+    ensures { OnOk result (text.new ≡ text.old ++ differs_account decimals facts.now) }
+{
+    totals_part(text, decimals, &facts.closing)?;
+    shares_part(text, decimals, &facts.shares)
+}
+
+/// Writes what happened to an order in this case.
 pub(crate) fn account(
     text: &mut Text,
     decimals: Decimals,
-    entry: &Option<Entry>,
-    row: &OrderRow,
-    again: &Option<OrderRow>,
+    facts: &Facts,
     case: Case,
 ) -> Result<(), AllocError>
-    ensures { OnOk result (text.new ≡ text.old ++ account decimals entry.now row.now again.now case) }
+    ensures { OnOk result (text.new ≡ text.old ++ account decimals facts.now case) }
 {
-    let asked = &amount_of(entry, &row.order);
+    let asked = &asked_of(facts);
+    let (row, entry, again) = (&facts.row, &facts.entry, &facts.again);
     let outcome = &row.outcome;
     match case {
-        Case::ApprovedNotCompleted => approved_account(text, decimals, asked, row, again),
+        Case::ApprovedNotCompleted => approved_account(text, decimals, facts),
+        Case::ApprovalRepeated => repeated_account(text, decimals, facts),
         Case::OtherAmount => other_amount_account(text, decimals, asked, row, again),
-        Case::PaymentUnclear => unclear_account(text, decimals, asked, row, again),
+        Case::PaymentUnclear => unclear_account(text, decimals, facts),
         Case::PaidAlike => alike_account(text, decimals, asked, row, again),
         Case::ReversalUnclear => reversal_account(text, decimals, asked, entry, outcome),
         Case::TakenBackBefore => taken_back_account(text, decimals, asked, entry),
         Case::ReversalRefused => refused_account(text, decimals, asked, entry, outcome),
+        Case::ReversalElsewhere => elsewhere_account(text, &facts.message.receipt),
+        Case::ElsewhereUnclear => {
+            elsewhere_unclear_account(text, &facts.message.receipt, outcome)
+        }
+        Case::OtherUnclear => other_account(text, outcome),
         Case::CloseUnclear => close_account(text, b"The end of day is unclear: ", outcome),
         Case::CloseRefused => close_account(text, b"The terminal did not close the day: ", outcome),
-        Case::CloseDiffers => {
-            text.word(
-                b"The total of the terminal is not the total of the book. The end of day below shows both.",
-            )
-        }
-    }
-}
-
-/// Writes what to do about a payment that was approved, but is unclear.
-fn approved_advice(
-    text: &mut Text,
-    approval: &Option<Approval>,
-    again: &Option<OrderRow>,
-) -> Result<(), AllocError>
-    ensures { OnOk result (text.new ≡ text.old ++ approved_advice approval.now again.now) }
-{
-    match again {
-        Some(_) => {
-            text.word(b"The customer may have paid twice. If the terminal's journal has ")?;
-            approved_receipt(text, approval)?;
-            text.word(b", take it back, since the later payment covers the sale.")
-        }
-        None => {
-            text.word(b"The customer has probably been charged. Look for ")?;
-            approved_receipt(text, approval)?;
-            text.word(b" in the terminal's journal before you charge again.")
-        }
-    }
-}
-
-/// Writes what to do about a payment if the terminal approved another amount.
-fn other_amount_advice(
-    text: &mut Text,
-    decimals: Decimals,
-    row: &OrderRow,
-) -> Result<(), AllocError>
-    ensures { OnOk result (text.new ≡ text.old ++ other_amount_advice decimals row.now) }
-{
-    text.word(b"The customer has probably been charged ")?;
-    amount_or_dash(text, decimals, &approved_of(row))?;
-    text.word(b". If the terminal's journal has ")?;
-    approved_receipt(text, &row.approval)?;
-    text.word(b", add that amount to the day by hand, or take it back and charge again.")
-}
-
-/// Writes what to do about an unclear payment without an approval.
-fn unclear_advice(
-    text: &mut Text,
-    decimals: Decimals,
-    asked: &Option<Amount>,
-    again: &Option<OrderRow>,
-) -> Result<(), AllocError>
-    ensures { OnOk result (text.new ≡ text.old ++ unclear_advice decimals asked.now again.now) }
-{
-    match again {
-        Some(_) => {
-            text.word(b"Look in the terminal's journal for two payments of ")?;
-            amount_or_dash(text, decimals, asked)?;
-            text.word(b". The customer may have paid twice.")
-        }
-        None => {
-            text.word(b"Look for a payment of ")?;
-            amount_or_dash(text, decimals, asked)?;
-            text.word(b" in the terminal's journal before you charge again.")
-        }
-    }
-}
-
-/// Writes what to do about a payment that is like an earlier one.
-fn alike_advice(text: &mut Text, receipt: &Option<[u8; 2]>) -> Result<(), AllocError>
-    ensures { OnOk result (text.new ≡ text.old ++ alike_advice receipt.now) }
-{
-    text.word(b"Were these two sales, or was one sale charged twice? If it was one, take back ")?;
-    receipt_name(text, receipt)?;
-    text.push(b'.')
-}
-
-/// Returns what to do about an order in this case, if it depends on nothing else.
-fn fixed_advice(case: Case) -> &'static [u8]
-    ensures { result.now ≡ fixed_advice case }
-{
-    match case {
-        Case::ReversalUnclear => {
-            b"Look for the reversal in the terminal's journal before you give money back. You can also reverse the \
-                payment again: if the terminal then answers B4, it had already taken the payment back."
-        }
-        Case::TakenBackBefore => b"Subtract the payment from the net total by hand.",
-        Case::ReversalRefused => {
-            b"If the customer was promised the money, it has not been given back."
-        }
-        Case::CloseUnclear => {
-            b"If the terminal printed no end-of-day receipt, start the end of day again."
-        }
-        Case::CloseRefused => b"Start the end of day again.",
-        Case::CloseDiffers => {
-            b"Settle the unclear payments and reversals first. Then compare the payments with the terminal's receipts."
-        }
-        Case::ApprovedNotCompleted | Case::OtherAmount | Case::PaymentUnclear | Case::PaidAlike =>
-            b"",
-    }
-}
-
-/// Writes what to do about an order in this case. `entry` is the payment that a reversal takes back.
-pub(crate) fn advice(
-    text: &mut Text,
-    decimals: Decimals,
-    entry: &Option<Entry>,
-    row: &OrderRow,
-    again: &Option<OrderRow>,
-    case: Case,
-) -> Result<(), AllocError>
-    ensures { OnOk result (text.new ≡ text.old ++ advice decimals entry.now row.now again.now case) }
-{
-    match case {
-        Case::ApprovedNotCompleted => approved_advice(text, &row.approval, again),
-        Case::OtherAmount => other_amount_advice(text, decimals, row),
-        Case::PaymentUnclear => {
-            unclear_advice(text, decimals, &amount_of(entry, &row.order), again)
-        }
-        Case::PaidAlike => alike_advice(text, &receipt_by(&row.outcome, &row.approval)),
-        _ => text.word(fixed_advice(case)),
+        Case::CloseDiffers => differs_account(text, decimals, facts),
     }
 }

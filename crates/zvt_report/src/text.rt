@@ -58,12 +58,16 @@ fn looks_part(
     note: &mut Text,
     decimals: Decimals,
     books: &DayBooks,
+    messages: &[OrderMessage],
+    closings: &[Option<Closing>],
     looks: &[Look],
 ) -> Result<(), AllocError>
-    ensures { OnOk result (text.new ≡ text.old ++ looks_part decimals books.now looks.now) }
+    ensures { OnOk result (text.new ≡ text.old
+        ++ looks_part decimals books.now messages.now closings.now looks.now) }
 {
     let book = books.book.as_slice();
-    looks_text(text, note, decimals, book, books.orders.as_slice(), looks)?;
+    let rows = books.orders.as_slice();
+    looks_text(text, note, decimals, book, closings, messages, rows, looks)?;
     text.push(b'\n')
 }
 
@@ -105,7 +109,7 @@ fn report_in(
     let decimals = decimals_of(money);
     span_part(text, times)?;
     summary_part(text, money, books)?;
-    looks_part(text, note, decimals, books, looks)?;
+    looks_part(text, note, decimals, books, messages, closings, looks)?;
     tables_part(text, note, decimals, books, messages, closings)?;
     footer(text, tally)?;
     clock_notes(text, times)

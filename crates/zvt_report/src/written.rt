@@ -122,6 +122,7 @@ fn looks_of(alloc: Global, report: &Report) -> Result<Vec<Look>, AllocError>
         alloc,
         books.book.as_slice(),
         report.closings.as_slice(),
+        report.messages.as_slice(),
         books.orders.as_slice(),
     )
 }
@@ -205,6 +206,7 @@ fn text_of(
             looks,
         )?,
         ReportForm::Json => objects::write(
+            alloc,
             &mut text,
             report.tally,
             report.currency,

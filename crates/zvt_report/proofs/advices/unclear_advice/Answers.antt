@@ -1,6 +1,6 @@
 use Rattle.std.proofs.Common.{append_assoc}
 use Rattle.zvt_report.proofs.TextLemmas.{adds_completely}
-use Rattle.zvt_report.proofs.sentences.unclear_advice.Goals as goal
+use Rattle.zvt_report.proofs.advices.unclear_advice.Goals as goal
 
 pub returns-in_ok-amount_or_dash-in-Some : goal.returns-in_ok-amount_or_dash-in-Some
 returns-in_ok-amount_or_dash-in-Some c =

@@ -1,6 +1,6 @@
 use Rattle.std.proofs.Common.{append_assoc}
 use Rattle.zvt_report.proofs.TextLemmas.{adds_completely}
-use Rattle.zvt_report.proofs.sentences.approved_advice.Goals as goal
+use Rattle.zvt_report.proofs.advices.approved_advice.Goals as goal
 
 pub returns-in_ok-approved_receipt-in-Some : goal.returns-in_ok-approved_receipt-in-Some
 returns-in_ok-approved_receipt-in-Some c =
