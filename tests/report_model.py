@@ -21,6 +21,7 @@ ALREADY_REVERSED = "B4"
 DECLINES, GOOD = "declines", "good"
 CHECKS = ("PaymentUnclear", "PaidAlike", "ReversalRefused", "CloseUnclear", "CloseRefused", "CloseDiffers")
 TOTALS, CARD_NUMBER, CARD_TYPE, CARD_NAME = "60", "22", "8A", "8B"
+BRANDS = ("girocard", "JCB", "Mastercard", "American Express", "VISA", "Diners", "others")
 # Whether an order adds its amount to the terminal's total, or takes it from the total.
 SIGNS = {"0604": 1, "0609": 1, "0621": 1, "0624": 1, "0631": -1}
 
@@ -54,6 +55,15 @@ def totals_of(status):
     if content is None or len(content) != 106 or not all(content[at + 2:at + 14].isdecimal() for at in range(8, 106, 14)):
         return None
     return content
+
+
+def groups_of(totals):
+    """The groups in the digits of BMP 60 that have a payment or a sum: two digits of the count, in hexadecimal, and twelve of the sum."""
+    found = []
+    for brand, (count, total) in zip(BRANDS, re.findall("(..)(.{12})", totals[8:])):
+        if count != "00" or int(total):
+            found.append({"card": brand, "count": int(count, 16), "sum": int(total)})
+    return found
 
 
 def is_masked(number):
@@ -386,7 +396,7 @@ class Report(Audit):
             return {}
         stated, book, totals, items = closing
         differs = None if stated in (None, book) else stated - book
-        return {"book": book, "differs": differs, "explained_by": explained(differs, items), "receipts": totals and [totals[:4], totals[4:8]],
+        return {"book": book, "differs": differs, "explained_by": explained(differs, items), "groups": groups_of(totals) if totals else None, "receipts": totals and [totals[:4], totals[4:8]],
                 "stated": stated}
 
     def closings(self):

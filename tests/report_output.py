@@ -90,7 +90,7 @@ class Day(Dialogue):
 
     def close(self):
         self.say(">", message(END_OF_DAY, bytes(3)))
-        self.answer(self.chance.choice((b"\x27\0", b"\x27\x6C", b"\x04" + digits(100, 6), by_card(100, 1), by_card(*self.chance.choices((0, 1, 100), k=7)))))
+        self.answer(self.chance.choice((b"\x27\0", b"\x27\x6C", b"\x04" + digits(100, 6), by_card(100, 1), by_card(*self.chance.choices((0, 0, 1, 100, 251), k=7)))))
 
 
 def compared(name, trace):
@@ -182,7 +182,7 @@ def totalled(amount):
 
 
 def by_card(*sums):
-    groups = b"".join(bytes([one > 0]) + digits(one, 6) for one in (*sums, *[0] * (7 - len(sums))))
+    groups = b"".join(bytes([one % 251]) + digits(one, 6) for one in (*sums, *[0] * (7 - len(sums))))
     return message(STATUS, b"\x60\xF0\xF5\xF3" + digits(1, 2) + digits(9, 2) + groups)
 
 

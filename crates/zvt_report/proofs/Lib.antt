@@ -13,6 +13,7 @@ pub mod ExplainLemmas
 pub mod ReporterLemmas
 pub mod ReportedLemmas
 pub mod MemberLemmas
+pub mod GroupLemmas
 pub mod CardLemmas
 pub mod TextLemmas
 pub mod EntryLemmas

@@ -102,6 +102,7 @@ name_plain name.Control = refl
 name_plain name.Currency = refl
 name_plain name.Differs = refl
 name_plain name.ExplainedBy = refl
+name_plain name.Groups = refl
 name_plain name.Lines = refl
 name_plain name.Looks = refl
 name_plain name.Messages = refl

@@ -6,8 +6,8 @@ use Rattle.std.specs.Cmp.Lexicographic.{slice_cmp}
 use Rattle.std.specs.declared.cmp.Ordering.{Ordering}
 use Rattle.std.specs.declared.cmp.Ordering.TheVariants.{Less, Equal, Greater}
 use Rattle.std.proofs.lemmas.Bool.{and_from, and_parts}
-use Rattle.serde_json.specs.Data.{Data, number as numeral, unsigned, negative, Members, no_members, member, depth, members_depth}
-use Rattle.zvt_json.specs.Reading.{and_then, comes_after, members_ordered, ordered}
+use Rattle.serde_json.specs.Data.{Data, number as numeral, unsigned, negative, Members, no_members, member, depth, items_depth, item, members_depth}
+use Rattle.zvt_json.specs.Reading.{and_then, comes_after, items_ordered, members_ordered, ordered}
 use Rattle.zvt_json.proofs.ReadBack.{reads_back}
 use Rattle.zvt_text.specs.Meanings.{command_name, meaning_of}
 use Rattle.zvt_till.specs.declared.outcomes.Cause.{Cause}
@@ -16,11 +16,14 @@ use Rattle.zvt_report.specs.Members.{name_text, object_value, orders_value, said
 use Rattle.zvt_report.specs.Objects.{again, close_members, code, code_of, command, look_members, maybe_cause, maybe_count, maybe_currency, maybe_receipt, other_members, payment_members, plain_members, reversal_members, summary_members, true_if, words}
 use Rattle.zvt_report.specs.CardObjects.{card_value, maybe_card, maybe_card_number}
 use Rattle.zvt_report.specs.Cards.{card_number}
-use Rattle.zvt_report.specs.CloseObjects.{book_member, difference_member, differs_member, explained_member, orders_of, receipts_member, receipts_of, stated_member}
+use Rattle.zvt_report.specs.CloseObjects.{book_member, difference_member, differs_member, explained_member, groups_member, groups_of, orders_of, receipts_member, receipts_of, stated_member}
 use Rattle.zvt_report.specs.Reading.{ObjectsReadBack, ReadsBack}
 use Rattle.zvt_report.specs.TimeMembers.{back_member, bad_member, from_member, maybe_time, to_member}
 use Rattle.zvt_trace.specs.declared.moment.Moment.{Moment}
 use Rattle.zvt_report.specs.declared.cards.Card.{Card}
+use Rattle.zvt_report.specs.CardTotals.{is_used}
+use Rattle.zvt_report.specs.GroupObjects.{group_items, group_value, groups_value}
+use Rattle.zvt_report.specs.declared.card_totals.CardGroup.{CardGroup}
 use Rattle.zvt_report.specs.declared.card_totals.CardTotals.{CardTotals}
 use Rattle.zvt_report.specs.declared.closings.Closing.{Closing}
 use Rattle.zvt_report.specs.declared.explaining.Explained.{Explained}
@@ -101,6 +104,14 @@ orders_ordered (explained.Two a b) = refl
 orders_ordered (explained.Three a b c) = refl
 orders_ordered explained.Several = refl
 
+groups_ordered : (groups : List CardGroup) → ordered (groups_value groups) ≡ true
+groups_ordered [] = refl
+groups_ordered (group ∷ groups) = ordered_if (is_used group)
+  where
+    ordered_if : (used : Bool) → items_ordered (cond used (item (group_value group) (group_items groups)) (group_items groups)) ≡ true
+    ordered_if true = groups_ordered groups
+    ordered_if false = groups_ordered groups
+
 value_ordered : (v : Value) → ordered (value_data v) ≡ true
 value_ordered value.True = refl
 value_ordered (value.Count n) = refl
@@ -110,6 +121,7 @@ value_ordered (value.Byte byte) = refl
 value_ordered (value.Bytes bytes) = refl
 value_ordered (value.Receipts first last) = refl
 value_ordered (value.Orders orders) = orders_ordered orders
+value_ordered (value.Groups groups) = groups_ordered groups
 value_ordered (value.Currency currency) = refl
 value_ordered (value.Moment moment) = refl
 value_ordered (value.Word w) = refl
@@ -145,22 +157,31 @@ orders_shallow (explained.Two a b) = omega arith
 orders_shallow (explained.Three a b c) = omega arith
 orders_shallow explained.Several = omega arith
 
-value_shallow : (v : Value) → depth (value_data v) ≤ 1
+groups_shallow : (groups : List CardGroup) → items_depth (group_items groups) ≤ 1
+groups_shallow [] = omega arith
+groups_shallow (group ∷ groups) = shallow_if (is_used group)
+  where
+    shallow_if : (used : Bool) → items_depth (cond used (item (group_value group) (group_items groups)) (group_items groups)) ≤ 1
+    shallow_if true = omega (arith, groups_shallow groups)
+    shallow_if false = groups_shallow groups
+
+value_shallow : (v : Value) → depth (value_data v) ≤ 2
 value_shallow value.True = omega arith
 value_shallow (value.Count n) = omega arith
-value_shallow (value.Difference more less) = difference_shallow (nat_le less more) (more - less) (less - more - 1)
+value_shallow (value.Difference more less) = omega (arith, difference_shallow (nat_le less more) (more - less) (less - more - 1))
 value_shallow (value.Lines first last) = omega arith
 value_shallow (value.Byte byte) = omega arith
 value_shallow (value.Bytes bytes) = omega arith
 value_shallow (value.Receipts first last) = omega arith
-value_shallow (value.Orders orders) = orders_shallow orders
+value_shallow (value.Orders orders) = omega (arith, orders_shallow orders)
+value_shallow (value.Groups groups) = omega (arith, groups_shallow groups)
 value_shallow (value.Currency currency) = omega arith
 value_shallow (value.Moment moment) = omega arith
 value_shallow (value.Word w) = omega arith
 value_shallow (value.CardName name) = omega arith
 value_shallow (value.CardNumber number) = omega arith
 
-said_shallow : (ms : List (Option Member)) → members_depth (said ms) ≤ 1
+said_shallow : (ms : List (Option Member)) → members_depth (said ms) ≤ 2
 said_shallow [] = omega arith
 said_shallow (None ∷ ms) = said_shallow ms
 said_shallow (Some m ∷ ms) = omega (arith, value_shallow m.value, said_shallow ms)
@@ -265,6 +286,14 @@ explained_named : (closing : Option Closing) → IsNamed (explained_member closi
 explained_named None = tt
 explained_named (Some c) = explained_by c.explained
 
+groups_by : (totals : Option CardTotals) → IsNamed (groups_of totals) name.Groups
+groups_by None = tt
+groups_by (Some t) = refl
+
+groups_named : (closing : Option Closing) → IsNamed (groups_member closing) name.Groups
+groups_named None = tt
+groups_named (Some c) = groups_by c.totals
+
 receipts_by : (totals : Option CardTotals) → IsNamed (receipts_of totals) name.Receipts
 receipts_by None = tt
 receipts_by (Some t) = refl
@@ -315,7 +344,7 @@ abbrev names_of_other : List Name
 names_of_other = name.Amount ∷ name.Cause ∷ name.Code ∷ name.Control ∷ name.Lines ∷ name.Name ∷ name.Order ∷ name.Outcome ∷ name.Time ∷ name.Words ∷ []
 
 abbrev names_of_close : List Name
-names_of_close = name.Book ∷ name.Cause ∷ name.Code ∷ name.Differs ∷ name.ExplainedBy ∷ name.Lines ∷ name.Order ∷ name.Outcome ∷ name.Receipts ∷ name.Stated ∷ name.Time ∷ name.Words ∷ []
+names_of_close = name.Book ∷ name.Cause ∷ name.Code ∷ name.Differs ∷ name.ExplainedBy ∷ name.Groups ∷ name.Lines ∷ name.Order ∷ name.Outcome ∷ name.Receipts ∷ name.Stated ∷ name.Time ∷ name.Words ∷ []
 
 abbrev names_of_order : List Name
 names_of_order = name.Cause ∷ name.Code ∷ name.Control ∷ name.Lines ∷ name.Name ∷ name.Order ∷ name.Outcome ∷ name.Time ∷ name.Words ∷ []
@@ -327,6 +356,6 @@ objects_read_back = (
   (λ books place row amount. read_named object_of.Payment (payment_members books place row amount) names_of_payment (refl, (count_named name.Approved _, (card_named row.card, (card_number_named row.card, (cause_named name.Cause _, (code_named row.outcome, (refl, (refl, (refl, (count_named name.Payment _, (receipt_named _, (cause_named name.ReversalUnclear _, (count_named name.ReversedBy _, (true_named name.TakenBack _, (time_named row.time, (count_named name.Trace _, (words_named row.outcome, tt))))))))))))))))) refl),
   (λ books place row message. read_named object_of.Reversal (reversal_members books place row message) names_of_reversal (count_named name.Amount _, (cause_named name.Cause _, (code_named row.outcome, (refl, (refl, (refl, (count_named name.Payment _, (receipt_named message.receipt, (time_named row.time, (words_named row.outcome, tt)))))))))) refl),
   (λ place row message. read_named object_of.Other (other_members place row message) names_of_other (count_named name.Amount _, (cause_named name.Cause _, (code_named row.outcome, (refl, (refl, (command_named message, (refl, (refl, (time_named row.time, (words_named row.outcome, tt)))))))))) refl),
-  (λ closing place row. read_named object_of.Close (close_members closing place row) names_of_close (book_named closing, (cause_named name.Cause _, (code_named row.outcome, (differs_named closing, (explained_named closing, (refl, (refl, (refl, (receipts_named closing, (stated_named closing, (time_named row.time, (words_named row.outcome, tt)))))))))))) refl),
+  (λ closing place row. read_named object_of.Close (close_members closing place row) names_of_close (book_named closing, (cause_named name.Cause _, (code_named row.outcome, (differs_named closing, (explained_named closing, (groups_named closing, (refl, (refl, (refl, (receipts_named closing, (stated_named closing, (time_named row.time, (words_named row.outcome, tt))))))))))))) refl),
   (λ place row message. read_named object_of.Order (plain_members place row message) names_of_order (cause_named name.Cause _, (code_named row.outcome, (refl, (refl, (command_named message, (refl, (refl, (time_named row.time, (words_named row.outcome, tt))))))))) refl),
 )

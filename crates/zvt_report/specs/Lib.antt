@@ -7,6 +7,9 @@ pub mod Looks
 pub mod Naming
 pub mod Reported
 pub mod CardTotals
+pub mod GroupTable
+pub mod GroupObjects
+pub mod PageGroups
 pub mod Cards
 pub mod CardTexts
 pub mod CardObjects

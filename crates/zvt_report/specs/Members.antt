@@ -12,6 +12,7 @@ use Rattle.zvt_trace.specs.Marks.{moment_text}
 use Rattle.zvt_till.specs.Names.{cause_name}
 use Rattle.zvt_till.specs.declared.outcomes.Cause.TheVariants.{NoStatus}
 use Rattle.zvt_report.specs.CardTexts.{characters, number_text}
+use Rattle.zvt_report.specs.GroupObjects.{groups_value}
 use Rattle.zvt_report.specs.Words.{case_name, ending_name, weight_name}
 use Rattle.zvt_report.specs.declared.explaining.Explained.{Explained}
 use Rattle.zvt_report.specs.declared.explaining.Explained.TheVariants as explained
@@ -50,6 +51,7 @@ name_text name.Control = codes "control"
 name_text name.Currency = codes "currency"
 name_text name.Differs = codes "differs"
 name_text name.ExplainedBy = codes "explained_by"
+name_text name.Groups = codes "groups"
 name_text name.Lines = codes "lines"
 name_text name.Looks = codes "looks"
 name_text name.Messages = codes "messages"
@@ -119,6 +121,7 @@ value_data (value.Byte byte) = byte_value byte
 value_data (value.Bytes bytes) = hex_value bytes
 value_data (value.Receipts first last) = receipts_value first last
 value_data (value.Orders orders) = orders_value orders
+value_data (value.Groups groups) = groups_value groups
 value_data (value.Currency currency) = string (four_digits currency)
 value_data (value.Moment moment) = string (moment_text moment)
 value_data (value.Word w) = string (word_text w)

@@ -19,7 +19,7 @@ use Rattle.zvt_till.specs.declared.outcomes.Outcome.TheVariants as outcome
 use Rattle.zvt_trace.specs.Marks.{moment}
 use Rattle.zvt_trace.specs.declared.fault.Tally.{Tally}
 use Rattle.zvt_report.specs.CardObjects.{maybe_card, maybe_card_number}
-use Rattle.zvt_report.specs.CloseObjects.{book_member, differs_member, explained_member, receipts_member, stated_member}
+use Rattle.zvt_report.specs.CloseObjects.{book_member, differs_member, explained_member, groups_member, receipts_member, stated_member}
 use Rattle.zvt_report.specs.Differing.{closing_at}
 use Rattle.zvt_report.specs.Day.{DayValue}
 use Rattle.zvt_report.specs.Kinds.{kind_of}
@@ -207,6 +207,7 @@ close_members closing place row =
     ∷ code row.outcome
     ∷ differs_member closing
     ∷ explained_member closing
+    ∷ groups_member closing
     ∷ lines row
     ∷ count name.Order place.order
     ∷ ending row

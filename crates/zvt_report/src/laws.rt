@@ -1,4 +1,5 @@
 //! Laws of every day and of every report, each stated as the contract of an empty function.
+ghost use Rattle.zvt_report.specs.CardTotals.{ListedGroupsAddUp};
 ghost use Rattle.zvt_report.specs.Laws.{DoubtsAreLeftOpen, EachOrderHasARow, SameBooks, SameMarks, SumsMakeBooked};
 ghost use Rattle.zvt_report.specs.Looks.{EachPaymentIsLookedAt, EachReversalIsLookedAt};
 ghost use Rattle.zvt_report.specs.Naming.{ReversalsNameEntries};
@@ -28,6 +29,11 @@ pub fn each_order_has_a_row()
 /// The entries that stand and those that were taken back add up to what was booked.
 pub fn sums_make_booked()
     ensures { SumsMakeBooked }
+{}
+
+/// The totals by card that a report lists have the sum of all totals by card: a group that it leaves out has no sum.
+pub fn listed_groups_add_up()
+    ensures { ListedGroupsAddUp }
 {}
 
 /// A person is told to look at each unclear payment once, and no other payment is called unclear.

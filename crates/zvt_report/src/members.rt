@@ -10,8 +10,10 @@ ghost use Rattle.zvt_report.specs.Members.{receipts_value, said, value_data, wor
 
 use crate::card_texts::{quoted_name, quoted_number, type_words};
 use crate::cases::{Case, Weight};
+use crate::card_totals::CardGroup;
 use crate::endings::Ending;
 use crate::explaining::Explained;
+use crate::member_groups::write_groups;
 use crate::member_orders::write_orders;
 use std::alloc::AllocError;
 use zvt_bcd::Currency;
@@ -69,6 +71,7 @@ pub(crate) enum Name {
     Currency,
     Differs,
     ExplainedBy,
+    Groups,
     Lines,
     Looks,
     Messages,
@@ -123,6 +126,7 @@ impl Name {
             Name::Currency => "currency",
             Name::Differs => "differs",
             Name::ExplainedBy => "explained_by",
+            Name::Groups => "groups",
             Name::Lines => "lines",
             Name::Looks => "looks",
             Name::Messages => "messages",
@@ -208,6 +212,8 @@ pub(crate) enum Value {
     Receipts([u8; 2], [u8; 2]),
     /// The numbers of these orders.
     Orders(Explained),
+    /// The totals by card.
+    Groups([CardGroup; 7]),
     Currency(Currency),
     Moment(Moment),
     Word(Word),
@@ -265,7 +271,7 @@ fn write_member(text: &mut Text, later: bool, member: &Member) -> Result<(), All
 }
 
 /// Writes a comma if there is an earlier member.
-fn write_comma(text: &mut Text, later: bool) -> Result<(), AllocError>
+pub(crate) fn write_comma(text: &mut Text, later: bool) -> Result<(), AllocError>
     ensures { OnOk result (text.new ≡ text.old ++ comma_if later) }
 {
     if later {
@@ -296,6 +302,7 @@ fn write_value(text: &mut Text, value: &Value) -> Result<(), AllocError>
         Value::Bytes(bytes) => write_bytes(text, bytes.as_slice()),
         Value::Receipts(first, last) => write_receipts(text, first.as_slice(), last.as_slice()),
         Value::Orders(orders) => write_orders(text, orders),
+        Value::Groups(groups) => write_groups(text, groups.as_slice()),
         Value::Currency(currency) => write_currency(text, *currency),
         Value::Moment(moment) => write_moment(text, *moment),
         Value::Word(word) => write_word(text, *word),
