@@ -20,7 +20,8 @@ CONTROLS = {"Registration": "0600", "Authorisation": "0601", "Reversal": "0630",
 ALREADY_REVERSED = "B4"
 DECLINES, GOOD = "declines", "good"
 CHECKS = ("PaymentUnclear", "PaidAlike", "ReversalRefused", "CloseUnclear", "CloseRefused", "CloseDiffers")
-TOTALS, CARD_NUMBER, CARD_TYPE, CARD_NAME = "60", "22", "8A", "8B"
+TOTALS, CARD_NUMBER, CARD_TYPE, CARD_NAME, TERMINAL = "60", "22", "8A", "8B", "29"
+NAMES = {**json_model.COMMANDS, "0600": "registration"}
 BRANDS = ("girocard", "JCB", "Mastercard", "American Express", "VISA", "Diners", "others")
 # Whether an order adds its amount to the terminal's total, or takes it from the total.
 SIGNS = {"0604": 1, "0609": 1, "0621": 1, "0624": 1, "0631": -1}
@@ -225,7 +226,7 @@ class Order:
 class Report(Audit):
     def __init__(self, trace, loose=False, strict=False):
         self.orders, self.running, self.book, self.in_force = [], None, [], None
-        self.times = Times(trace)
+        self.times, self.terminal = Times(trace), None
         super().__init__(trace, loose, not strict)
 
     def sent(self, message):
@@ -254,6 +255,9 @@ class Report(Audit):
 
     def heard(self, message):
         super().heard(message)
+        if self.terminal is None and message["kind"] in ("Status", "Completion"):
+            named = only(message, TERMINAL)
+            self.terminal = named if named and named.isdecimal() else None
         order = self.running
         if order is None:
             return
@@ -360,7 +364,7 @@ class Report(Audit):
                     messages=self.messages, net=sum(entry["amount"] for entry in self.book if not entry["reversed"]),
                     others=sum(order.kind == "other" for order in self.orders), unclear=len(open_amounts), unclear_amount=sum(open_amounts),
                     reversals_unclear=sum(entry["doubt"] not in (None, ALREADY_REVERSED) for entry in self.book),
-                    reversed=sum(entry["reversed"] for entry in self.book), total=sum(entry["amount"] for entry in self.book), **self.times.members())
+                    reversed=sum(entry["reversed"] for entry in self.book), terminal=self.terminal, total=sum(entry["amount"] for entry in self.book), **self.times.members())
 
     def number_of(self, order):
         payments = [one for one in self.orders if one.kind == "payment"]
@@ -427,7 +431,7 @@ class Report(Audit):
         return found
 
     def order_members(self, order):
-        return {"control": order.control, "name": json_model.COMMANDS.get(order.control)}
+        return {"control": order.control, "name": NAMES.get(order.control)}
 
 
 def said(**members):

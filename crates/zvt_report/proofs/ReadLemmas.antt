@@ -9,14 +9,15 @@ use Rattle.std.proofs.lemmas.Bool.{and_from, and_parts}
 use Rattle.serde_json.specs.Data.{Data, number as numeral, unsigned, negative, Members, no_members, member, depth, items_depth, item, members_depth}
 use Rattle.zvt_json.specs.Reading.{and_then, comes_after, items_ordered, members_ordered, ordered}
 use Rattle.zvt_json.proofs.ReadBack.{reads_back}
-use Rattle.zvt_text.specs.Meanings.{command_name, meaning_of}
+use Rattle.zvt_text.specs.Meanings.{meaning_of}
 use Rattle.zvt_till.specs.declared.outcomes.Cause.{Cause}
 use Rattle.zvt_till.specs.declared.outcomes.Outcome.{Outcome}
 use Rattle.zvt_report.specs.Members.{name_text, object_value, orders_value, said, value_data}
-use Rattle.zvt_report.specs.Objects.{again, close_members, code, code_of, command, look_members, maybe_cause, maybe_count, maybe_currency, maybe_receipt, other_members, payment_members, plain_members, reversal_members, summary_members, true_if, words}
+use Rattle.zvt_report.specs.Objects.{again, close_members, code, code_of, command, look_members, maybe_cause, maybe_count, maybe_currency, maybe_receipt, maybe_terminal, other_members, payment_members, plain_members, reversal_members, summary_members, true_if, words}
 use Rattle.zvt_report.specs.CardObjects.{card_value, maybe_card, maybe_card_number}
 use Rattle.zvt_report.specs.Cards.{card_number}
 use Rattle.zvt_report.specs.CloseObjects.{book_member, difference_member, differs_member, explained_member, groups_member, groups_of, orders_of, receipts_member, receipts_of, stated_member}
+use Rattle.zvt_report.specs.OrderNames.{order_name}
 use Rattle.zvt_report.specs.Reading.{ObjectsReadBack, ReadsBack}
 use Rattle.zvt_report.specs.TimeMembers.{back_member, bad_member, from_member, maybe_time, to_member}
 use Rattle.zvt_trace.specs.declared.moment.Moment.{Moment}
@@ -119,6 +120,7 @@ value_ordered (value.Difference more less) = difference_ordered (nat_le less mor
 value_ordered (value.Lines first last) = refl
 value_ordered (value.Byte byte) = refl
 value_ordered (value.Bytes bytes) = refl
+value_ordered (value.Terminal id) = refl
 value_ordered (value.Receipts first last) = refl
 value_ordered (value.Orders orders) = orders_ordered orders
 value_ordered (value.Groups groups) = groups_ordered groups
@@ -172,6 +174,7 @@ value_shallow (value.Difference more less) = omega (arith, difference_shallow (n
 value_shallow (value.Lines first last) = omega arith
 value_shallow (value.Byte byte) = omega arith
 value_shallow (value.Bytes bytes) = omega arith
+value_shallow (value.Terminal id) = omega arith
 value_shallow (value.Receipts first last) = omega arith
 value_shallow (value.Orders orders) = omega (arith, orders_shallow orders)
 value_shallow (value.Groups groups) = omega (arith, groups_shallow groups)
@@ -224,6 +227,10 @@ currency_named : (currency : Option ℕ) → IsNamed (maybe_currency currency) n
 currency_named None = tt
 currency_named (Some currency) = refl
 
+terminal_named : (terminal : Option (List ℕ)) → IsNamed (maybe_terminal terminal) name.Terminal
+terminal_named None = tt
+terminal_named (Some id) = refl
+
 again_named : (place : Option ℕ) → IsNamed (again place) name.Again
 again_named None = tt
 again_named (Some place) = refl
@@ -256,7 +263,7 @@ command_by high low None = tt
 command_by high low (Some n) = refl
 
 command_named : (message : OrderMessage) → IsNamed (command message) name.Name
-command_named message = command_by message.high message.low (command_name message.high message.low)
+command_named message = command_by message.high message.low (order_name message.high message.low)
 
 book_named : (closing : Option Closing) → IsNamed (book_member closing) name.Book
 book_named None = tt
@@ -329,7 +336,7 @@ bad_named bad (Some line) = refl
 -- ---- the objects
 
 abbrev names_of_summary : List Name
-names_of_summary = name.Bad ∷ name.Booked ∷ name.Currency ∷ name.Looks ∷ name.Messages ∷ name.Net ∷ name.Others ∷ name.ReversalsUnclear ∷ name.Reversed ∷ name.TimeFrom ∷ name.TimeTo ∷ name.TimesBack ∷ name.TimesBad ∷ name.Total ∷ name.Unclear ∷ name.UnclearAmount ∷ []
+names_of_summary = name.Bad ∷ name.Booked ∷ name.Currency ∷ name.Looks ∷ name.Messages ∷ name.Net ∷ name.Others ∷ name.ReversalsUnclear ∷ name.Reversed ∷ name.Terminal ∷ name.TimeFrom ∷ name.TimeTo ∷ name.TimesBack ∷ name.TimesBad ∷ name.Total ∷ name.Unclear ∷ name.UnclearAmount ∷ []
 
 abbrev names_of_look : List Name
 names_of_look = name.Again ∷ name.Case ∷ name.Cause ∷ name.Lines ∷ name.Order ∷ name.Payment ∷ name.Time ∷ name.Weight ∷ []
@@ -351,7 +358,7 @@ names_of_order = name.Cause ∷ name.Code ∷ name.Control ∷ name.Lines ∷ na
 
 pub objects_read_back : ObjectsReadBack
 objects_read_back = (
-  (λ tally currency times books messages looks. read_named object_of.Summary (summary_members tally currency times books messages looks) names_of_summary (refl, (refl, (currency_named currency, (refl, (refl, (refl, (refl, (refl, (refl, (from_named times.span, (to_named times.span, (back_named times.went_back, (bad_named times.bad times.first_bad, (refl, (refl, (refl, tt)))))))))))))))) refl),
+  (λ tally currency terminal times books messages looks. read_named object_of.Summary (summary_members tally currency terminal times books messages looks) names_of_summary (refl, (refl, (currency_named currency, (refl, (refl, (refl, (refl, (refl, (refl, (terminal_named terminal, (from_named times.span, (to_named times.span, (back_named times.went_back, (bad_named times.bad times.first_bad, (refl, (refl, (refl, tt))))))))))))))))) refl),
   (λ rows look row. read_named object_of.Look (look_members rows look row) names_of_look (again_named look.again, (refl, (cause_named name.Cause _, (refl, (refl, (count_named name.Payment _, (time_named row.time, (refl, tt)))))))) refl),
   (λ books place row amount. read_named object_of.Payment (payment_members books place row amount) names_of_payment (refl, (count_named name.Approved _, (card_named row.card, (card_number_named row.card, (cause_named name.Cause _, (code_named row.outcome, (refl, (refl, (refl, (count_named name.Payment _, (receipt_named _, (cause_named name.ReversalUnclear _, (count_named name.ReversedBy _, (true_named name.TakenBack _, (time_named row.time, (count_named name.Trace _, (words_named row.outcome, tt))))))))))))))))) refl),
   (λ books place row message. read_named object_of.Reversal (reversal_members books place row message) names_of_reversal (count_named name.Amount _, (cause_named name.Cause _, (code_named row.outcome, (refl, (refl, (refl, (count_named name.Payment _, (receipt_named message.receipt, (time_named row.time, (words_named row.outcome, tt)))))))))) refl),

@@ -15,6 +15,7 @@ pub mod CardTexts
 pub mod CardObjects
 pub mod Statements
 pub mod Settling
+pub mod TerminalIds
 pub mod Explaining
 pub mod Closings
 pub mod Differing
@@ -22,6 +23,7 @@ pub mod Reports
 pub mod Said
 pub mod Places
 pub mod Words
+pub mod OrderNames
 pub mod Kinds
 pub mod Sums
 pub mod Written
@@ -50,6 +52,7 @@ pub mod Page
 pub mod PageClosings
 pub mod TimeMembers
 pub mod Times
+pub mod Heading
 pub mod Zones
 pub mod PageEvents
 pub mod Dialogue

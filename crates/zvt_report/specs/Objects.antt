@@ -26,6 +26,7 @@ use Rattle.zvt_report.specs.Kinds.{kind_of}
 use Rattle.zvt_report.specs.Laws.{booked_total}
 use Rattle.zvt_report.specs.Looks.{looks, weight_of}
 use Rattle.zvt_report.specs.Members.{object_text}
+use Rattle.zvt_report.specs.OrderNames.{order_name}
 use Rattle.zvt_report.specs.Places.{counted, no_counts, payment_of, payments_in, place_after, reversed_by}
 use Rattle.zvt_report.specs.Sums.{reversed_count, unclear_reversals, unclear_total}
 use Rattle.zvt_report.specs.TimeMembers.{back_member, bad_member, from_member, maybe_time, to_member}
@@ -140,9 +141,9 @@ ending row = said_as name.Outcome (value.Word (word.Ending (ending_of row.order 
 abbrev pub control : OrderMessage → Option Member
 control message = said_as name.Control (value.Bytes (message.high ∷ message.low ∷ []))
 
--- if the command has a name
+-- if the order has a name
 abbrev pub command : OrderMessage → Option Member
-command message = option_map (λ (n : List ℕ). record { name = name.Name; value = value.Word (word.Command message.high message.low) }) (command_name message.high message.low)
+command message = option_map (λ (n : List ℕ). record { name = name.Name; value = value.Word (word.Command message.high message.low) }) (order_name message.high message.low)
 
 -- ---- a row
 
@@ -305,8 +306,11 @@ others_from messages place (row ∷ rows) =
 abbrev pub maybe_currency : Option ℕ → Option Member
 maybe_currency currency = option_map (λ (c : ℕ). record { name = name.Currency; value = value.Currency c }) currency
 
-abbrev pub summary_members : Tally → (currency : Option ℕ) → Times → DayValue → List OrderMessage → List Look → List (Option Member)
-summary_members tally currency times books messages looks =
+abbrev pub maybe_terminal : Option (List ℕ) → Option Member
+maybe_terminal terminal = option_map (λ (id : List ℕ). record { name = name.Terminal; value = value.Terminal id }) terminal
+
+abbrev pub summary_members : Tally → (currency : Option ℕ) → (terminal : Option (List ℕ)) → Times → DayValue → List OrderMessage → List Look → List (Option Member)
+summary_members tally currency terminal times books messages looks =
     count name.Bad tally.bad
     ∷ count name.Booked (length books.book)
     ∷ maybe_currency currency
@@ -316,6 +320,7 @@ summary_members tally currency times books messages looks =
     ∷ count name.Others (others_from messages 0 books.orders)
     ∷ count name.ReversalsUnclear (unclear_reversals books.book)
     ∷ count name.Reversed (reversed_count books.book)
+    ∷ maybe_terminal terminal
     ∷ from_member times.span
     ∷ to_member times.span
     ∷ back_member times.went_back
@@ -325,13 +330,13 @@ summary_members tally currency times books messages looks =
     ∷ count name.UnclearAmount (unclear_total books.unclear)
     ∷ []
 
-abbrev pub summary_line : Tally → (currency : Option ℕ) → Times → DayValue → List OrderMessage → List Look → List ℕ
-summary_line tally currency times books messages looks = object_text object_of.Summary (summary_members tally currency times books messages looks)
+abbrev pub summary_line : Tally → (currency : Option ℕ) → (terminal : Option (List ℕ)) → Times → DayValue → List OrderMessage → List Look → List ℕ
+summary_line tally currency terminal times books messages looks = object_text object_of.Summary (summary_members tally currency terminal times books messages looks)
 
 -- the summary, then the looks, then the orders
-abbrev pub report_json : Tally → (currency : Option ℕ) → Times → DayValue → List OrderMessage → List (Option Closing) → List Look → List ℕ
-report_json tally currency times books messages closings looks =
-    summary_line tally currency times books messages looks ++ looks_json books.orders looks ++ rows_json books messages closings no_counts books.orders
+abbrev pub report_json : Tally → (currency : Option ℕ) → (terminal : Option (List ℕ)) → Times → DayValue → List OrderMessage → List (Option Closing) → List Look → List ℕ
+report_json tally currency terminal times books messages closings looks =
+    summary_line tally currency terminal times books messages looks ++ looks_json books.orders looks ++ rows_json books messages closings no_counts books.orders
 
 -- ---- rows worked by hand
 
@@ -387,9 +392,9 @@ paid_twice : let orders = a_row (sent.Register None) 2 4 outcome.Registered None
 unfolding object_text digits escape_byte
 paid_twice = refl
 
-a_summary : summary_line (record { messages = 12; bad = 0 }) (Some 978) no_times (record { book = an_entry 1234 true doubt.No ∷ an_entry 500 false doubt.No ∷ []; unclear = (700, cause.Line) ∷ []; orders = [] }) [] []
-    ≡ codes "{\"summary\":{\"bad\":0,\"booked\":2,\"currency\":\"0978\",\"looks\":0,\"messages\":12,\"net\":500,\"others\":0,\"reversals_unclear\":0,\"reversed\":1,\"total\":1734,\"unclear\":1,\"unclear_amount\":700}}\n"
-unfolding object_text digits escape_byte
+a_summary : summary_line (record { messages = 12; bad = 0 }) (Some 978) (Some (0x52 ∷ 0x50 ∷ 0x00 ∷ 0x41 ∷ [])) no_times (record { book = an_entry 1234 true doubt.No ∷ an_entry 500 false doubt.No ∷ []; unclear = (700, cause.Line) ∷ []; orders = [] }) [] []
+    ≡ codes "{\"summary\":{\"bad\":0,\"booked\":2,\"currency\":\"0978\",\"looks\":0,\"messages\":12,\"net\":500,\"others\":0,\"reversals_unclear\":0,\"reversed\":1,\"terminal\":\"52500041\",\"total\":1734,\"unclear\":1,\"unclear_amount\":700}}\n"
+unfolding object_text digits escape_byte encode_with
 a_summary = refl
 
 -- a time of day, and where a trace ends
@@ -400,7 +405,7 @@ a_time = refl
 -- the summary comes first, then the look, then the orders
 a_report : let orders = a_row (sent.Register None) 2 4 outcome.Registered None ∷ a_row (sent.Pay 3499) 6 8 (outcome.Unclear cause.Line) None ∷ a_row (sent.Pay 3499) 10 12 (outcome.Paid 21 None) None ∷ [] in
     let book : List Entry = record { amount = 3499; trace = 21; receipt = None; reversed = false; doubt = doubt.No } ∷ [] in
-    report_json (record { messages = 24; bad = 0 }) (Some 978) no_times (record { book = book; unclear = (3499, cause.Line) ∷ []; orders = orders }) (a_message 0x00 None None ∷ a_message 0x01 (Some 3499) None ∷ a_message 0x01 (Some 3499) None ∷ []) [] (looks book [] orders)
-    ≡ codes "{\"summary\":{\"bad\":0,\"booked\":1,\"currency\":\"0978\",\"looks\":1,\"messages\":24,\"net\":3499,\"others\":0,\"reversals_unclear\":0,\"reversed\":0,\"total\":3499,\"unclear\":1,\"unclear_amount\":3499}}\n{\"look\":{\"again\":3,\"case\":\"PaymentUnclear\",\"cause\":\"Line\",\"lines\":[6,8],\"order\":2,\"payment\":1,\"weight\":\"check\"}}\n{\"order\":{\"control\":\"0600\",\"lines\":[2,4],\"order\":1,\"outcome\":\"completed\"}}\n{\"payment\":{\"amount\":3499,\"cause\":\"Line\",\"lines\":[6,8],\"order\":2,\"outcome\":\"unclear\",\"payment\":1}}\n{\"payment\":{\"amount\":3499,\"lines\":[10,12],\"order\":3,\"outcome\":\"paid\",\"payment\":2,\"trace\":21}}\n"
-unfolding object_text digits escape_byte encode_with command_name
+    report_json (record { messages = 24; bad = 0 }) (Some 978) None no_times (record { book = book; unclear = (3499, cause.Line) ∷ []; orders = orders }) (a_message 0x00 None None ∷ a_message 0x01 (Some 3499) None ∷ a_message 0x01 (Some 3499) None ∷ []) [] (looks book [] orders)
+    ≡ codes "{\"summary\":{\"bad\":0,\"booked\":1,\"currency\":\"0978\",\"looks\":1,\"messages\":24,\"net\":3499,\"others\":0,\"reversals_unclear\":0,\"reversed\":0,\"total\":3499,\"unclear\":1,\"unclear_amount\":3499}}\n{\"look\":{\"again\":3,\"case\":\"PaymentUnclear\",\"cause\":\"Line\",\"lines\":[6,8],\"order\":2,\"payment\":1,\"weight\":\"check\"}}\n{\"order\":{\"control\":\"0600\",\"lines\":[2,4],\"name\":\"registration\",\"order\":1,\"outcome\":\"completed\"}}\n{\"payment\":{\"amount\":3499,\"cause\":\"Line\",\"lines\":[6,8],\"order\":2,\"outcome\":\"unclear\",\"payment\":1}}\n{\"payment\":{\"amount\":3499,\"lines\":[10,12],\"order\":3,\"outcome\":\"paid\",\"payment\":2,\"trace\":21}}\n"
+unfolding object_text digits escape_byte encode_with
 a_report = refl

@@ -69,7 +69,7 @@ pub struct CardTotals {
 }
 
 /// Whether each byte is two digits.
-fn all_digits(bytes: &[u8]) -> bool
+pub(crate) fn all_digits(bytes: &[u8]) -> bool
     ensures value { result ≡ list_all is_digit_pair bytes.now }
     ensures digits { result ≡ true → AreDigits bytes.now }
 {

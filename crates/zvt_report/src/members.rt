@@ -15,9 +15,10 @@ use crate::endings::Ending;
 use crate::explaining::Explained;
 use crate::member_groups::write_groups;
 use crate::member_orders::write_orders;
+use crate::order_names::order_name;
 use std::alloc::AllocError;
 use zvt_bcd::Currency;
-use zvt_text::{Text, command_name, meaning};
+use zvt_text::{Text, meaning};
 use zvt_till::Cause;
 use zvt_trace::Moment;
 
@@ -89,6 +90,7 @@ pub(crate) enum Name {
     ReversedBy,
     Stated,
     TakenBack,
+    Terminal,
     Time,
     TimeFrom,
     TimeTo,
@@ -144,6 +146,7 @@ impl Name {
             Name::ReversedBy => "reversed_by",
             Name::Stated => "stated",
             Name::TakenBack => "taken_back",
+            Name::Terminal => "terminal",
             Name::Time => "time",
             Name::TimeFrom => "time_from",
             Name::TimeTo => "time_to",
@@ -168,7 +171,7 @@ pub(crate) enum Word {
     Ending(Ending),
     /// What this result code means, or no text if it is not listed.
     Meaning(u8),
-    /// The name of the command with these control bytes, or no text if it has none.
+    /// The name of the order with these control bytes, or no text if it has none.
     Command(u8, u8),
     /// The name of this card type, or no text if it has none.
     CardType(u8),
@@ -188,7 +191,7 @@ impl Word {
             Word::Cause(cause) => cause.name(),
             Word::Ending(ending) => ending.name(),
             Word::Meaning(code) => meaning(code).unwrap_or(""),
-            Word::Command(high, low) => command_name(high, low).unwrap_or(""),
+            Word::Command(high, low) => order_name(high, low).unwrap_or(""),
             Word::CardType(card_type) => type_words(card_type),
         }
     }
@@ -208,6 +211,8 @@ pub(crate) enum Value {
     Byte(u8),
     /// Two bytes in hexadecimal.
     Bytes([u8; 2]),
+    /// A terminal identifier in hexadecimal.
+    Terminal([u8; 4]),
     /// The first and the last receipt number.
     Receipts([u8; 2], [u8; 2]),
     /// The numbers of these orders.
@@ -300,6 +305,7 @@ fn write_value(text: &mut Text, value: &Value) -> Result<(), AllocError>
         Value::Lines(first, last) => write_lines(text, *first, *last),
         Value::Byte(byte) => write_bytes(text, &[*byte]),
         Value::Bytes(bytes) => write_bytes(text, bytes.as_slice()),
+        Value::Terminal(id) => write_bytes(text, id.as_slice()),
         Value::Receipts(first, last) => write_receipts(text, first.as_slice(), last.as_slice()),
         Value::Orders(orders) => write_orders(text, orders),
         Value::Groups(groups) => write_groups(text, groups.as_slice()),

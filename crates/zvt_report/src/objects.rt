@@ -15,7 +15,9 @@ use crate::differing::closing_at;
 use crate::kinds::{OrderKind, kind_of};
 use crate::members::{Member, Name, Object, Value, Word, write_object};
 use crate::order_objects::{other, payment, plain, reversal};
-use crate::parts::{cause_of, count, lines, maybe_cause, maybe_count, maybe_currency, said_as};
+use crate::parts::{
+    cause_of, count, lines, maybe_cause, maybe_count, maybe_currency, maybe_terminal, said_as,
+};
 use crate::places::{Counts, Place, payments_in};
 use crate::rows::{OrderMessage, OrderRow};
 use crate::sums::{booked_total, net_total, reversed_count, unclear_reversals, unclear_total};
@@ -33,6 +35,7 @@ pub(crate) fn write(
     text: &mut Text,
     tally: Tally,
     currency: Option<Currency>,
+    terminal: Option<[u8; 4]>,
     times: &Times,
     books: &DayBooks,
     messages: &[OrderMessage],
@@ -40,9 +43,11 @@ pub(crate) fn write(
     looks: &[Look],
 ) -> Result<(), AllocError>
     ensures { OnOk result (text.new ≡ text.old
-        ++ report_json tally currency times.now books.now messages.now closings.now looks.now) }
+        ++ report_json tally currency terminal times.now books.now messages.now closings.now looks.now) }
 {
-    summary(text, tally, currency, times, books, messages, looks)?;
+    summary(
+        text, tally, currency, terminal, times, books, messages, looks,
+    )?;
     look_rows(text, books.orders.as_slice(), looks)?;
     order_rows(text, books, messages, closings)
 }
@@ -52,13 +57,14 @@ fn summary(
     text: &mut Text,
     tally: Tally,
     currency: Option<Currency>,
+    terminal: Option<[u8; 4]>,
     times: &Times,
     books: &DayBooks,
     messages: &[OrderMessage],
     looks: &[Look],
 ) -> Result<(), AllocError>
     ensures { OnOk result (text.new ≡ text.old
-        ++ summary_line tally currency times.now books.now messages.now looks.now) }
+        ++ summary_line tally currency terminal times.now books.now messages.now looks.now) }
 {
     let book = books.book.as_slice();
     let unclear = books.unclear.as_slice();
@@ -75,6 +81,7 @@ fn summary(
         ),
         count(Name::ReversalsUnclear, unclear_reversals(book) as u64),
         count(Name::Reversed, reversed_count(book) as u64),
+        maybe_terminal(terminal),
         from_member(&times.span),
         to_member(&times.span),
         back_member(times.went_back),
