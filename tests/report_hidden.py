@@ -22,7 +22,8 @@ SEED, ROUNDS, PASSWORD = 20261130, 3, 3
 # A report shows, or judges by, the result code, the amount, the numbers of a payment, the currency, the totals by card, and the type
 # and the name of the card. It shows the number of a card only if the terminal masked it.
 SHOWN = {0x04, 0x0B, 0x27, 0x37, 0x49, 0x60, 0x87, 0x8A, 0x8B}
-AMOUNT, CARD_NUMBER = 0x04, 0x22
+# Of a terminal's status and completion it shows the terminal too.
+AMOUNT, CARD_NUMBER, TERMINAL, NAMING = 0x04, 0x22, 0x29, ("040F", "060F")
 LENGTH_DIGITS = {"LL": 2, "LLL": 3}
 check = Checks()
 
@@ -82,7 +83,7 @@ def hidden(data):
     for bmp, places in fields(data, start + first):
         if bmp == CARD_NUMBER:
             found += [] if is_masked(bytes(data[at] for at in places)) else [(at, True) for at in places]
-        elif bmp not in SHOWN:
+        elif bmp not in SHOWN and (bmp != TERMINAL or control not in NAMING):
             found += [(at, bmp in json_model.DIGITS) for at in places]
     return found
 

@@ -22,7 +22,9 @@ ALREADY_REVERSED = "B4"
 DECLINES, GOOD = "declines", "good"
 CHECKS = ("PaymentUnclear", "PaidAlike", "ReversalRefused", "CloseUnclear", "CloseRefused", "CloseDiffers")
 MOVES = ("payment", "reversal", "other", "close")
-TOTALS, CARD_NUMBER, CARD_TYPE, CARD_NAME = "60", "22", "8A", "8B"
+TOTALS, CARD_NUMBER, CARD_TYPE, CARD_NAME, TERMINAL = "60", "22", "8A", "8B", "29"
+NAMES = {**json_model.COMMANDS, "0600": "registration"}
+BRANDS = ("girocard", "JCB", "Mastercard", "American Express", "VISA", "Diners", "others")
 # Whether an order adds its amount to the terminal's total, or takes it from the total.
 SIGNS = {"0604": 1, "0609": 1, "0621": 1, "0624": 1, "0631": -1}
 
@@ -56,6 +58,15 @@ def totals_of(status):
     if content is None or len(content) != 106 or not all(content[at + 2:at + 14].isdecimal() for at in range(8, 106, 14)):
         return None
     return content
+
+
+def groups_of(totals):
+    """The groups in the digits of BMP 60 that have a payment or a sum: two digits of the count, in hexadecimal, and twelve of the sum."""
+    found = []
+    for brand, (count, total) in zip(BRANDS, re.findall("(..)(.{12})", totals[8:])):
+        if count != "00" or int(total):
+            found.append({"card": brand, "count": int(count, 16), "sum": int(total)})
+    return found
 
 
 def is_masked(number):
@@ -223,7 +234,7 @@ class Order:
 class Report(Audit):
     def __init__(self, trace, loose=False, strict=False):
         self.orders, self.running, self.book, self.in_force = [], None, [], None
-        self.times = Times(trace)
+        self.times, self.terminal = Times(trace), None
         super().__init__(trace, loose, not strict)
 
     def sent(self, message):
@@ -252,6 +263,9 @@ class Report(Audit):
 
     def heard(self, message):
         super().heard(message)
+        if self.terminal is None and message["kind"] in ("Status", "Completion"):
+            named = only(message, TERMINAL)
+            self.terminal = named if named and named.isdecimal() else None
         order = self.running
         if order is None:
             return
@@ -376,7 +390,7 @@ class Report(Audit):
                     messages=self.messages, net=sum(entry["amount"] for entry in self.book if not entry["reversed"]),
                     others=sum(order.kind == "other" for order in self.orders), unclear=len(open_amounts), unclear_amount=sum(open_amounts),
                     reversals_unclear=sum(entry["doubt"] not in (None, ALREADY_REVERSED) for entry in self.book),
-                    reversed=sum(entry["reversed"] for entry in self.book), total=sum(entry["amount"] for entry in self.book), **self.times.members())
+                    reversed=sum(entry["reversed"] for entry in self.book), terminal=self.terminal, total=sum(entry["amount"] for entry in self.book), **self.times.members())
 
     def number_of(self, order):
         payments = [one for one in self.orders if one.kind == "payment"]
@@ -412,7 +426,7 @@ class Report(Audit):
             return {}
         stated, book, totals, items = closing
         differs = None if stated in (None, book) else stated - book
-        return {"book": book, "differs": differs, "explained_by": explained(differs, items), "receipts": totals and [totals[:4], totals[4:8]],
+        return {"book": book, "differs": differs, "explained_by": explained(differs, items), "groups": groups_of(totals) if totals else None, "receipts": totals and [totals[:4], totals[4:8]],
                 "stated": stated}
 
     def closings(self):
@@ -443,7 +457,7 @@ class Report(Audit):
         return found
 
     def order_members(self, order):
-        return {"control": order.control, "name": json_model.COMMANDS.get(order.control)}
+        return {"control": order.control, "name": NAMES.get(order.control)}
 
 
 def said(**members):

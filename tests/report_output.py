@@ -51,6 +51,10 @@ CARDS = (GIROCARD, GIROCARD, VISA, VISA, card("6726EEEEEEEE1234FF", None, 5), ca
          card("67EEE1", b"\x94 \"\\<b>&amp;\x7F"), card("123456EEEE123456", b"x" * 24), card("12345EEEEE12345F", b"x" * 25), GIROCARD + VISA, card("", b"\0\x1F", 0xFF), card("EEEE"), card("", None, 6))
 
 
+# Terminal identifiers, and what is none: no digits, or two of them.
+TERMINALS = (b"\x29\x52\x50\x00\x40", b"\x29\x52\x50\x00\x41", b"\x29\x52\x50\x00\x4A", 2 * b"\x29\x52\x50\x00\x42")
+
+
 class Day(Dialogue):
     """A dialogue with reversals and ends of day that the terminal answers."""
 
@@ -64,6 +68,8 @@ class Day(Dialogue):
     def say(self, sign, data):
         if sign == "<" and data[:2] == STATUS and len(data) > 3 and self.chance.random() < 0.7:
             data = message(STATUS, data[3:] + self.chance.choice(CARDS))
+        if sign == "<" and data[:2] in (STATUS, COMPLETION) and self.chance.random() < 0.1:
+            data = message(data[:2], data[3:] + self.chance.choice(TERMINALS))
         super().say(sign, data)
 
     def step(self):
@@ -90,7 +96,7 @@ class Day(Dialogue):
 
     def close(self):
         self.say(">", message(END_OF_DAY, bytes(3)))
-        self.answer(self.chance.choice((b"\x27\0", b"\x27\x6C", b"\x04" + digits(100, 6), by_card(100, 1), by_card(*self.chance.choices((0, 1, 100), k=7)))))
+        self.answer(self.chance.choice((b"\x27\0", b"\x27\x6C", b"\x04" + digits(100, 6), by_card(100, 1), by_card(*self.chance.choices((0, 0, 1, 100, 251), k=7)))))
 
 
 def compared(name, trace):
@@ -184,7 +190,7 @@ def totalled(amount):
 
 
 def by_card(*sums):
-    groups = b"".join(bytes([one > 0]) + digits(one, 6) for one in (*sums, *[0] * (7 - len(sums))))
+    groups = b"".join(bytes([one % 251]) + digits(one, 6) for one in (*sums, *[0] * (7 - len(sums))))
     return message(STATUS, b"\x60\xF0\xF5\xF3" + digits(1, 2) + digits(9, 2) + groups)
 
 

@@ -12,8 +12,10 @@ pub mod StatementLemmas
 pub mod ExplainLemmas
 pub mod ReporterLemmas
 pub mod ReportedLemmas
+pub mod HiddenLemmas
 pub mod MemberLemmas
 pub mod LookObjectLemmas
+pub mod GroupLemmas
 pub mod CardLemmas
 pub mod TextLemmas
 pub mod EntryLemmas

@@ -1,5 +1,5 @@
 -- JSON escapes no character of the words of a report, and what is written of members.
-use Rattle.std.proofs.Common.{◌≡◌, ℕ, Bool, true, false, List, [], ◌∷◌, ◌++◌, Option, Some, Result, Ok, Err, codes, unwrap_or, refl, sym, ◌∙◌, ap, append_assoc}
+use Rattle.std.proofs.Common.{◌≡◌, ℕ, ◌==◌, Bool, true, false, cond, List, [], ◌∷◌, ◌++◌, Option, Some, Result, Ok, Err, codes, unwrap_or, refl, sym, ◌∙◌, ap, append_assoc}
 use Rattle.std.specs.Prelude.{OnOk}
 use Rattle.std.specs.declared.alloc.AllocError.{AllocError}
 use Rattle.json.specs.Print.{escape, escape_byte, quoted}
@@ -7,7 +7,7 @@ use Rattle.serde_json.specs.Data.{Members, member}
 use Rattle.serde_json.specs.Written.{comma_if, compact_text, members_text}
 use Rattle.zvt_json.specs.Strings.{line_text}
 use Rattle.zvt_json.proofs.EscapeLemmas.{command_plain, meaning_plain, word_plain as table_plain}
-use Rattle.zvt_text.specs.Meanings.{card_type_name, card_types}
+use Rattle.zvt_text.specs.Meanings.{card_type_name, card_types, command_name}
 use Rattle.zvt_text.specs.Writing.{Adds}
 use Rattle.zvt_till.specs.Names.{cause_name}
 use Rattle.zvt_till.specs.declared.outcomes.Cause.{Cause}
@@ -80,13 +80,21 @@ card_type_plain : (card_type : ℕ) → escape (unwrap_or (card_type_name card_t
 unfolding card_type_name
 card_type_plain card_type = table_plain card_types card_type refl
 
+order_plain : (profile registers : Bool) (high low : ℕ)
+    → let named = cond profile (cond registers (Some (codes "registration")) (command_name high low)) (command_name high low) in
+    escape (unwrap_or named []) ≡ unwrap_or named []
+unfolding escape_byte
+order_plain false registers high low = command_plain high low
+order_plain true true high low = refl
+order_plain true false high low = command_plain high low
+
 pub word_plain : (w : Word) → escape (word_text w) ≡ word_text w
 word_plain (word.Case c) = case_plain c
 word_plain (word.Weight w) = weight_plain w
 word_plain (word.Cause c) = cause_plain c
 word_plain (word.Ending e) = ending_plain e
 word_plain (word.Meaning code) = meaning_plain code
-word_plain (word.Command high low) = command_plain high low
+word_plain (word.Command high low) = order_plain (high == 0x06) (low == 0x00) high low
 word_plain (word.CardType card_type) = card_type_plain card_type
 
 pub name_plain : (n : Name) → escape (name_text n) ≡ name_text n
@@ -108,6 +116,7 @@ name_plain name.Control = refl
 name_plain name.Currency = refl
 name_plain name.Differs = refl
 name_plain name.ExplainedBy = refl
+name_plain name.Groups = refl
 name_plain name.Lines = refl
 name_plain name.Looks = refl
 name_plain name.Messages = refl
@@ -125,6 +134,7 @@ name_plain name.Reversed = refl
 name_plain name.ReversedBy = refl
 name_plain name.Stated = refl
 name_plain name.TakenBack = refl
+name_plain name.Terminal = refl
 name_plain name.Text = refl
 name_plain name.Time = refl
 name_plain name.TimeFrom = refl

@@ -1,4 +1,5 @@
 -- The members of the objects of a report come in the order of their names, so that an object is read back from its text.
+use Rattle.zvt_report.specs.OrderNames.{order_name}
 use Rattle.std.proofs.Common.{◌≡◌, ℕ, ◌+◌, ◌==◌, ◌≤◌, ◌&&◌, Bool, true, false, cond, nat_le, negsuc, ◌-◌, Some, None, Option, List, [], ◌∷◌, ◌++◌, refl, ◌∙◌, ap, arith}
 use Rattle.std.specs.Option.{option_and_then, option_map}
 use Rattle.std.specs.Ordering.{nat_cmp, match_ordering}
@@ -6,24 +7,27 @@ use Rattle.std.specs.Cmp.Lexicographic.{slice_cmp}
 use Rattle.std.specs.declared.cmp.Ordering.{Ordering}
 use Rattle.std.specs.declared.cmp.Ordering.TheVariants.{Less, Equal, Greater}
 use Rattle.std.proofs.lemmas.Bool.{and_from, and_parts}
-use Rattle.serde_json.specs.Data.{Data, string, number as numeral, unsigned, negative, Members, no_members, member, depth, members_depth}
-use Rattle.zvt_json.specs.Reading.{and_then, comes_after, members_ordered, ordered}
+use Rattle.serde_json.specs.Data.{Data, string, number as numeral, unsigned, negative, Members, no_members, member, depth, members_depth, items_depth, item}
+use Rattle.zvt_json.specs.Reading.{and_then, comes_after, members_ordered, ordered, items_ordered}
 use Rattle.zvt_json.proofs.ReadBack.{reads_back}
-use Rattle.zvt_text.specs.Meanings.{command_name, meaning_of}
+use Rattle.zvt_text.specs.Meanings.{meaning_of}
 use Rattle.zvt_till.specs.declared.outcomes.Cause.{Cause}
 use Rattle.zvt_till.specs.declared.outcomes.Outcome.{Outcome}
 use Rattle.zvt_report.specs.Advices.{advice}
 use Rattle.zvt_report.specs.LookObjects.{Told, look_told, look_value, of_member, order_member, payment_at, told, weight_member}
 use Rattle.zvt_report.specs.Members.{name_text, object_value, orders_value, said, value_data}
-use Rattle.zvt_report.specs.Objects.{cause_of, close_members, code, code_of, command, count, lines, maybe_cause, maybe_count, maybe_currency, maybe_receipt, other_members, payment_members, plain_members, reversal_members, said_as, summary_members, true_if, words}
+use Rattle.zvt_report.specs.Objects.{cause_of, close_members, code, code_of, command, count, lines, maybe_cause, maybe_count, maybe_currency, maybe_receipt, other_members, payment_members, plain_members, reversal_members, said_as, summary_members, true_if, words, maybe_terminal}
 use Rattle.zvt_report.specs.Sentences.{account, title}
 use Rattle.zvt_report.specs.CardObjects.{card_value, maybe_card, maybe_card_number}
 use Rattle.zvt_report.specs.Cards.{card_number}
-use Rattle.zvt_report.specs.CloseObjects.{book_member, difference_member, differs_member, explained_member, orders_of, receipts_member, receipts_of, stated_member}
+use Rattle.zvt_report.specs.CloseObjects.{book_member, difference_member, differs_member, explained_member, orders_of, receipts_member, receipts_of, stated_member, groups_member, groups_of}
 use Rattle.zvt_report.specs.Reading.{IsReadBack, ObjectsReadBack, ReadsBack}
 use Rattle.zvt_report.specs.TimeMembers.{back_member, bad_member, from_member, maybe_time, to_member}
 use Rattle.zvt_trace.specs.declared.moment.Moment.{Moment}
 use Rattle.zvt_report.specs.declared.cards.Card.{Card}
+use Rattle.zvt_report.specs.CardTotals.{is_used}
+use Rattle.zvt_report.specs.GroupObjects.{group_items, group_value, groups_value}
+use Rattle.zvt_report.specs.declared.card_totals.CardGroup.{CardGroup}
 use Rattle.zvt_report.specs.declared.card_totals.CardTotals.{CardTotals}
 use Rattle.zvt_report.specs.declared.closings.Closing.{Closing}
 use Rattle.zvt_report.specs.declared.explaining.Explained.{Explained}
@@ -108,6 +112,14 @@ orders_ordered (explained.Two a b) = refl
 orders_ordered (explained.Three a b c) = refl
 orders_ordered explained.Several = refl
 
+groups_ordered : (groups : List CardGroup) → ordered (groups_value groups) ≡ true
+groups_ordered [] = refl
+groups_ordered (group ∷ groups) = ordered_if (is_used group)
+  where
+    ordered_if : (used : Bool) → items_ordered (cond used (item (group_value group) (group_items groups)) (group_items groups)) ≡ true
+    ordered_if true = groups_ordered groups
+    ordered_if false = groups_ordered groups
+
 value_ordered : (v : Value) → ordered (value_data v) ≡ true
 value_ordered value.True = refl
 value_ordered (value.Count n) = refl
@@ -115,8 +127,10 @@ value_ordered (value.Difference more less) = difference_ordered (nat_le less mor
 value_ordered (value.Lines first last) = refl
 value_ordered (value.Byte byte) = refl
 value_ordered (value.Bytes bytes) = refl
+value_ordered (value.Terminal id) = refl
 value_ordered (value.Receipts first last) = refl
 value_ordered (value.Orders orders) = orders_ordered orders
+value_ordered (value.Groups groups) = groups_ordered groups
 value_ordered (value.Currency currency) = refl
 value_ordered (value.Moment moment) = refl
 value_ordered (value.Word w) = refl
@@ -152,22 +166,32 @@ orders_shallow (explained.Two a b) = omega arith
 orders_shallow (explained.Three a b c) = omega arith
 orders_shallow explained.Several = omega arith
 
-value_shallow : (v : Value) → depth (value_data v) ≤ 1
+groups_shallow : (groups : List CardGroup) → items_depth (group_items groups) ≤ 1
+groups_shallow [] = omega arith
+groups_shallow (group ∷ groups) = shallow_if (is_used group)
+  where
+    shallow_if : (used : Bool) → items_depth (cond used (item (group_value group) (group_items groups)) (group_items groups)) ≤ 1
+    shallow_if true = omega (arith, groups_shallow groups)
+    shallow_if false = groups_shallow groups
+
+value_shallow : (v : Value) → depth (value_data v) ≤ 2
 value_shallow value.True = omega arith
 value_shallow (value.Count n) = omega arith
-value_shallow (value.Difference more less) = difference_shallow (nat_le less more) (more - less) (less - more - 1)
+value_shallow (value.Difference more less) = omega (arith, difference_shallow (nat_le less more) (more - less) (less - more - 1))
 value_shallow (value.Lines first last) = omega arith
 value_shallow (value.Byte byte) = omega arith
 value_shallow (value.Bytes bytes) = omega arith
+value_shallow (value.Terminal id) = omega arith
 value_shallow (value.Receipts first last) = omega arith
-value_shallow (value.Orders orders) = orders_shallow orders
+value_shallow (value.Orders orders) = omega (arith, orders_shallow orders)
+value_shallow (value.Groups groups) = omega (arith, groups_shallow groups)
 value_shallow (value.Currency currency) = omega arith
 value_shallow (value.Moment moment) = omega arith
 value_shallow (value.Word w) = omega arith
 value_shallow (value.CardName name) = omega arith
 value_shallow (value.CardNumber number) = omega arith
 
-said_shallow : (ms : List (Option Member)) → members_depth (said ms) ≤ 1
+said_shallow : (ms : List (Option Member)) → members_depth (said ms) ≤ 2
 said_shallow [] = omega arith
 said_shallow (None ∷ ms) = said_shallow ms
 said_shallow (Some m ∷ ms) = omega (arith, value_shallow m.value, said_shallow ms)
@@ -255,6 +279,10 @@ currency_named : (currency : Option ℕ) → IsNamed (maybe_currency currency) n
 currency_named None = tt
 currency_named (Some currency) = refl
 
+terminal_named : (terminal : Option (List ℕ)) → IsNamed (maybe_terminal terminal) name.Terminal
+terminal_named None = tt
+terminal_named (Some id) = refl
+
 order_named : (n : Name) (place : Option ℕ) → IsNamed (order_member n place) n
 order_named n None = tt
 order_named n (Some place) = refl
@@ -287,7 +315,7 @@ command_by high low None = tt
 command_by high low (Some n) = refl
 
 command_named : (message : OrderMessage) → IsNamed (command message) name.Name
-command_named message = command_by message.high message.low (command_name message.high message.low)
+command_named message = command_by message.high message.low (order_name message.high message.low)
 
 book_named : (closing : Option Closing) → IsNamed (book_member closing) name.Book
 book_named None = tt
@@ -316,6 +344,14 @@ explained_by explained.Several = tt
 explained_named : (closing : Option Closing) → IsNamed (explained_member closing) name.ExplainedBy
 explained_named None = tt
 explained_named (Some c) = explained_by c.explained
+
+groups_by : (totals : Option CardTotals) → IsNamed (groups_of totals) name.Groups
+groups_by None = tt
+groups_by (Some t) = refl
+
+groups_named : (closing : Option Closing) → IsNamed (groups_member closing) name.Groups
+groups_named None = tt
+groups_named (Some c) = groups_by c.totals
 
 receipts_by : (totals : Option CardTotals) → IsNamed (receipts_of totals) name.Receipts
 receipts_by None = tt
@@ -352,7 +388,7 @@ bad_named bad (Some line) = refl
 -- ---- the objects
 
 abbrev names_of_summary : List Name
-names_of_summary = name.Bad ∷ name.Booked ∷ name.Currency ∷ name.Looks ∷ name.Messages ∷ name.Net ∷ name.Others ∷ name.ReversalsUnclear ∷ name.Reversed ∷ name.TimeFrom ∷ name.TimeTo ∷ name.TimesBack ∷ name.TimesBad ∷ name.Total ∷ name.Unclear ∷ name.UnclearAmount ∷ []
+names_of_summary = name.Bad ∷ name.Booked ∷ name.Currency ∷ name.Looks ∷ name.Messages ∷ name.Net ∷ name.Others ∷ name.ReversalsUnclear ∷ name.Reversed ∷ name.Terminal ∷ name.TimeFrom ∷ name.TimeTo ∷ name.TimesBack ∷ name.TimesBad ∷ name.Total ∷ name.Unclear ∷ name.UnclearAmount ∷ []
 
 abbrev names_of_look : List Name
 names_of_look = name.Advice ∷ name.Again ∷ name.Case ∷ name.Cause ∷ name.ConfirmedBy ∷ name.Lines ∷ name.Order ∷ name.Payment ∷ name.Text ∷ name.Time ∷ name.Title ∷ name.Weight ∷ []
@@ -367,7 +403,7 @@ abbrev names_of_other : List Name
 names_of_other = name.Amount ∷ name.Cause ∷ name.Code ∷ name.Control ∷ name.Lines ∷ name.Name ∷ name.Order ∷ name.Outcome ∷ name.Time ∷ name.Words ∷ []
 
 abbrev names_of_close : List Name
-names_of_close = name.Book ∷ name.Cause ∷ name.Code ∷ name.Differs ∷ name.ExplainedBy ∷ name.Lines ∷ name.Order ∷ name.Outcome ∷ name.Receipts ∷ name.Stated ∷ name.Time ∷ name.Words ∷ []
+names_of_close = name.Book ∷ name.Cause ∷ name.Code ∷ name.Differs ∷ name.ExplainedBy ∷ name.Groups ∷ name.Lines ∷ name.Order ∷ name.Outcome ∷ name.Receipts ∷ name.Stated ∷ name.Time ∷ name.Words ∷ []
 
 abbrev names_of_order : List Name
 names_of_order = name.Cause ∷ name.Code ∷ name.Control ∷ name.Lines ∷ name.Name ∷ name.Order ∷ name.Outcome ∷ name.Time ∷ name.Words ∷ []
@@ -379,11 +415,11 @@ look_read decimals facts rows look =
 
 pub objects_read_back : ObjectsReadBack
 objects_read_back = (
-  (λ tally currency times books messages looks. read_named object_of.Summary (summary_members tally currency times books messages looks) names_of_summary (refl, (refl, (currency_named currency, (refl, (refl, (refl, (refl, (refl, (refl, (from_named times.span, (to_named times.span, (back_named times.went_back, (bad_named times.bad times.first_bad, (refl, (refl, (refl, tt)))))))))))))))) refl),
+  (λ tally currency terminal times books messages looks. read_named object_of.Summary (summary_members tally currency terminal times books messages looks) names_of_summary (refl, (refl, (currency_named currency, (refl, (refl, (refl, (refl, (refl, (refl, (terminal_named terminal, (from_named times.span, (to_named times.span, (back_named times.went_back, (bad_named times.bad times.first_bad, (refl, (refl, (refl, tt))))))))))))))))) refl),
   (λ decimals facts rows look. look_read decimals facts rows look),
   (λ books place row amount. read_named object_of.Payment (payment_members books place row amount) names_of_payment (refl, (count_named name.Approved _, (card_named row.card, (card_number_named row.card, (cause_named name.Cause _, (code_named row.outcome, (refl, (refl, (refl, (count_named name.Payment _, (receipt_named _, (cause_named name.ReversalUnclear _, (count_named name.ReversedBy _, (true_named name.TakenBack _, (time_named row.time, (count_named name.Trace _, (words_named row.outcome, tt))))))))))))))))) refl),
   (λ books place row message. read_named object_of.Reversal (reversal_members books place row message) names_of_reversal (count_named name.Amount _, (cause_named name.Cause _, (code_named row.outcome, (refl, (refl, (refl, (count_named name.Payment _, (receipt_named message.receipt, (time_named row.time, (words_named row.outcome, tt)))))))))) refl),
   (λ place row message. read_named object_of.Other (other_members place row message) names_of_other (count_named name.Amount _, (cause_named name.Cause _, (code_named row.outcome, (refl, (refl, (command_named message, (refl, (refl, (time_named row.time, (words_named row.outcome, tt)))))))))) refl),
-  (λ closing place row. read_named object_of.Close (close_members closing place row) names_of_close (book_named closing, (cause_named name.Cause _, (code_named row.outcome, (differs_named closing, (explained_named closing, (refl, (refl, (refl, (receipts_named closing, (stated_named closing, (time_named row.time, (words_named row.outcome, tt)))))))))))) refl),
+  (λ closing place row. read_named object_of.Close (close_members closing place row) names_of_close (book_named closing, (cause_named name.Cause _, (code_named row.outcome, (differs_named closing, (explained_named closing, (groups_named closing, (refl, (refl, (refl, (receipts_named closing, (stated_named closing, (time_named row.time, (words_named row.outcome, tt))))))))))))) refl),
   (λ place row message. read_named object_of.Order (plain_members place row message) names_of_order (cause_named name.Cause _, (code_named row.outcome, (refl, (refl, (command_named message, (refl, (refl, (time_named row.time, (words_named row.outcome, tt))))))))) refl),
 )

@@ -1,5 +1,6 @@
 -- What a reporter becomes by an event, and what it finds after all events.
-use Rattle.std.proofs.Common.{◌≡◌, inl, inr, ℕ, List, [], ◌∷◌, ◌++◌, None, Ok, Err, fold, map, refl, sym, ◌∙◌, ap, ap₂, subst, append_assoc, append-nil}
+use Rattle.std.proofs.Common.{◌≡◌, inl, inr, ℕ, List, [], ◌∷◌, ◌++◌, Option, Some, None, Ok, Err, fold, map, refl, sym, ◌∙◌, ap, ap₂, subst, append_assoc, append-nil}
+use Rattle.std.specs.Option.{option_or}
 use Rattle.std.specs.Str.Lines.{lines}
 use Rattle.zvt_grammar.specs.Reading.{Reading}
 use Rattle.zvt_apdu.specs.Message.{Message}
@@ -28,6 +29,7 @@ use Rattle.zvt_report.specs.Reported.{beginning_in, beginnings, happenings_with,
 use Rattle.zvt_report.specs.Reports.{AnswersReport, Finds, JudgesAll, Judges, Reports, ReportsBy, SaysMore, StartsIn, hears, hears_by, wants_memory_by}
 use Rattle.zvt_report.specs.Said.{AreSaidBy, IsSaidBy}
 use Rattle.zvt_report.specs.Settling.{settled}
+use Rattle.zvt_report.specs.TerminalIds.{first_terminal, terminal_after, terminal_by}
 use Rattle.zvt_report.specs.Times.{timed_day, times_in}
 use Rattle.zvt_report.specs.declared.zones.Zone.{Zone}
 use Rattle.zvt_trace.specs.Moments.{bad_marks_of, times_of}
@@ -62,19 +64,20 @@ says_none old new more none same =
     λ messages said. subst (λ (l : List OrderMessage). AreSaidBy (messages ++ more) l) (sym same) (subst (λ (l : List Message). AreSaidBy l old) (sym (ap (λ (l : List Message). messages ++ l) none ∙ append-nil messages)) said)
 
 -- an event that is no order
-pub reports_by : (old new : Reporter) (event : At) (happened : List Happening) → ((book : List Entry) → happenings_with book event.trace_event ≡ happened) → named_by event.trace_event ≡ None → beginning_in event.trace_event ≡ []
+pub reports_by : (old new : Reporter) (event : At) (happened : List Happening) → ((book : List Entry) → happenings_with book event.trace_event ≡ happened) → named_by event.trace_event ≡ None → beginning_in event.trace_event ≡ [] → terminal_by event.trace_event ≡ None
     → ReportsBy old event.line happened new → States old.hearing event new.hearing → Reports old event new
-reports_by old new event happened same unnamed none (judged, named, messages) states = (
+reports_by old new event happened same unnamed none silent (judged, named, messages, terminal) states = (
   judges_by old.day new.day event happened same judged,
   named ∙ ap (named_after old.named) (sym unnamed),
   says_none old.messages.items new.messages.items (beginning_in event.trace_event) none messages,
   states,
+  terminal ∙ ap (terminal_after old.terminal) (sym silent),
 )
 
 -- an event by which nothing happened
-pub reports_same : (old : Reporter) (event : At) → ((book : List Entry) → happenings_with book event.trace_event ≡ []) → named_by event.trace_event ≡ None → beginning_in event.trace_event ≡ []
+pub reports_same : (old : Reporter) (event : At) → ((book : List Entry) → happenings_with book event.trace_event ≡ []) → named_by event.trace_event ≡ None → beginning_in event.trace_event ≡ [] → terminal_by event.trace_event ≡ None
     → States old.hearing event old.hearing → Reports old event old
-reports_same old event same unnamed none states = reports_by old old event [] same unnamed none (judges_none old.day event.line, refl, refl) states
+reports_same old event same unnamed none silent states = reports_by old old event [] same unnamed none silent (judges_none old.day event.line, refl, refl, refl) states
 
 -- ---- all events
 
@@ -103,6 +106,24 @@ pub all_stated : (events : List At) (old new : Reporter) → HearsAll hears old 
 all_stated [] old new same = ap (λ (s : Reporter). stated s.hearing []) same
 all_stated (event ∷ events) old new some = all_stated events some.0 new some.2 ∙ some.1.3 events
 
+-- the first of two is the first of three
+named_first : (before found more : Option (List ℕ)) → option_or (terminal_after before found) more ≡ option_or before (option_or found more)
+named_first None None more = refl
+named_first None (Some id) more = refl
+named_first (Some first) None more = refl
+named_first (Some first) (Some id) more = refl
+
+-- the first terminal identifier
+pub all_identified : (events : List At) (old new : Reporter) → HearsAll hears old events new → new.terminal ≡ option_or old.terminal (first_terminal events)
+all_identified [] old new same = ap (λ (s : Reporter). s.terminal) same ∙ named_none old.terminal
+  where
+    named_none : (before : Option (List ℕ)) → before ≡ option_or before None
+    named_none None = refl
+    named_none (Some id) = refl
+all_identified (event ∷ events) old new some =
+    all_identified events some.0 new some.2 ∙ ap (λ (t : Option (List ℕ)). option_or t (first_terminal events)) some.1.4
+    ∙ named_first old.terminal (terminal_by event.trace_event) (first_terminal events)
+
 -- one more message says this
 pub said_more : (messages : List Message) (m : Message) (old : List OrderMessage) (said : OrderMessage) → AreSaidBy messages old → IsSaidBy m said → AreSaidBy (messages ++ m ∷ []) (old ++ said ∷ [])
 said_more [] m [] said before is = (is, tt)
@@ -127,6 +148,7 @@ reported_all zone moments r scope trace tally report old new times bad starts wa
       record {
         currency = finds.currency ∙ currency_heard events old.listener new.listener starts.0.1 heard;
         books = finds.books (reported events) (all_judged events old.listener new.listener (noted 0 Connected ∷ []) starts.0.0 heard) ∙ ap₂ (λ (t : List Timed) (l : List Statement). timed_day zone t (settled l (day_of (reported events)))) times statements;
+        terminal = finds.terminal ∙ all_identified events old.listener new.listener heard ∙ ap (λ (t : Option (List ℕ)). option_or t (first_terminal events)) starts.0.5;
         times = finds.times ∙ ap₂ (times_in zone) times bad;
         statements = finds.statements ∙ statements;
         closings = finds.closings;

@@ -21,6 +21,13 @@ difference_member booked (Some covered) = cond (covered == booked) None (Some (r
 abbrev pub differs_member : Option Closing → Option Member
 differs_member closing = option_and_then (λ (c : Closing). difference_member c.booked c.covered) closing
 
+abbrev pub groups_of : Option CardTotals → Option Member
+groups_of totals = option_map (λ (t : CardTotals). record { name = name.Groups; value = value.Groups t.groups }) totals
+
+-- the totals by card
+abbrev pub groups_member : Option Closing → Option Member
+groups_member closing = option_and_then (λ (c : Closing). groups_of c.totals) closing
+
 abbrev pub receipts_of : Option CardTotals → Option Member
 receipts_of totals = option_map (λ (t : CardTotals). record { name = name.Receipts; value = value.Receipts t.first t.last }) totals
 

@@ -6,6 +6,7 @@ use Rattle.zvt_till.specs.declared.happenings.Sent.TheVariants.{CloseDay}
 use Rattle.zvt_till.specs.declared.outcomes.Outcome.TheVariants.{DayClosed}
 use Rattle.zvt_report.specs.Amounts.{amount_column}
 use Rattle.zvt_report.specs.Differing.{closing_at}
+use Rattle.zvt_report.specs.GroupTable.{groups_part}
 use Rattle.zvt_report.specs.Times.{time_first}
 use Rattle.zvt_report.specs.LookList.{lines_part}
 use Rattle.zvt_report.specs.declared.card_totals.CardTotals.{CardTotals}
@@ -66,7 +67,7 @@ closing_text decimals all row closing =
 
 unfoldable pub closing_if : Decimals → (all : List OrderRow) → OrderRow → Option Closing → List ℕ
 closing_if decimals all row None = []
-closing_if decimals all row (Some closing) = closing_text decimals all row closing
+closing_if decimals all row (Some closing) = closing_text decimals all row closing ++ groups_part decimals closing.totals
 
 -- the ends of day among these rows; the first row has this place among all
 abbrev pub closings_from : Decimals → List (Option Closing) → (all : List OrderRow) → (place : ℕ) → List OrderRow → List ℕ
@@ -95,10 +96,10 @@ a_closing booked taken_back =
 differs : closings_text Cents (Some (a_closing 15713 1500) ∷ []) (a_close ∷ [])
     ≡ codes "\nEnd of day (lines 346-366)\n" ++ codes "  terminal           172.12  receipts 0005 to 0015\n"
     ++ codes "  book               142.13\n" ++ codes "  differs             29.99\n" ++ codes "  explained by the orders of lines 346 and 0\n"
-unfolding amount_column book_line closing_if closing_text difference_column differs_line digits encode_with lines_part receipts_part terminal_line time_first
+unfolding amount_column book_line closing_if closing_text difference_column differs_line digits encode_with groups_part lines_part receipts_part terminal_line time_first
 differs = refl
 
 agrees : closings_text Cents (None ∷ Some (record (a_closing 17212 0) { explained = Nothing }) ∷ []) (a_close ∷ a_close ∷ [])
     ≡ codes "\nEnd of day (lines 346-366)\n" ++ codes "  terminal           172.12  receipts 0005 to 0015\n" ++ codes "  book               172.12\n"
-unfolding amount_column book_line closing_if closing_text difference_column differs_line digits encode_with lines_part receipts_part terminal_line time_first
+unfolding amount_column book_line closing_if closing_text difference_column differs_line digits encode_with groups_part lines_part receipts_part terminal_line time_first
 agrees = refl

@@ -1,5 +1,5 @@
 -- The ends of day that closed a day, and the book of the same time.
-use Rattle.std.specs.Prelude.{◌≡◌, ℕ, ◌+◌, ◌==◌, Bool, true, false, cond, List, [], ◌∷◌, ◌++◌, Option, Some, None, option_map, slice_get, sum_by, take, refl}
+use Rattle.std.specs.Prelude.{◌≡◌, ℕ, ◌+◌, ◌==◌, Bool, true, false, cond, List, [], ◌∷◌, ◌++◌, Option, Some, None, option_map, slice_get, take, refl}
 use Rattle.std.specs.List.{cons_option, list_any}
 use Rattle.zvt_till.specs.declared.entries.Doubt.TheVariants.{No}
 use Rattle.zvt_till.specs.declared.entries.Entry.{Entry}
@@ -7,11 +7,11 @@ use Rattle.zvt_till.specs.declared.happenings.Sent.{Sent}
 use Rattle.zvt_till.specs.declared.happenings.Sent.TheVariants.{Pay, Reverse, CloseDay}
 use Rattle.zvt_till.specs.declared.outcomes.Outcome.{Outcome}
 use Rattle.zvt_till.specs.declared.outcomes.Outcome.TheVariants.{Paid, Reversed, DayClosed}
+use Rattle.zvt_report.specs.CardTotals.{groups_sum}
 use Rattle.zvt_report.specs.Explaining.{explain, open_item}
 use Rattle.zvt_report.specs.Objects.{message_at}
 use Rattle.zvt_report.specs.Places.{takes_back}
 use Rattle.zvt_report.specs.Statements.{no_statement}
-use Rattle.zvt_report.specs.declared.card_totals.CardGroup.{CardGroup}
 use Rattle.zvt_report.specs.declared.card_totals.CardTotals.{CardTotals}
 use Rattle.zvt_report.specs.declared.closings.Closing.{Closing}
 use Rattle.zvt_report.specs.declared.closings.Sums.{Sums}
@@ -53,9 +53,6 @@ abbrev pub taken_by : List Entry → (earlier : List OrderRow) → OrderRow → 
 taken_by book earlier row = taken_as book earlier row.order row.outcome
 
 -- ---- an end of day
-
-abbrev pub groups_sum : List CardGroup → ℕ
-groups_sum groups = sum_by (λ (group : CardGroup). group.sum) groups
 
 abbrev pub total_or : Option ℕ → Option CardTotals → Option ℕ
 total_or (Some total) totals = Some total

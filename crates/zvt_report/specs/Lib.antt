@@ -7,11 +7,15 @@ pub mod Looks
 pub mod Naming
 pub mod Reported
 pub mod CardTotals
+pub mod GroupTable
+pub mod GroupObjects
+pub mod PageGroups
 pub mod Cards
 pub mod CardTexts
 pub mod CardObjects
 pub mod Statements
 pub mod Settling
+pub mod TerminalIds
 pub mod Explaining
 pub mod Closings
 pub mod Differing
@@ -19,6 +23,7 @@ pub mod Reports
 pub mod Said
 pub mod Places
 pub mod Words
+pub mod OrderNames
 pub mod Kinds
 pub mod Sums
 pub mod Written
@@ -53,6 +58,8 @@ pub mod Page
 pub mod PageClosings
 pub mod TimeMembers
 pub mod Times
+pub mod Heading
 pub mod Zones
 pub mod PageEvents
 pub mod Dialogue
+pub mod Hidden

@@ -7,11 +7,13 @@ use Rattle.serde_json.specs.Data.{Data, string, boolean, number, negative, array
 use Rattle.serde_json.specs.Written.{comma_if, compact_text}
 use Rattle.zvt_json.specs.Strings.{count_value, byte_value, hex_value, line_text}
 use Rattle.zvt_text.specs.MessageTexts.{four_digits}
-use Rattle.zvt_text.specs.Meanings.{card_type_name, command_name, meaning_of}
+use Rattle.zvt_text.specs.Meanings.{card_type_name, meaning_of}
 use Rattle.zvt_trace.specs.Marks.{moment_text}
 use Rattle.zvt_till.specs.Names.{cause_name}
 use Rattle.zvt_till.specs.declared.outcomes.Cause.TheVariants.{NoStatus}
 use Rattle.zvt_report.specs.CardTexts.{characters, number_text}
+use Rattle.zvt_report.specs.GroupObjects.{groups_value}
+use Rattle.zvt_report.specs.OrderNames.{order_name}
 use Rattle.zvt_report.specs.Words.{case_name, ending_name, weight_name}
 use Rattle.zvt_report.specs.declared.explaining.Explained.{Explained}
 use Rattle.zvt_report.specs.declared.explaining.Explained.TheVariants as explained
@@ -52,6 +54,7 @@ name_text name.Control = codes "control"
 name_text name.Currency = codes "currency"
 name_text name.Differs = codes "differs"
 name_text name.ExplainedBy = codes "explained_by"
+name_text name.Groups = codes "groups"
 name_text name.Lines = codes "lines"
 name_text name.Looks = codes "looks"
 name_text name.Messages = codes "messages"
@@ -69,6 +72,7 @@ name_text name.Reversed = codes "reversed"
 name_text name.ReversedBy = codes "reversed_by"
 name_text name.Stated = codes "stated"
 name_text name.TakenBack = codes "taken_back"
+name_text name.Terminal = codes "terminal"
 name_text name.Text = codes "text"
 name_text name.Time = codes "time"
 name_text name.TimeFrom = codes "time_from"
@@ -89,7 +93,7 @@ word_text (word.Weight weight) = weight_name weight
 word_text (word.Cause cause) = cause_name cause
 word_text (word.Ending ending) = ending_name ending
 word_text (word.Meaning code) = unwrap_or (meaning_of code) []
-word_text (word.Command high low) = unwrap_or (command_name high low) []
+word_text (word.Command high low) = unwrap_or (order_name high low) []
 word_text (word.CardType card_type) = unwrap_or (card_type_name card_type) []
 
 abbrev pub lines_value : (first last : ℕ) → Data
@@ -121,8 +125,10 @@ value_data (value.Difference more less) = difference_value more less
 value_data (value.Lines first last) = lines_value first last
 value_data (value.Byte byte) = byte_value byte
 value_data (value.Bytes bytes) = hex_value bytes
+value_data (value.Terminal id) = hex_value id
 value_data (value.Receipts first last) = receipts_value first last
 value_data (value.Orders orders) = orders_value orders
+value_data (value.Groups groups) = groups_value groups
 value_data (value.Currency currency) = string (four_digits currency)
 value_data (value.Moment moment) = string (moment_text moment)
 value_data (value.Word w) = string (word_text w)

@@ -18,13 +18,14 @@ use Rattle.zvt_till.specs.declared.outcomes.Outcome.TheVariants as outcome
 use Rattle.zvt_trace.specs.Marks.{moment}
 use Rattle.zvt_trace.specs.declared.fault.Tally.{Tally}
 use Rattle.zvt_report.specs.CardObjects.{maybe_card, maybe_card_number}
-use Rattle.zvt_report.specs.CloseObjects.{book_member, differs_member, explained_member, receipts_member, stated_member}
+use Rattle.zvt_report.specs.CloseObjects.{book_member, differs_member, explained_member, groups_member, receipts_member, stated_member}
 use Rattle.zvt_report.specs.Differing.{closing_at}
 use Rattle.zvt_report.specs.Day.{DayValue}
 use Rattle.zvt_report.specs.Kinds.{kind_of}
 pub use Rattle.zvt_report.specs.Kinds.{message_at}
 use Rattle.zvt_report.specs.Laws.{booked_total}
 use Rattle.zvt_report.specs.Members.{object_text}
+use Rattle.zvt_report.specs.OrderNames.{order_name}
 use Rattle.zvt_report.specs.Places.{counted, no_counts, payment_of, payments_in, place_after, reversed_by}
 use Rattle.zvt_report.specs.Sums.{reversed_count, unclear_reversals, unclear_total}
 use Rattle.zvt_report.specs.TimeMembers.{back_member, bad_member, from_member, maybe_time, to_member}
@@ -138,9 +139,9 @@ ending row = said_as name.Outcome (value.Word (word.Ending (ending_of row.order 
 abbrev pub control : OrderMessage → Option Member
 control message = said_as name.Control (value.Bytes (message.high ∷ message.low ∷ []))
 
--- if the command has a name
+-- if the order has a name
 abbrev pub command : OrderMessage → Option Member
-command message = option_map (λ (n : List ℕ). record { name = name.Name; value = value.Word (word.Command message.high message.low) }) (command_name message.high message.low)
+command message = option_map (λ (n : List ℕ). record { name = name.Name; value = value.Word (word.Command message.high message.low) }) (order_name message.high message.low)
 
 -- ---- a row
 
@@ -205,6 +206,7 @@ close_members closing place row =
     ∷ code row.outcome
     ∷ differs_member closing
     ∷ explained_member closing
+    ∷ groups_member closing
     ∷ lines row
     ∷ count name.Order place.order
     ∷ ending row
@@ -265,8 +267,11 @@ others_from messages place (row ∷ rows) =
 abbrev pub maybe_currency : Option ℕ → Option Member
 maybe_currency currency = option_map (λ (c : ℕ). record { name = name.Currency; value = value.Currency c }) currency
 
-abbrev pub summary_members : Tally → (currency : Option ℕ) → Times → DayValue → List OrderMessage → List Look → List (Option Member)
-summary_members tally currency times books messages looks =
+abbrev pub maybe_terminal : Option (List ℕ) → Option Member
+maybe_terminal terminal = option_map (λ (id : List ℕ). record { name = name.Terminal; value = value.Terminal id }) terminal
+
+abbrev pub summary_members : Tally → (currency : Option ℕ) → (terminal : Option (List ℕ)) → Times → DayValue → List OrderMessage → List Look → List (Option Member)
+summary_members tally currency terminal times books messages looks =
     count name.Bad tally.bad
     ∷ count name.Booked (length books.book)
     ∷ maybe_currency currency
@@ -276,6 +281,7 @@ summary_members tally currency times books messages looks =
     ∷ count name.Others (others_from messages 0 books.orders)
     ∷ count name.ReversalsUnclear (unclear_reversals books.book)
     ∷ count name.Reversed (reversed_count books.book)
+    ∷ maybe_terminal terminal
     ∷ from_member times.span
     ∷ to_member times.span
     ∷ back_member times.went_back
@@ -285,8 +291,8 @@ summary_members tally currency times books messages looks =
     ∷ count name.UnclearAmount (unclear_total books.unclear)
     ∷ []
 
-abbrev pub summary_line : Tally → (currency : Option ℕ) → Times → DayValue → List OrderMessage → List Look → List ℕ
-summary_line tally currency times books messages looks = object_text object_of.Summary (summary_members tally currency times books messages looks)
+abbrev pub summary_line : Tally → (currency : Option ℕ) → (terminal : Option (List ℕ)) → Times → DayValue → List OrderMessage → List Look → List ℕ
+summary_line tally currency terminal times books messages looks = object_text object_of.Summary (summary_members tally currency terminal times books messages looks)
 
 -- ---- rows worked by hand
 
@@ -335,9 +341,9 @@ other_orders : let orders = a_row sent.Foreign 2 6 outcome.DayClosed None ∷ a_
 unfolding object_text digits escape_byte encode_with command_name meaning_of
 other_orders = refl
 
-a_summary : summary_line (record { messages = 12; bad = 0 }) (Some 978) no_times (record { book = an_entry 1234 true doubt.No ∷ an_entry 500 false doubt.No ∷ []; unclear = (700, cause.Line) ∷ []; orders = [] }) [] []
-    ≡ codes "{\"summary\":{\"bad\":0,\"booked\":2,\"currency\":\"0978\",\"looks\":0,\"messages\":12,\"net\":500,\"others\":0,\"reversals_unclear\":0,\"reversed\":1,\"total\":1734,\"unclear\":1,\"unclear_amount\":700}}\n"
-unfolding object_text digits escape_byte
+a_summary : summary_line (record { messages = 12; bad = 0 }) (Some 978) (Some (0x52 ∷ 0x50 ∷ 0x00 ∷ 0x41 ∷ [])) no_times (record { book = an_entry 1234 true doubt.No ∷ an_entry 500 false doubt.No ∷ []; unclear = (700, cause.Line) ∷ []; orders = [] }) [] []
+    ≡ codes "{\"summary\":{\"bad\":0,\"booked\":2,\"currency\":\"0978\",\"looks\":0,\"messages\":12,\"net\":500,\"others\":0,\"reversals_unclear\":0,\"reversed\":1,\"terminal\":\"52500041\",\"total\":1734,\"unclear\":1,\"unclear_amount\":700}}\n"
+unfolding object_text digits escape_byte encode_with
 a_summary = refl
 
 -- a time of day, and where a trace ends

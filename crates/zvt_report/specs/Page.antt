@@ -1,5 +1,6 @@
 -- The report of a trace as a page.
-use Rattle.std.specs.Prelude.{◌≡◌, ℕ, List, [], ◌∷◌, ◌++◌, codes, Option, Some, None, refl}
+use Rattle.std.specs.Prelude.{◌≡◌, ℕ, cond, List, [], ◌∷◌, ◌++◌, codes, Option, Some, None, refl}
+use Rattle.hex.specs.Hex.{encode_with}
 use Rattle.zvt_page.specs.Document.{document, document_end, document_start}
 use Rattle.zvt_page.specs.Html.{Html, nothing, element, text, leaf, all, both, attribute_text, end_tag, escaped, render, start_tag}
 use Rattle.zvt_page.specs.declared.elements.Attribute.TheVariants.{Class, Href}
@@ -12,7 +13,8 @@ use Rattle.zvt_report.specs.PageClosings.{closings_section}
 use Rattle.zvt_report.specs.PageLooks.{looks_section}
 use Rattle.zvt_report.specs.PageTables.{others_section, payments_section}
 use Rattle.zvt_report.specs.Summary.{unit_text}
-use Rattle.zvt_report.specs.Times.{clock_notes, no_times, span_words}
+use Rattle.zvt_report.specs.Heading.{has_head, head_words}
+use Rattle.zvt_report.specs.Times.{clock_notes, no_times}
 use Rattle.zvt_report.specs.declared.times.Times.{Times}
 use Rattle.zvt_report.specs.TextReport.{footer}
 use Rattle.zvt_report.specs.declared.cases.Look.{Look}
@@ -33,12 +35,12 @@ unit_words (Some money) = codes "Amounts in"
 abbrev pub amounts_in : Option Money → List ℕ
 amounts_in money = unit_words money ++ unit_text money
 
--- the day and the hours, if there are times
-abbrev pub hours_part : Times → Html
-hours_part times = elim times.span [ None ↦ nothing | Some between ↦ leaf P (codes "meta") (span_words times.zone between.0 between.1) ]
+-- the day, its hours and the terminal, if any of them is known
+abbrev pub hours_part : Times → (terminal : Option (List ℕ)) → Html
+hours_part times terminal = cond (has_head times terminal) (leaf P (codes "meta") (head_words times terminal)) nothing
 
-unfoldable pub page_head : (name : List ℕ) → Option Money → Times → Html
-page_head name money times = element Header [] (all (leaf H1 [] (heading name) ∷ hours_part times ∷ leaf P (codes "meta") (amounts_in money) ∷ []))
+unfoldable pub page_head : (name : List ℕ) → Option Money → (terminal : Option (List ℕ)) → Times → Html
+page_head name money terminal times = element Header [] (all (leaf H1 [] (heading name) ∷ hours_part times terminal ∷ leaf P (codes "meta") (amounts_in money) ∷ []))
 
 -- how much of the trace was read, and what is wrong with its times
 unfoldable pub page_foot : Tally → Times → Html
@@ -48,34 +50,34 @@ page_foot tally times = element Footer [] (leaf P [] (footer tally ++ clock_note
 unfoldable pub skip_link : Html
 skip_link = element A ((Class, codes "skip") ∷ (Href, codes "#look") ∷ []) (text (codes "Skip to what needs a look"))
 
-unfoldable pub sections : (name : List ℕ) → Option Money → Times → DayValue → List OrderMessage → List (Option Closing) → List Look → Html
-sections name money times books messages closings looks =
-    all (page_head name money times ∷ cards (decimals_of money) books messages ∷ looks_section (decimals_of money) books closings messages looks
+unfoldable pub sections : (name : List ℕ) → Option Money → (terminal : Option (List ℕ)) → Times → DayValue → List OrderMessage → List (Option Closing) → List Look → Html
+sections name money terminal times books messages closings looks =
+    all (page_head name money terminal times ∷ cards (decimals_of money) books messages ∷ looks_section (decimals_of money) books closings messages looks
     ∷ payments_section (decimals_of money) books ∷ others_section (decimals_of money) books messages ∷ closings_section (decimals_of money) closings books.orders ∷ [])
 
 -- the body of the page
-unfoldable pub page_of : (name : List ℕ) → Option Money → Tally → Times → DayValue → List OrderMessage → List (Option Closing) → List Look → (dialogue : Html) → Html
-page_of name money tally times books messages closings looks dialogue =
-    both skip_link (element Main ((Class, codes "page") ∷ []) (both (sections name money times books messages closings looks) (both dialogue (page_foot tally times))))
+unfoldable pub page_of : (name : List ℕ) → Option Money → Tally → (terminal : Option (List ℕ)) → Times → DayValue → List OrderMessage → List (Option Closing) → List Look → (dialogue : Html) → Html
+page_of name money tally terminal times books messages closings looks dialogue =
+    both skip_link (element Main ((Class, codes "page") ∷ []) (both (sections name money terminal times books messages closings looks) (both dialogue (page_foot tally times))))
 
 -- the same with a dialogue that is spelled already
-unfoldable pub page_with : (name : List ℕ) → Option Money → Tally → Times → DayValue → List OrderMessage → List (Option Closing) → List Look → (dialogue : List ℕ) → List ℕ
-page_with name money tally times books messages closings looks dialogue =
-    render skip_link ++ (start_tag Main ((Class, codes "page") ∷ []) ++ (render (sections name money times books messages closings looks) ++ (dialogue ++ (render (page_foot tally times) ++ end_tag Main))))
+unfoldable pub page_with : (name : List ℕ) → Option Money → Tally → (terminal : Option (List ℕ)) → Times → DayValue → List OrderMessage → List (Option Closing) → List Look → (dialogue : List ℕ) → List ℕ
+page_with name money tally terminal times books messages closings looks dialogue =
+    render skip_link ++ (start_tag Main ((Class, codes "page") ∷ []) ++ (render (sections name money terminal times books messages closings looks) ++ (dialogue ++ (render (page_foot tally times) ++ end_tag Main))))
 
-abbrev pub report_page : (name : List ℕ) → Tally → (currency : Option ℕ) → Times → DayValue → List OrderMessage → List (Option Closing) → List Look → (dialogue : List ℕ) → List ℕ
-report_page name tally currency times books messages closings looks dialogue =
-    document_start (heading name) ++ page_with name (money_of currency) tally times books messages closings looks dialogue ++ document_end
+abbrev pub report_page : (name : List ℕ) → Tally → (currency : Option ℕ) → (terminal : Option (List ℕ)) → Times → DayValue → List OrderMessage → List (Option Closing) → List Look → (dialogue : List ℕ) → List ℕ
+report_page name tally currency terminal times books messages closings looks dialogue =
+    document_start (heading name) ++ page_with name (money_of currency) tally terminal times books messages closings looks dialogue ++ document_end
 
 -- A report is a document if its dialogue is part of one.
 abbrev pub ReportsAreDocuments : Type 0
 ReportsAreDocuments =
-    (name : List ℕ) (tally : Tally) (currency : Option ℕ) (times : Times) (books : DayValue) (messages : List OrderMessage) (closings : List (Option Closing)) (looks : List Look) (dialogue : Html)
-    → report_page name tally currency times books messages closings looks (render dialogue)
-    ≡ document (heading name) (page_of name (money_of currency) tally times books messages closings looks dialogue)
+    (name : List ℕ) (tally : Tally) (currency : Option ℕ) (terminal : Option (List ℕ)) (times : Times) (books : DayValue) (messages : List OrderMessage) (closings : List (Option Closing)) (looks : List Look) (dialogue : Html)
+    → report_page name tally currency terminal times books messages closings looks (render dialogue)
+    ≡ document (heading name) (page_of name (money_of currency) tally terminal times books messages closings looks dialogue)
 
 -- ---- a row worked by hand
 
-a_head : render (page_head (codes "<b>.trace") (money_of (Some 978)) no_times) ≡ codes "<header><h1>&lt;b&gt;.trace</h1><p class=\"meta\">Amounts in EUR</p></header>"
-unfolding attribute_text end_tag escaped page_head start_tag unit_text
+a_head : render (page_head (codes "<b>.trace") (money_of (Some 978)) (Some (0x52 ∷ 0x50 ∷ 0x00 ∷ 0x41 ∷ [])) no_times) ≡ codes "<header><h1>&lt;b&gt;.trace</h1><p class=\"meta\">Terminal 52500041</p><p class=\"meta\">Amounts in EUR</p></header>"
+unfolding attribute_text encode_with end_tag escaped head_words page_head start_tag unit_text
 a_head = refl

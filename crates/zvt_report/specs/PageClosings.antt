@@ -8,6 +8,7 @@ use Rattle.zvt_till.specs.declared.happenings.Sent.TheVariants.{CloseDay}
 use Rattle.zvt_till.specs.declared.outcomes.Outcome.TheVariants.{DayClosed}
 use Rattle.zvt_report.specs.Amounts.{amount_text}
 use Rattle.zvt_report.specs.Differing.{closing_at}
+use Rattle.zvt_report.specs.PageGroups.{group_tables}
 use Rattle.zvt_report.specs.PageParts.{amount_or_nothing, column, lines_cell}
 use Rattle.zvt_report.specs.PageTables.{table}
 use Rattle.zvt_report.specs.declared.closings.Closing.{Closing}
@@ -48,10 +49,10 @@ closing_rows decimals closings place (row ∷ rows) = both (closing_of decimals 
 unfoldable pub closings_table : Decimals → List (Option Closing) → List OrderRow → Html
 closings_table decimals closings rows = table close_columns (closing_rows decimals closings 0 rows)
 
--- the table under its heading, if an order closed a day
+-- the table under its heading, and the totals by card, if an order closed a day
 unfoldable pub closings_section : Decimals → List (Option Closing) → List OrderRow → Html
 closings_section decimals closings rows =
-    cond (list_any is_some closings) (both (leaf H2 [] (codes "End of day")) (closings_table decimals closings rows)) nothing
+    cond (list_any is_some closings) (both (leaf H2 [] (codes "End of day")) (both (closings_table decimals closings rows) (group_tables decimals closings 0 rows))) nothing
 
 -- ---- a row worked by hand
 

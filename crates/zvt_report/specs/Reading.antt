@@ -31,7 +31,7 @@ ReadsBack o members = IsReadBack (object_value o members)
 -- every object of a report: its members come in the order of their names, each once
 abbrev pub ObjectsReadBack : Type 0
 ObjectsReadBack =
-    ((tally : Tally) (currency : Option ℕ) (times : Times) (books : DayValue) (messages : List OrderMessage) (looks : List Look) → ReadsBack object_of.Summary (summary_members tally currency times books messages looks))
+    ((tally : Tally) (currency : Option ℕ) (terminal : Option (List ℕ)) (times : Times) (books : DayValue) (messages : List OrderMessage) (looks : List Look) → ReadsBack object_of.Summary (summary_members tally currency terminal times books messages looks))
     × ((decimals : Decimals) (facts : Facts) (rows : List OrderRow) (look : Look) → IsReadBack (look_value (look_told decimals facts rows look)))
     × ((books : DayValue) (place : Place) (row : OrderRow) (amount : ℕ) → ReadsBack object_of.Payment (payment_members books place row amount))
     × ((books : DayValue) (place : Place) (row : OrderRow) (message : OrderMessage) → ReadsBack object_of.Reversal (reversal_members books place row message))

@@ -27,6 +27,7 @@ use Rattle.zvt_report.specs.Reported.{beginning_in, beginnings, reported, with_e
 use Rattle.zvt_report.specs.Said.{AreSaidBy}
 use Rattle.zvt_report.specs.Settling.{settled}
 use Rattle.zvt_report.specs.Statements.{States, stated, statements_of}
+use Rattle.zvt_report.specs.TerminalIds.{first_terminal, terminal_after, terminal_by}
 use Rattle.zvt_report.specs.Times.{timed_day, times_by, times_in}
 use Rattle.zvt_report.specs.declared.report.Report.{Report}
 use Rattle.zvt_report.specs.declared.reporter.Reporter.{Reporter}
@@ -45,7 +46,7 @@ Judges old event new = (notes : List Noted) → HasJudged notes old → HasJudge
 
 -- what a reporter becomes by what happened at a line, apart from an order
 abbrev pub ReportsBy : Reporter → (line : ℕ) → List Happening → Reporter → Type 0
-ReportsBy old line happened new = JudgesAll old.day line happened new.day × (new.named ≡ old.named) × (new.messages.items ≡ old.messages.items)
+ReportsBy old line happened new = JudgesAll old.day line happened new.day × (new.named ≡ old.named) × (new.messages.items ≡ old.messages.items) × (new.terminal ≡ old.terminal)
 
 -- what is said by messages, and by one more if there is one
 abbrev pub SaysMore : (old : List OrderMessage) → List Message → (new : List OrderMessage) → Type 0
@@ -56,6 +57,7 @@ abbrev pub Reports : Reporter → At → Reporter → Type 0
 Reports old event new =
     Judges old.day event new.day × (new.named ≡ named_after old.named (named_by event.trace_event))
     × SaysMore old.messages.items (beginning_in event.trace_event) new.messages.items × States old.hearing event new.hearing
+    × (new.terminal ≡ terminal_after old.terminal (terminal_by event.trace_event))
 
 -- ---- a reporter as a listener
 
@@ -76,7 +78,7 @@ wants_memory_by = FailsBy wants_memory
 abbrev pub IsConnected : Reporter → Type 0
 IsConnected reporter =
     HasJudged (noted 0 Connected ∷ []) reporter.day × (reporter.named ≡ Absent) × (reporter.messages.items ≡ [])
-    × (reporter.hearing.statements.items ≡ []) × (reporter.hearing.current ≡ None)
+    × (reporter.hearing.statements.items ≡ []) × (reporter.hearing.current ≡ None) × (reporter.terminal ≡ None)
 
 -- no message was refused yet
 abbrev pub StartsIn : Scope → ByControl Reporter → Type 0
@@ -87,6 +89,7 @@ pub record Finds (reporter : Reporter) (counted : Tally) (skipped : ℕ) (zone :
   pub tally : report.tally ≡ counted
   pub passed : report.passed ≡ skipped
   pub currency : report.currency ≡ agreed reporter.named
+  pub terminal : report.terminal ≡ reporter.terminal
   pub books : (notes : List Noted) → HasJudged notes reporter.day → report.books ≡ timed_day zone moments.times.items (settled (stated reporter.hearing []) (day_of notes))
   pub times : report.times ≡ times_in zone moments.times.items moments.bad.items
   pub statements : report.statements.items ≡ stated reporter.hearing []
@@ -98,6 +101,7 @@ pub record Finds (reporter : Reporter) (counted : Tally) (skipped : ℕ) (zone :
 -- the report of what a till and its terminal did, with the times of the trace's lines on the clock of a zone
 pub record IsReportOf (zone : Zone) (trace : List (List ℕ)) (events : List At) (report : Report) : Type 0 where
   pub currency : report.currency ≡ one_currency (currencies_of events)
+  pub terminal : report.terminal ≡ first_terminal events
   pub books : report.books ≡ timed_day zone (times_of trace) (settled (statements_of events) (day_of (reported events)))
   pub times : report.times ≡ times_by zone trace
   pub statements : report.statements.items ≡ statements_of events

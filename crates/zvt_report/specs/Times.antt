@@ -86,10 +86,6 @@ to_words z from to = later_date from to ++ clock_text to ++ 32 ∷ zone_text z
 unfoldable pub span_words : Zone → (from to : Moment) → List ℕ
 span_words z from to = from_words from ++ codes " to " ++ to_words z from to
 
--- a line with the day and the hours, and an empty line
-unfoldable pub span_part : Times → List ℕ
-span_part times = elim times.span [ None ↦ [] | Some between ↦ span_words times.zone between.0 between.1 ++ codes "\n\n" ]
-
 abbrev pub back_line : (line : ℕ) → List ℕ
 back_line line = codes "The clock of the time marks goes back at line " ++ decimal line ++ codes ".\n"
 
@@ -122,14 +118,6 @@ time_first (Some time) = clock_text time ++ codes ", "
 
 abbrev some_times : List Timed
 some_times = timed 2 (moment 2026 11 28 7 1 12 40_000_000) ∷ timed 12 (moment 2026 11 28 23 10 5 0) ∷ []
-
-a_day : span_part (times_in (zone false 60) some_times (99 ∷ [])) ≡ codes "2026-11-28 08:01:12 to 2026-11-29 00:10:05 UTC+01:00\n\n"
-unfolding from_words span_part span_words to_words zone_text
-a_day = refl
-
-no_day : span_part (times_in utc [] []) ≡ []
-unfolding span_part
-no_day = refl
 
 one_day : span_words utc (moment 2026 11 28 7 1 12 0) (moment 2026 11 28 17 30 5 0) ≡ codes "2026-11-28 07:01:12 to 17:30:05 UTC"
 unfolding from_words span_words to_words zone_text

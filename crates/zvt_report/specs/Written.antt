@@ -31,9 +31,9 @@ zone_for Page zone = zone
 
 -- the text, the objects or the page of a report with these looks; only the page has the name of the file and the dialogue
 abbrev pub report_in : ReportForm → (name : List ℕ) → Report → List Look → (dialogue : List ℕ) → List ℕ
-report_in Text name report found dialogue = report_text report.tally report.currency report.times report.books report.messages.items report.closings.items found
-report_in Json name report found dialogue = report_json report.tally report.currency report.times report.books report.messages.items report.closings.items found
-report_in Page name report found dialogue = report_page name report.tally report.currency report.times report.books report.messages.items report.closings.items found dialogue
+report_in Text name report found dialogue = report_text report.tally report.currency report.terminal report.times report.books report.messages.items report.closings.items found
+report_in Json name report found dialogue = report_json report.tally report.currency report.terminal report.times report.books report.messages.items report.closings.items found
+report_in Page name report found dialogue = report_page name report.tally report.currency report.terminal report.times report.books report.messages.items report.closings.items found dialogue
 
 -- the looks that its orders need
 abbrev pub looks_of : Report → List Look

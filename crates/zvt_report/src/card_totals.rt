@@ -3,32 +3,73 @@ ghost use Rattle.std.specs.Prelude.{◌≡◌, ◌+◌, ◌≤◌, true, length}
 ghost use Rattle.std.specs.List.{list_all};
 ghost use Rattle.std.specs.Option.{option_copied};
 ghost use Rattle.zvt_bcd.specs.Digits.{AreDigits, is_digit_pair};
-ghost use Rattle.zvt_report.specs.CardTotals.{group_at, groups_in, total_in, total_of, totals_in};
+ghost use Rattle.zvt_report.specs.CardTotals.{group_at, groups_in, is_used, total_in, total_of, totals_in};
 
 use zvt_bcd::{is_digits, number};
 
 /// The number of bytes of the totals by card.
 const SIZE: usize = 53;
 
-/// The number of payments with a kind of card, and their sum.
+/// The cards of a group, in the order of BMP 60.
+#[derive(Clone, Copy, Debug, PartialEq, Eq)]
+pub enum CardBrand {
+    Girocard,
+    Jcb,
+    Mastercard,
+    AmericanExpress,
+    Visa,
+    Diners,
+    Others,
+}
+
+impl CardBrand {
+    ghost use Rattle.std.specs.Prelude.{◌≡◌};
+    ghost use Rattle.zvt_report.specs.CardTotals.{brand_name};
+
+    /// Returns the name of the cards, in ASCII.
+    pub fn name(self) -> &'static str
+        ensures { result.now ≡ brand_name self }
+    {
+        match self {
+            CardBrand::Girocard => "girocard",
+            CardBrand::Jcb => "JCB",
+            CardBrand::Mastercard => "Mastercard",
+            CardBrand::AmericanExpress => "American Express",
+            CardBrand::Visa => "VISA",
+            CardBrand::Diners => "Diners",
+            CardBrand::Others => "others",
+        }
+    }
+}
+
+/// The number of payments with the cards of a brand, and their sum.
 #[derive(Clone, Copy, Debug, PartialEq, Eq)]
 pub struct CardGroup {
+    pub brand: CardBrand,
     pub count: u8,
     pub sum: u64,
 }
 
-/// The totals by card: girocard, JCB, Mastercard, American Express, VISA, Diners, and all others.
+/// Whether a group has a payment or a sum.
+pub(crate) fn is_used(group: &CardGroup) -> bool
+    ensures { result ≡ is_used group.now }
+{
+    group.count != 0 || group.sum != 0
+}
+
+/// The totals by card.
 #[derive(Clone, Copy, Debug, PartialEq, Eq)]
 pub struct CardTotals {
     /// The first receipt number.
     pub first: [u8; 2],
     /// The last receipt number.
     pub last: [u8; 2],
+    /// A group for each brand, in their order.
     pub groups: [CardGroup; 7],
 }
 
 /// Whether each byte is two digits.
-fn all_digits(bytes: &[u8]) -> bool
+pub(crate) fn all_digits(bytes: &[u8]) -> bool
     ensures value { result ≡ list_all is_digit_pair bytes.now }
     ensures digits { result ≡ true → AreDigits bytes.now }
 {
@@ -54,12 +95,13 @@ pub(crate) fn total_in(content: Option<&[u8]>) -> Option<u64>
 }
 
 /// Returns the group whose count has this index.
-fn group_at(content: &[u8], at: usize) -> Option<CardGroup>
+fn group_at(content: &[u8], brand: CardBrand, at: usize) -> Option<CardGroup>
     requires { at + 7 ≤ length content.now }
-    ensures { result ≡ group_at content.now at }
+    ensures { result ≡ group_at content.now (brand, at) }
 {
     let sum = total_of(&content[at + 1..at + 7])?;
     Some(CardGroup {
+        brand,
         count: content[at],
         sum,
     })
@@ -71,13 +113,13 @@ fn groups_in(content: &[u8]) -> Option<[CardGroup; 7]>
     ensures { result ≡ groups_in content.now }
 {
     Some([
-        group_at(content, 4)?,
-        group_at(content, 11)?,
-        group_at(content, 18)?,
-        group_at(content, 25)?,
-        group_at(content, 32)?,
-        group_at(content, 39)?,
-        group_at(content, 46)?,
+        group_at(content, CardBrand::Girocard, 4)?,
+        group_at(content, CardBrand::Jcb, 11)?,
+        group_at(content, CardBrand::Mastercard, 18)?,
+        group_at(content, CardBrand::AmericanExpress, 25)?,
+        group_at(content, CardBrand::Visa, 32)?,
+        group_at(content, CardBrand::Diners, 39)?,
+        group_at(content, CardBrand::Others, 46)?,
     ])
 }
 

@@ -1,7 +1,8 @@
 //! Writes the object of an end of day.
 ghost use Rattle.std.specs.Prelude.{◌≡◌, ◌++◌, OnOk};
 ghost use Rattle.zvt_report.specs.CloseObjects.{book_member, difference_member, differs_member, explained_member};
-ghost use Rattle.zvt_report.specs.CloseObjects.{orders_of, receipts_member, receipts_of, stated_member, stated_of};
+ghost use Rattle.zvt_report.specs.CloseObjects.{groups_member, groups_of, orders_of, receipts_member, receipts_of};
+ghost use Rattle.zvt_report.specs.CloseObjects.{stated_member, stated_of};
 ghost use Rattle.zvt_report.specs.Members.{object_text};
 ghost use Rattle.zvt_report.specs.Objects.{close_members};
 ghost use Rattle.zvt_report.specs.declared.members.Object.TheVariants as object_of;
@@ -74,6 +75,26 @@ fn explained_member(closing: &Option<Closing>) -> Option<Member>
     }
 }
 
+/// Returns the member of the totals by card, if there are any.
+fn groups_of(totals: &Option<CardTotals>) -> Option<Member>
+    ensures { result ≡ groups_of totals.now }
+{
+    match totals {
+        Some(totals) => said_as(Name::Groups, Value::Groups(totals.groups)),
+        None => None,
+    }
+}
+
+/// Returns the member of the totals by card of an end of day, if it has them.
+fn groups_member(closing: &Option<Closing>) -> Option<Member>
+    ensures { result ≡ groups_member closing.now }
+{
+    match closing {
+        Some(closing) => groups_of(&closing.totals),
+        None => None,
+    }
+}
+
 /// Returns the member of the receipt numbers in the totals by card, if there are any.
 fn receipts_of(totals: &Option<CardTotals>) -> Option<Member>
     ensures { result ≡ receipts_of totals.now }
@@ -127,6 +148,7 @@ pub(crate) fn close(
         code(&row.outcome),
         differs_member(closing),
         explained_member(closing),
+        groups_member(closing),
         lines(row),
         count(Name::Order, place.order as u64),
         ending(row),

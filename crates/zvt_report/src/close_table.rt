@@ -10,6 +10,7 @@ use crate::closings::Closing;
 use crate::currencies::Decimals;
 use crate::differing::closing_at;
 use crate::explaining::Explained;
+use crate::group_table::groups_part;
 use crate::look_list::lines_part;
 use crate::rows::OrderRow;
 use std::alloc::AllocError;
@@ -190,7 +191,7 @@ fn closing_text(
     explained_line(text, all, &closing.explained)
 }
 
-/// Writes an end of day, if it closed a day.
+/// Writes an end of day and its totals by card, if it closed a day.
 #[tactic(auto, unfolding(crate::specs::CloseTable::closing_if))]
 fn closing_if(
     text: &mut Text,
@@ -202,7 +203,10 @@ fn closing_if(
     ensures { OnOk result (text.new ≡ text.old ++ closing_if decimals all.now row.now closing.now) }
 {
     match closing {
-        Some(closing) => closing_text(text, decimals, all, row, closing),
+        Some(closing) => {
+            closing_text(text, decimals, all, row, closing)?;
+            groups_part(text, decimals, &closing.totals)
+        }
         None => Ok(()),
     }
 }

@@ -1,8 +1,9 @@
 //! The ends of day that closed a day, and the book of the same time.
 ghost use Rattle.std.specs.Prelude.{◌≡◌, ◌<◌, ◌≤◌, ◌*◌, ◌^◌, length, IfOk, IfSome, OnOk};
 ghost use Rattle.std.specs.List.{list_any};
+ghost use Rattle.zvt_report.specs.CardTotals.{groups_sum};
 ghost use Rattle.zvt_report.specs.Closings.{closed_with, closing_of, closings, covered_by, explained_if};
-ghost use Rattle.zvt_report.specs.Closings.{groups_sum, is_closed, items_after, paid_by, stated_total};
+ghost use Rattle.zvt_report.specs.Closings.{is_closed, items_after, paid_by, stated_total};
 ghost use Rattle.zvt_report.specs.Closings.{statement_at, taken_by};
 ghost use Rattle.zvt_report.specs.Places.{takes_back};
 

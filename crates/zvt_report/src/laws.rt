@@ -1,4 +1,6 @@
 //! Laws of every day and of every report, each stated as the contract of an empty function.
+ghost use Rattle.zvt_report.specs.CardTotals.{ListedGroupsAddUp};
+ghost use Rattle.zvt_report.specs.Hidden.{HiddenBytesAreNotShown, HiddenBytesMeanNothing};
 ghost use Rattle.zvt_report.specs.Laws.{DoubtsAreLeftOpen, EachOrderHasARow, SameBooks, SameMarks, SumsMakeBooked};
 ghost use Rattle.zvt_report.specs.Looks.{EachOtherIsLookedAt, EachPaymentIsLookedAt, EachReversalIsLookedAt};
 ghost use Rattle.zvt_report.specs.Naming.{ReversalsNameEntries};
@@ -28,6 +30,11 @@ pub fn each_order_has_a_row()
 /// The entries that stand and those that were taken back add up to what was booked.
 pub fn sums_make_booked()
     ensures { SumsMakeBooked }
+{}
+
+/// The totals by card that a report lists have the sum of all totals by card: a group that it leaves out has no sum.
+pub fn listed_groups_add_up()
+    ensures { ListedGroupsAddUp }
 {}
 
 /// A person is told to look at each unclear payment once, and no other payment is called unclear.
@@ -99,3 +106,16 @@ pub fn lines_fit()
 pub fn reports_are_documents()
     ensures { ReportsAreDocuments }
 {}
+
+/// A report depends only on what it may show. Passwords, tracks, verification values, card numbers that are not masked,
+/// card data in objects, and the data of orders that move no money change nothing in it.
+pub fn hidden_bytes_mean_nothing()
+    ensures { HiddenBytesMeanNothing }
+{}
+
+/// The dialogue of a page shows none of these bytes either.
+pub fn hidden_bytes_are_not_shown()
+    ensures { HiddenBytesAreNotShown }
+{
+    zvt_text::laws::safe_texts_agree();
+}

@@ -9,13 +9,16 @@ ghost use Rattle.zvt_report.specs.Members.{difference_value, lines_value, member
 ghost use Rattle.zvt_report.specs.Members.{receipts_value, said, value_data, word_text};
 
 use crate::card_texts::{quoted_name, quoted_number, type_words};
+use crate::card_totals::CardGroup;
 use crate::cases::{Case, Weight};
 use crate::endings::Ending;
 use crate::explaining::Explained;
+use crate::member_groups::write_groups;
 use crate::member_orders::write_orders;
+use crate::order_names::order_name;
 use std::alloc::AllocError;
 use zvt_bcd::Currency;
-use zvt_text::{Text, command_name, meaning};
+use zvt_text::{Text, meaning};
 use zvt_till::Cause;
 use zvt_trace::Moment;
 
@@ -71,6 +74,7 @@ pub(crate) enum Name {
     Currency,
     Differs,
     ExplainedBy,
+    Groups,
     Lines,
     Looks,
     Messages,
@@ -88,6 +92,7 @@ pub(crate) enum Name {
     ReversedBy,
     Stated,
     TakenBack,
+    Terminal,
     Text,
     Time,
     TimeFrom,
@@ -129,6 +134,7 @@ impl Name {
             Name::Currency => "currency",
             Name::Differs => "differs",
             Name::ExplainedBy => "explained_by",
+            Name::Groups => "groups",
             Name::Lines => "lines",
             Name::Looks => "looks",
             Name::Messages => "messages",
@@ -146,6 +152,7 @@ impl Name {
             Name::ReversedBy => "reversed_by",
             Name::Stated => "stated",
             Name::TakenBack => "taken_back",
+            Name::Terminal => "terminal",
             Name::Text => "text",
             Name::Time => "time",
             Name::TimeFrom => "time_from",
@@ -172,7 +179,7 @@ pub(crate) enum Word {
     Ending(Ending),
     /// What this result code means, or no text if it is not listed.
     Meaning(u8),
-    /// The name of the command with these control bytes, or no text if it has none.
+    /// The name of the order with these control bytes, or no text if it has none.
     Command(u8, u8),
     /// The name of this card type, or no text if it has none.
     CardType(u8),
@@ -192,7 +199,7 @@ impl Word {
             Word::Cause(cause) => cause.name(),
             Word::Ending(ending) => ending.name(),
             Word::Meaning(code) => meaning(code).unwrap_or(""),
-            Word::Command(high, low) => command_name(high, low).unwrap_or(""),
+            Word::Command(high, low) => order_name(high, low).unwrap_or(""),
             Word::CardType(card_type) => type_words(card_type),
         }
     }
@@ -212,10 +219,14 @@ pub(crate) enum Value {
     Byte(u8),
     /// Two bytes in hexadecimal.
     Bytes([u8; 2]),
+    /// A terminal identifier in hexadecimal.
+    Terminal([u8; 4]),
     /// The first and the last receipt number.
     Receipts([u8; 2], [u8; 2]),
     /// The numbers of these orders.
     Orders(Explained),
+    /// The totals by card.
+    Groups([CardGroup; 7]),
     Currency(Currency),
     Moment(Moment),
     Word(Word),
@@ -302,8 +313,10 @@ fn write_value(text: &mut Text, value: &Value) -> Result<(), AllocError>
         Value::Lines(first, last) => write_lines(text, *first, *last),
         Value::Byte(byte) => write_bytes(text, &[*byte]),
         Value::Bytes(bytes) => write_bytes(text, bytes.as_slice()),
+        Value::Terminal(id) => write_bytes(text, id.as_slice()),
         Value::Receipts(first, last) => write_receipts(text, first.as_slice(), last.as_slice()),
         Value::Orders(orders) => write_orders(text, orders),
+        Value::Groups(groups) => write_groups(text, groups.as_slice()),
         Value::Currency(currency) => write_currency(text, *currency),
         Value::Moment(moment) => write_moment(text, *moment),
         Value::Word(word) => write_word(text, *word),

@@ -17,13 +17,13 @@ use crate::kinds::{OrderKind, kind_of};
 use crate::look_objects::look_rows;
 use crate::members::{Name, Object, Value, write_object};
 use crate::order_objects::{other, payment, plain, reversal};
-use crate::parts::{count, maybe_currency, said_as};
+use crate::parts::{count, maybe_currency, maybe_terminal, said_as};
 use crate::places::{Counts, Place};
 use crate::rows::{OrderMessage, OrderRow};
 use crate::sums::{booked_total, net_total, reversed_count, unclear_reversals, unclear_total};
 use crate::time_members::{back_member, bad_member, from_member, to_member};
 use crate::times::Times;
-use std::alloc::{AllocError, Global};
+use std::alloc::AllocError;
 use zvt_bcd::Currency;
 use zvt_text::Text;
 use zvt_till::Sent;
@@ -32,10 +32,11 @@ use zvt_trace::Tally;
 /// Writes an object for the whole trace, then one per order that a person should look at, and then one per order.
 /// `messages` has the message of each order.
 pub(crate) fn write(
-    alloc: Global,
     text: &mut Text,
+    note: &mut Text,
     tally: Tally,
     currency: Option<Currency>,
+    terminal: Option<[u8; 4]>,
     times: &Times,
     books: &DayBooks,
     messages: &[OrderMessage],
@@ -43,17 +44,19 @@ pub(crate) fn write(
     looks: &[Look],
 ) -> Result<(), AllocError>
     ensures { OnOk result (text.new ≡ text.old
-        ++ report_json tally currency times.now books.now messages.now closings.now looks.now) }
+        ++ report_json tally currency terminal times.now books.now messages.now closings.now looks.now) }
 {
-    summary(text, tally, currency, times, books, messages, looks)?;
-    look_lines(alloc, text, currency, books, messages, closings, looks)?;
+    summary(
+        text, tally, currency, terminal, times, books, messages, looks,
+    )?;
+    look_lines(text, note, currency, books, messages, closings, looks)?;
     order_rows(text, books, messages, closings)
 }
 
 /// Writes one object per look.
 fn look_lines(
-    alloc: Global,
     text: &mut Text,
+    note: &mut Text,
     currency: Option<Currency>,
     books: &DayBooks,
     messages: &[OrderMessage],
@@ -63,13 +66,10 @@ fn look_lines(
     ensures { OnOk result (text.new ≡ text.old ++ looks_json (decimals_of (money_of currency)) books.now.book
         closings.now messages.now books.now.orders looks.now) }
 {
-    let mut note = Text::new(alloc);
     let decimals = decimals_of(&money_of(currency));
     let book = books.book.as_slice();
     let rows = books.orders.as_slice();
-    look_rows(
-        text, &mut note, decimals, book, closings, messages, rows, looks,
-    )
+    look_rows(text, note, decimals, book, closings, messages, rows, looks)
 }
 
 /// Writes the object of the whole trace.
@@ -77,13 +77,14 @@ fn summary(
     text: &mut Text,
     tally: Tally,
     currency: Option<Currency>,
+    terminal: Option<[u8; 4]>,
     times: &Times,
     books: &DayBooks,
     messages: &[OrderMessage],
     looks: &[Look],
 ) -> Result<(), AllocError>
     ensures { OnOk result (text.new ≡ text.old
-        ++ summary_line tally currency times.now books.now messages.now looks.now) }
+        ++ summary_line tally currency terminal times.now books.now messages.now looks.now) }
 {
     let book = books.book.as_slice();
     let unclear = books.unclear.as_slice();
@@ -100,6 +101,7 @@ fn summary(
         ),
         count(Name::ReversalsUnclear, unclear_reversals(book) as u64),
         count(Name::Reversed, reversed_count(book) as u64),
+        maybe_terminal(terminal),
         from_member(&times.span),
         to_member(&times.span),
         back_member(times.went_back),

@@ -8,6 +8,7 @@ use crate::books::DayBooks;
 use crate::cases::Look;
 use crate::closings::Closing;
 use crate::currencies::{Money, decimals_of, money_of};
+use crate::heading::{has_head, head_words};
 use crate::page_cards::cards;
 use crate::page_closings::closings_section;
 use crate::page_looks::looks_section;
@@ -16,7 +17,7 @@ use crate::page_tables::payments_section;
 use crate::rows::OrderMessage;
 use crate::summary::unit;
 use crate::text::footer;
-use crate::times::{Times, clock_notes, span_words};
+use crate::times::{Times, clock_notes};
 use std::alloc::{AllocError, Global};
 use zvt_bcd::Currency;
 use zvt_page::{Attribute, Element, document_end, document_start, end, escaped, leaf, start};
@@ -52,34 +53,38 @@ fn amounts_in(text: &mut Text, money: &Option<Money>) -> Result<(), AllocError>
     unit(text, money)
 }
 
-/// Writes the day and the hours of a trace, if it has times.
-fn hours_part(page: &mut Text, note: &mut Text, times: &Times) -> Result<(), AllocError>
-    ensures { OnOk result (page.new ≡ page.old ++ render (hours_part times.now)) }
+/// Writes the day and the hours of a trace and its terminal, if any of them is known.
+fn hours_part(
+    page: &mut Text,
+    note: &mut Text,
+    times: &Times,
+    terminal: Option<[u8; 4]>,
+) -> Result<(), AllocError>
+    ensures { OnOk result (page.new ≡ page.old ++ render (hours_part times.now terminal)) }
 {
-    match &times.span {
-        Some((from, to)) => {
-            note.clear();
-            span_words(note, times.zone, from, to)?;
-            leaf(page, Element::P, b"meta", note.bytes())
-        }
-        None => Ok(()),
+    if !has_head(times, terminal) {
+        return Ok(());
     }
+    note.clear();
+    head_words(note, times, terminal)?;
+    leaf(page, Element::P, b"meta", note.bytes())
 }
 
-/// Writes the name of the file, its day and hours, and in which currency the amounts are.
+/// Writes the name of the file, its day, hours and terminal, and in which currency the amounts are.
 #[tactic(auto, unfolding(crate::specs::Page::page_head))]
 fn page_head(
     page: &mut Text,
     note: &mut Text,
     name: &[u8],
     money: &Option<Money>,
+    terminal: Option<[u8; 4]>,
     times: &Times,
 ) -> Result<(), AllocError>
-    ensures { OnOk result (page.new ≡ page.old ++ render (page_head name.now money.now times.now)) }
+    ensures { OnOk result (page.new ≡ page.old ++ render (page_head name.now money.now terminal times.now)) }
 {
     start(page, Element::Header, b"", None)?;
     leaf(page, Element::H1, b"", heading(name))?;
-    hours_part(page, note, times)?;
+    hours_part(page, note, times, terminal)?;
     note.clear();
     amounts_in(note, money)?;
     leaf(page, Element::P, b"meta", note.bytes())?;
@@ -121,6 +126,7 @@ fn sections(
     note: &mut Text,
     name: &[u8],
     money: &Option<Money>,
+    terminal: Option<[u8; 4]>,
     times: &Times,
     books: &DayBooks,
     messages: &[OrderMessage],
@@ -128,10 +134,10 @@ fn sections(
     looks: &[Look],
 ) -> Result<(), AllocError>
     ensures { OnOk result (page.new ≡ page.old
-        ++ render (sections name.now money.now times.now books.now messages.now closings.now looks.now)) }
+        ++ render (sections name.now money.now terminal times.now books.now messages.now closings.now looks.now)) }
 {
     let decimals = decimals_of(money);
-    page_head(page, note, name, money, times)?;
+    page_head(page, note, name, money, terminal, times)?;
     cards(page, note, decimals, books, messages)?;
     looks_section(page, note, decimals, books, closings, messages, looks)?;
     payments_section(page, note, decimals, books)?;
@@ -147,6 +153,7 @@ fn page_with(
     name: &[u8],
     money: &Option<Money>,
     tally: Tally,
+    terminal: Option<[u8; 4]>,
     times: &Times,
     books: &DayBooks,
     messages: &[OrderMessage],
@@ -155,12 +162,12 @@ fn page_with(
     dialogue: &[u8],
 ) -> Result<(), AllocError>
     ensures { OnOk result (page.new ≡ page.old
-        ++ page_with name.now money.now tally times.now books.now messages.now closings.now looks.now dialogue.now) }
+        ++ page_with name.now money.now tally terminal times.now books.now messages.now closings.now looks.now dialogue.now) }
 {
     skip_link(page)?;
     start(page, Element::Main, b"page", None)?;
     sections(
-        page, note, name, money, times, books, messages, closings, looks,
+        page, note, name, money, terminal, times, books, messages, closings, looks,
     )?;
     page.word(dialogue)?;
     page_foot(page, note, tally, times)?;
@@ -175,6 +182,7 @@ pub(crate) fn write(
     name: &[u8],
     tally: Tally,
     currency: Option<Currency>,
+    terminal: Option<[u8; 4]>,
     times: &Times,
     books: &DayBooks,
     messages: &[OrderMessage],
@@ -183,13 +191,14 @@ pub(crate) fn write(
     dialogue: &[u8],
 ) -> Result<(), AllocError>
     ensures { OnOk result (page.new ≡ page.old
-        ++ report_page name.now tally currency times.now books.now messages.now closings.now looks.now dialogue.now) }
+        ++ report_page name.now tally currency terminal times.now books.now messages.now closings.now looks.now dialogue.now) }
 {
     let mut note = Text::new(alloc);
     let money = money_of(currency);
     document_start(page, heading(name))?;
     page_with(
-        page, &mut note, name, &money, tally, times, books, messages, closings, looks, dialogue,
+        page, &mut note, name, &money, tally, terminal, times, books, messages, closings, looks,
+        dialogue,
     )?;
     document_end(page)
 }

@@ -10,6 +10,7 @@ use crate::amounts::amount;
 use crate::closings::Closing;
 use crate::currencies::Decimals;
 use crate::differing::closing_at;
+use crate::page_groups::group_tables;
 use crate::page_parts::{column, lines_cell, table_body, table_end, table_start};
 use crate::rows::OrderRow;
 use std::alloc::AllocError;
@@ -154,7 +155,7 @@ fn has_closing(closings: &[Option<Closing>]) -> bool
     closings.iter().any(|closing| closing.is_some())
 }
 
-/// Writes the table under its heading, if an order closed a day.
+/// Writes the table under its heading, and the totals by card, if an order closed a day.
 #[tactic(auto, unfolding(crate::specs::PageClosings::closings_section))]
 pub(crate) fn closings_section(
     page: &mut Text,
@@ -169,5 +170,6 @@ pub(crate) fn closings_section(
         return Ok(());
     }
     leaf(page, Element::H2, b"", b"End of day")?;
-    closings_table(page, note, decimals, closings, rows)
+    closings_table(page, note, decimals, closings, rows)?;
+    group_tables(page, note, decimals, closings, rows)
 }

@@ -4,7 +4,7 @@ ghost use Rattle.std.specs.Option.{option_and_then};
 ghost use Rattle.zvt_report.specs.CardObjects.{card_value, maybe_card, maybe_card_number};
 ghost use Rattle.zvt_report.specs.Objects.{amount_at, approved_of, cause_of, code, code_of, command};
 ghost use Rattle.zvt_report.specs.Objects.{control, count, ending, lines, maybe_cause, maybe_count};
-ghost use Rattle.zvt_report.specs.Objects.{maybe_currency, maybe_receipt, payment_for, receipt_by};
+ghost use Rattle.zvt_report.specs.Objects.{maybe_currency, maybe_receipt, maybe_terminal, payment_for, receipt_by};
 ghost use Rattle.zvt_report.specs.Objects.{reversed_at, said_as, taken_back_at, trace_by, true_if, unclear_at, words};
 ghost use Rattle.zvt_report.specs.declared.cards.Card.{Card};
 ghost use Rattle.zvt_report.specs.declared.members.Name.TheVariants as name;
@@ -12,10 +12,11 @@ ghost use Rattle.zvt_report.specs.declared.members.Name.TheVariants as name;
 use crate::cards::{Card, card_number};
 use crate::endings::ending_of;
 use crate::members::{Member, Name, Value, Word};
+use crate::order_names::order_name;
 use crate::places;
 use crate::rows::{Approval, OrderMessage, OrderRow};
 use zvt_bcd::{Amount, Currency, Trace};
-use zvt_text::{command_name, meaning};
+use zvt_text::meaning;
 use zvt_till::{Cause, Doubt, Entry, Outcome};
 
 /// Returns the cause of an unclear order.
@@ -212,6 +213,13 @@ pub(crate) fn maybe_currency(currency: Option<Currency>) -> Option<Member>
     said_as(Name::Currency, Value::Currency(currency?))
 }
 
+/// Returns the member of a terminal identifier, if there is one.
+pub(crate) fn maybe_terminal(terminal: Option<[u8; 4]>) -> Option<Member>
+    ensures { result ≡ maybe_terminal terminal }
+{
+    said_as(Name::Terminal, Value::Terminal(terminal?))
+}
+
 /// Returns a member that is true, if this holds.
 pub(crate) fn true_if(name: Name, holds: bool) -> Option<Member>
     ensures { result ≡ true_if name holds }
@@ -263,11 +271,11 @@ pub(crate) fn control(message: &OrderMessage) -> Option<Member>
     said_as(Name::Control, Value::Bytes([message.high, message.low]))
 }
 
-/// Returns the member of the name of an order's command, if it has one.
+/// Returns the member of the name of an order, if it has one.
 pub(crate) fn command(message: &OrderMessage) -> Option<Member>
     ensures { result ≡ command message.now }
 {
-    match command_name(message.high, message.low) {
+    match order_name(message.high, message.low) {
         Some(_) => said_as(
             Name::Name,
             Value::Word(Word::Command(message.high, message.low)),

@@ -28,6 +28,8 @@ pub struct Report {
     pub times: Times,
     /// The currency of the till's registrations, if all that name one agree.
     pub currency: Option<Currency>,
+    /// The first terminal identifier (BMP 29) in a status information or a completion: eight digits.
+    pub terminal: Option<[u8; 4]>,
     pub books: DayBooks,
     /// What the message of each order says: one for each row of `books.orders`.
     pub messages: Vec<OrderMessage>,
@@ -78,6 +80,7 @@ fn connected(alloc: Global, scope: Scope) -> Result<ByControl<Reporter>, AllocEr
             named: NamedCurrency::none(),
             messages: Vec::new(alloc),
             hearing: Hearing::new(alloc),
+            terminal: None,
         },
         scope,
         passed: 0,
@@ -100,6 +103,7 @@ impl Reporter {
         ensures { IfOk result (Finds self tally passed zone moments.now) }
     {
         let currency = self.named.agreed();
+        let terminal = self.terminal;
         let statements = self.hearing.finish()?;
         let settled = settle(self.alloc, statements.as_slice(), self.day.finish()?)?;
         let books = timed_day(self.alloc, zone, moments.times.as_slice(), settled)?;
@@ -114,6 +118,7 @@ impl Reporter {
             tally,
             times: times_in(zone, moments),
             currency,
+            terminal,
             books,
             messages: self.messages,
             statements,

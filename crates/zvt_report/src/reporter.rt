@@ -9,13 +9,15 @@ use crate::day::Day;
 use crate::ordering::{TillOrder, add_message, beginning, order_in};
 use crate::rows::OrderMessage;
 use crate::statements::Hearing;
+use crate::terminal_ids::{terminal_after, terminal_in};
 use std::alloc::{AllocError, Global};
 use zvt_apdu::ApduView;
 use zvt_audit::NamedCurrency;
 use zvt_till::{Happening, heard_view};
 use zvt_trace::{Direction, Listener, ListenerError, TraceEvent};
 
-/// Judges the orders of a trace, and records what their messages say and which currencies the till names.
+/// Judges the orders of a trace, and records what their messages say, which currencies the till names, and how the
+/// terminal calls itself.
 #[derive(Drop)]
 pub(crate) struct Reporter {
     pub(crate) alloc: Global,
@@ -23,6 +25,8 @@ pub(crate) struct Reporter {
     pub(crate) named: NamedCurrency,
     pub(crate) messages: Vec<OrderMessage>,
     pub(crate) hearing: Hearing,
+    /// The first terminal identifier.
+    pub(crate) terminal: Option<[u8; 4]>,
 }
 
 impl Listener for Reporter {
@@ -73,6 +77,7 @@ impl Reporter {
     fn hear_terminal(&mut self, line: u64, apdu: &ApduView<'_>) -> Result<(), AllocError>
         ensures { OnOk result (Reports self.old (on line (trace_event.message FromTerminal apdu.now)) self.new) }
     {
+        self.terminal = terminal_after(self.terminal, terminal_in(apdu));
         self.hearing.take_answer(apdu)?;
         self.day.take(line, &Happening::Heard(heard_view(apdu)))
     }

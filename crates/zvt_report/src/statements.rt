@@ -95,7 +95,7 @@ fn card_by(fields: &FieldsView<'_>) -> Option<Card>
 }
 
 /// Returns the bytes of the field with this BMP, if it appears exactly once and is not a container.
-fn content_of<'a>(fields: &FieldsView<'a>, bmp: u8) -> Option<&'a [u8]>
+pub(crate) fn content_of<'a>(fields: &FieldsView<'a>, bmp: u8) -> Option<&'a [u8]>
     ensures { option_copied result ≡ content_of bmp fields.now }
 {
     let field = fields.only(bmp)?;

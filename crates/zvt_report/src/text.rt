@@ -9,12 +9,13 @@ use crate::cases::Look;
 use crate::close_table::closings_text;
 use crate::closings::Closing;
 use crate::currencies::{Decimals, Money, decimals_of, money_of};
+use crate::heading::head_part;
 use crate::look_list::looks_text;
 use crate::other_table::others_text;
 use crate::payment_table::payments_text;
 use crate::rows::OrderMessage;
 use crate::summary;
-use crate::times::{Times, clock_notes, span_part};
+use crate::times::{Times, clock_notes};
 use std::alloc::{AllocError, Global};
 use zvt_bcd::Currency;
 use zvt_text::Text;
@@ -97,6 +98,7 @@ fn report_in(
     note: &mut Text,
     money: &Option<Money>,
     tally: Tally,
+    terminal: Option<[u8; 4]>,
     times: &Times,
     books: &DayBooks,
     messages: &[OrderMessage],
@@ -104,10 +106,10 @@ fn report_in(
     looks: &[Look],
 ) -> Result<(), AllocError>
     ensures { OnOk result (text.new ≡ text.old
-        ++ report_in money.now tally times.now books.now messages.now closings.now looks.now) }
+        ++ report_in money.now tally terminal times.now books.now messages.now closings.now looks.now) }
 {
     let decimals = decimals_of(money);
-    span_part(text, times)?;
+    head_part(text, times, terminal)?;
     summary_part(text, money, books)?;
     looks_part(text, note, decimals, books, messages, closings, looks)?;
     tables_part(text, note, decimals, books, messages, closings)?;
@@ -115,13 +117,14 @@ fn report_in(
     clock_notes(text, times)
 }
 
-/// Writes the report of a trace: the day and its hours, what it comes to, the orders that a person should look at, the
+/// Writes the report of a trace: the day, its hours and the terminal, what it comes to, the orders that a person should look at, the
 /// tables of orders, the ends of day, and how much of the trace was read. Fails only if memory runs out.
 pub(crate) fn write(
     alloc: Global,
     text: &mut Text,
     tally: Tally,
     currency: Option<Currency>,
+    terminal: Option<[u8; 4]>,
     times: &Times,
     books: &DayBooks,
     messages: &[OrderMessage],
@@ -129,11 +132,11 @@ pub(crate) fn write(
     looks: &[Look],
 ) -> Result<(), AllocError>
     ensures { OnOk result (text.new ≡ text.old
-        ++ report_text tally currency times.now books.now messages.now closings.now looks.now) }
+        ++ report_text tally currency terminal times.now books.now messages.now closings.now looks.now) }
 {
     let mut note = Text::new(alloc);
     let money = money_of(currency);
     report_in(
-        text, &mut note, &money, tally, times, books, messages, closings, looks,
+        text, &mut note, &money, tally, terminal, times, books, messages, closings, looks,
     )
 }

@@ -2,7 +2,7 @@
 ghost use Rattle.std.specs.Prelude.{◌≡◌, ◌++◌, IfOk, OnOk};
 ghost use Rattle.zvt_report.specs.Times.{back_line, back_note, bad_line, bad_note, clock_notes, first_line, from_words};
 ghost use Rattle.zvt_report.specs.Times.{have_times, last_of, later_date, to_words};
-ghost use Rattle.zvt_report.specs.Times.{span_of, span_part, span_words, time_column, time_first, timed_day};
+ghost use Rattle.zvt_report.specs.Times.{span_of, span_words, time_column, time_first, timed_day};
 ghost use Rattle.zvt_report.specs.Times.{timed_row, timed_rows, times_in};
 
 use crate::amounts::count;
@@ -190,20 +190,6 @@ pub(crate) fn span_words(
     from_words(text, from)?;
     text.word(b" to ")?;
     to_words(text, zone, from, to)
-}
-
-/// Writes a line with the day and the hours of a trace, and an empty line, if the trace has times.
-#[tactic(auto, unfolding(crate::specs::Times::span_part))]
-pub(crate) fn span_part(text: &mut Text, times: &Times) -> Result<(), AllocError>
-    ensures { OnOk result (text.new ≡ text.old ++ span_part times.now) }
-{
-    match &times.span {
-        Some((from, to)) => {
-            span_words(text, times.zone, from, to)?;
-            text.word(b"\n\n")
-        }
-        None => Ok(()),
-    }
 }
 
 /// Writes at which line the clock went back.

@@ -1,5 +1,5 @@
 use Rattle.std.proofs.Common.{◌≡◌, ◌*◌, ◌^◌, ◌≤◌, take}
-use Rattle.zvt_report.specs.Closings.{groups_sum}
+use Rattle.zvt_report.specs.CardTotals.{groups_sum}
 use Rattle.zvt_report.proofs.closings.groups_sum.Given as goal
 
 abbrev pub invariant-loop-group : goal.invariant-loop-group

@@ -26,5 +26,5 @@ returns c =
     let all : c.said_as-2.result ≡ count name.Total (booked_total books.book) = c.said_as-2.ensures ∙ ap (count name.Total) (c.booked_total.ensures ∙ ap booked_total book) in
     let unknown : c.count-8.result ≡ count name.Unclear (length books.unclear) = c.count-8.ensures ∙ ap (λ (l : List (ℕ × Cause)). count name.Unclear (length l)) unclear in
     let amount : c.said_as-3.result ≡ count name.UnclearAmount (unclear_total books.unclear) = c.said_as-3.ensures ∙ ap (count name.UnclearAmount) (c.unclear_total.ensures ∙ ap unclear_total unclear) in
-    members_same c.write_object.result c.args.text.now c.write_object.new.text object_of.Summary _ (summary_members c.args.tally c.args.currency c.args.times.now books c.args.messages.now c.args.looks.now)
-    (rw (c.count.ensures, booked, c.maybe_currency.ensures, c.count-3.ensures, c.count-4.ensures, net, others, left, reversed, c.from_member.ensures, c.to_member.ensures, c.back_member.ensures, c.bad_member.ensures, all, unknown, amount) refl) c.write_object.ensures
+    members_same c.write_object.result c.args.text.now c.write_object.new.text object_of.Summary _ (summary_members c.args.tally c.args.currency c.args.terminal c.args.times.now books c.args.messages.now c.args.looks.now)
+    (rw (c.count.ensures, booked, c.maybe_currency.ensures, c.count-3.ensures, c.count-4.ensures, net, others, left, reversed, c.maybe_terminal.ensures, c.from_member.ensures, c.to_member.ensures, c.back_member.ensures, c.bad_member.ensures, all, unknown, amount) refl) c.write_object.ensures
