@@ -422,7 +422,7 @@ heard_all_same : (accepted : Bool) (events : List At) → heard_statuses accepte
 heard_all_same accepted [] = refl
 heard_all_same accepted (event ∷ later) =
     let rest : heard_statuses (accepted || accepts (disclosed_event event.trace_event)) (map disclosed_at later) ≡ map disclosed_fields (heard_statuses (accepted || accepts event.trace_event) later) =
-        ap (λ (a : Bool). heard_statuses (accepted || a) (map disclosed_at later)) (accepts_same event.trace_event) ∙ heard_all_same (accepted || accepts event.trace_event) later in
+    ap (λ (a : Bool). heard_statuses (accepted || a) (map disclosed_at later)) (accepts_same event.trace_event) ∙ heard_all_same (accepted || accepts event.trace_event) later in
     ap₂ (λ (b e : Bool). up_to b e (statuses_in (disclosed_event event.trace_event)) (heard_statuses (accepted || accepts (disclosed_event event.trace_event)) (map disclosed_at later))) (begins_same event.trace_event) (ends_same accepted event.trace_event)
     ∙ ap₂ (λ (xs ys : List (List Field)). up_to (begins event.trace_event) (ends_by accepted event.trace_event) xs ys) (statuses_same event.trace_event) rest
     ∙ up_to_same (begins event.trace_event) (ends_by accepted event.trace_event) (statuses_in event.trace_event) (heard_statuses (accepted || accepts event.trace_event) later)

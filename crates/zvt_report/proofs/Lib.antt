@@ -13,6 +13,7 @@ pub mod ExplainLemmas
 pub mod ReporterLemmas
 pub mod ReportedLemmas
 pub mod HiddenLemmas
+pub mod FilesLemmas
 pub mod MemberLemmas
 pub mod LookObjectLemmas
 pub mod GroupLemmas

@@ -63,3 +63,4 @@ pub mod Zones
 pub mod PageEvents
 pub mod Dialogue
 pub mod Hidden
+pub mod Files

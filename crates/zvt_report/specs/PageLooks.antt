@@ -74,12 +74,12 @@ items_or_none decimals book closings messages rows [] = leaf P (codes "none") (c
 items_or_none decimals book closings messages rows (look ∷ looks) =
     element Ol ((Class, codes "look") ∷ []) (both (items decimals book closings messages rows true (look ∷ looks)) (items decimals book closings messages rows false (look ∷ looks)))
 
-unfoldable pub look_heading : Html
-look_heading = element H2 ((Id, codes "look") ∷ []) (text (codes "Look at these"))
+unfoldable pub look_heading : (id : List ℕ) → Html
+look_heading id = element H2 ((Id, id) ∷ []) (text (codes "Look at these"))
 
 -- the urgent ones first
-unfoldable pub looks_section : Decimals → DayValue → List (Option Closing) → List OrderMessage → List Look → Html
-looks_section decimals books closings messages looks = both look_heading (items_or_none decimals books.book closings messages books.orders looks)
+unfoldable pub looks_section : (id : List ℕ) → Decimals → DayValue → List (Option Closing) → List OrderMessage → List Look → Html
+looks_section id decimals books closings messages looks = both (look_heading id) (items_or_none decimals books.book closings messages books.orders looks)
 
 -- ---- a row worked by hand
 

@@ -93,7 +93,7 @@ fn page_head(
 
 /// Writes how much of the trace was read.
 #[tactic(auto, unfolding(crate::specs::Page::page_foot))]
-fn page_foot(
+pub(crate) fn page_foot(
     page: &mut Text,
     note: &mut Text,
     tally: Tally,
@@ -119,11 +119,12 @@ fn skip_link(page: &mut Text) -> Result<(), AllocError>
     end(page, Element::A)
 }
 
-/// Writes the sections of a page, up to the dialogue.
+/// Writes the sections of a page, up to the dialogue. Links to `id` lead to the looks.
 #[tactic(auto, unfolding(crate::specs::Page::sections))]
-fn sections(
+pub(crate) fn sections(
     page: &mut Text,
     note: &mut Text,
+    id: &[u8],
     name: &[u8],
     money: &Option<Money>,
     terminal: Option<[u8; 4]>,
@@ -134,12 +135,12 @@ fn sections(
     looks: &[Look],
 ) -> Result<(), AllocError>
     ensures { OnOk result (page.new ≡ page.old
-        ++ render (sections name.now money.now terminal times.now books.now messages.now closings.now looks.now)) }
+        ++ render (sections id.now name.now money.now terminal times.now books.now messages.now closings.now looks.now)) }
 {
     let decimals = decimals_of(money);
     page_head(page, note, name, money, terminal, times)?;
     cards(page, note, decimals, books, messages)?;
-    looks_section(page, note, decimals, books, closings, messages, looks)?;
+    looks_section(page, note, id, decimals, books, closings, messages, looks)?;
     payments_section(page, note, decimals, books)?;
     others_section(page, note, decimals, books, messages)?;
     closings_section(page, note, decimals, closings, books.orders.as_slice())
@@ -167,7 +168,7 @@ fn page_with(
     skip_link(page)?;
     start(page, Element::Main, b"page", None)?;
     sections(
-        page, note, name, money, terminal, times, books, messages, closings, looks,
+        page, note, b"look", name, money, terminal, times, books, messages, closings, looks,
     )?;
     page.word(dialogue)?;
     page_foot(page, note, tally, times)?;

@@ -223,19 +223,20 @@ fn items_or_none(
 
 /// Writes the heading of the looks.
 #[tactic(auto, unfolding(crate::specs::PageLooks::look_heading))]
-fn look_heading(page: &mut Text) -> Result<(), AllocError>
-    ensures { OnOk result (page.new ≡ page.old ++ render look_heading) }
+fn look_heading(page: &mut Text, id: &[u8]) -> Result<(), AllocError>
+    ensures { OnOk result (page.new ≡ page.old ++ render (look_heading id.now)) }
 {
-    start(page, Element::H2, b"", Some((Attribute::Id, b"look")))?;
+    start(page, Element::H2, b"", Some((Attribute::Id, id)))?;
     escaped(page, b"Look at these")?;
     end(page, Element::H2)
 }
 
-/// Writes the section of the looks.
+/// Writes the section of the looks. Links to `id` lead to its heading.
 #[tactic(auto, unfolding(crate::specs::PageLooks::looks_section))]
 pub(crate) fn looks_section(
     page: &mut Text,
     note: &mut Text,
+    id: &[u8],
     decimals: Decimals,
     books: &DayBooks,
     closings: &[Option<Closing>],
@@ -243,9 +244,9 @@ pub(crate) fn looks_section(
     looks: &[Look],
 ) -> Result<(), AllocError>
     ensures { OnOk result (page.new ≡ page.old
-        ++ render (looks_section decimals books.now closings.now messages.now looks.now)) }
+        ++ render (looks_section id.now decimals books.now closings.now messages.now looks.now)) }
 {
-    look_heading(page)?;
+    look_heading(page, id)?;
     let book = books.book.as_slice();
     let rows = books.orders.as_slice();
     items_or_none(page, note, decimals, book, closings, messages, rows, looks)

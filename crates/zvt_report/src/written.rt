@@ -4,7 +4,7 @@ ghost use Rattle.std.specs.Io.KnownBytes.{Consumes};
 ghost use Rattle.zvt_grammar.specs.Lengths.{reading_of};
 ghost use Rattle.zvt_trace.specs.Written.{limit};
 ghost use Rattle.zvt_report.specs.Written.{AnswersFound, AnswersReadWritten, AnswersWritten};
-ghost use Rattle.zvt_report.specs.Written.{looks_of, report_in, zone_for};
+ghost use Rattle.zvt_report.specs.Written.{looks_of, report_in, summed_up, zone_for};
 
 use crate::cases::{Look, looks};
 use crate::dialogue::dialogue_in;
@@ -114,7 +114,7 @@ fn zone_for(form: ReportForm, zone: Zone) -> Zone
 }
 
 /// Returns the looks that the orders of a report need.
-fn looks_of(alloc: Global, report: &Report) -> Result<Vec<Look>, AllocError>
+pub(crate) fn looks_of(alloc: Global, report: &Report) -> Result<Vec<Look>, AllocError>
     ensures { IfOk result (λ looks. looks.items ≡ looks_of report.now) }
 {
     let books = &report.books;
@@ -144,11 +144,19 @@ fn write_found<W: Sink>(
 {
     let text = text_of(alloc, form, name, report, looks, dialogue)?;
     writer.write_all(text.bytes())?;
-    Ok(ReportSummary {
+    Ok(summed_up(report, looks))
+}
+
+/// Returns the findings of a report with these looks.
+pub(crate) fn summed_up(report: &Report, looks: &[Look]) -> ReportSummary
+    requires { looks.now ≡ looks_of report.now }
+    ensures { result ≡ summed_up report.now }
+{
+    ReportSummary {
         tally: report.tally,
         acts: urgent_count(looks) as u64,
         passed: report.passed,
-    })
+    }
 }
 
 /// Writes the page of a report with these looks and this dialogue.
