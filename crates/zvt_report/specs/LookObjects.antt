@@ -106,7 +106,7 @@ looks_json decimals book closings messages rows looks = flat_map (look_line deci
 
 -- ---- the same texts, as they are written
 
-abbrev pub told_text : (later : Bool) → Name → Data → List ℕ
+unfoldable pub told_text : (later : Bool) → Name → Data → List ℕ
 told_text later n d = comma_if later ++ ((34 ∷ name_text n ++ 34 ∷ 58 ∷ []) ++ compact_text d)
 
 -- members after others
@@ -114,6 +114,9 @@ abbrev pub more_text : List Told → List ℕ
 more_text [] = []
 more_text (None ∷ more) = more_text more
 more_text (Some t ∷ more) = told_text true t.0 t.1 ++ more_text more
+
+unfoldable pub more_of : List (Option Member) → List ℕ
+more_of members = more_text (map of_member members)
 
 -- ---- rows worked by hand
 

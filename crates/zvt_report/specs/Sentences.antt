@@ -66,28 +66,28 @@ title decimals facts CloseDiffers = differs_title decimals facts.closing
 -- ---- what happened
 
 -- what happened to a payment later: it was paid again, and an end of day counts it
-abbrev pub later_part : Decimals → Facts → List ℕ
-later_part decimals facts = again_part decimals (asked_of facts) facts.row facts.again ++ counted_as_paid facts.counted
+abbrev pub later_part : Decimals → (asked : Option ℕ) → Facts → List ℕ
+later_part decimals asked facts = again_part decimals asked facts.row facts.again ++ counted_as_paid facts.counted
 
-abbrev pub approved_account : Decimals → Facts → List ℕ
-approved_account decimals facts =
-    codes "The terminal approved " ++ amount_or_dash decimals (asked_of facts) ++ approval_part facts.row.approval ++ codes ", but the payment is unclear: "
-    ++ reason facts.row.outcome ++ codes "." ++ later_part decimals facts
+abbrev pub approved_account : Decimals → (asked : Option ℕ) → Facts → List ℕ
+approved_account decimals asked facts =
+    codes "The terminal approved " ++ amount_or_dash decimals asked ++ approval_part facts.row.approval ++ codes ", but the payment is unclear: "
+    ++ reason facts.row.outcome ++ codes "." ++ later_part decimals asked facts
 
-abbrev pub repeated_account : Decimals → Facts → List ℕ
-repeated_account decimals facts =
-    codes "The payment of " ++ amount_or_dash decimals (asked_of facts) ++ codes " is unclear: " ++ reason facts.row.outcome
-    ++ confirmed_part decimals (asked_of facts) facts.asked_again facts.confirmed ++ codes "." ++ later_part decimals facts
+abbrev pub repeated_account : Decimals → (asked : Option ℕ) → Facts → List ℕ
+repeated_account decimals asked facts =
+    codes "The payment of " ++ amount_or_dash decimals asked ++ codes " is unclear: " ++ reason facts.row.outcome
+    ++ confirmed_part decimals asked facts.asked_again facts.confirmed ++ codes "." ++ later_part decimals asked facts
 
 abbrev pub other_amount_account : Decimals → (asked : Option ℕ) → OrderRow → (again : Option OrderRow) → List ℕ
 other_amount_account decimals asked row again =
     codes "The till asked for " ++ amount_or_dash decimals asked ++ codes ", but the terminal approved " ++ amount_or_dash decimals (approved_of row)
     ++ approval_part row.approval ++ codes ", perhaps with a tip. The payment is unclear: " ++ reason row.outcome ++ codes "." ++ again_part decimals asked row again
 
-abbrev pub unclear_account : Decimals → Facts → List ℕ
-unclear_account decimals facts =
-    codes "The payment of " ++ amount_or_dash decimals (asked_of facts) ++ codes " is unclear: " ++ reason facts.row.outcome
-    ++ codes ". The till heard no approval, but the terminal may have given one." ++ later_part decimals facts
+abbrev pub unclear_account : Decimals → (asked : Option ℕ) → Facts → List ℕ
+unclear_account decimals asked facts =
+    codes "The payment of " ++ amount_or_dash decimals asked ++ codes " is unclear: " ++ reason facts.row.outcome
+    ++ codes ". The till heard no approval, but the terminal may have given one." ++ later_part decimals asked facts
 
 -- how far a payment is apart from an earlier one
 unfoldable pub apart_from : (earlier : Option OrderRow) → OrderRow → List ℕ
@@ -132,10 +132,10 @@ differs_account decimals facts = totals_part decimals facts.closing ++ shares_pa
 
 -- what happened to an order in this case
 abbrev pub account : Decimals → Facts → Case → List ℕ
-account decimals facts ApprovedNotCompleted = approved_account decimals facts
-account decimals facts ApprovalRepeated = repeated_account decimals facts
+account decimals facts ApprovedNotCompleted = approved_account decimals (asked_of facts) facts
+account decimals facts ApprovalRepeated = repeated_account decimals (asked_of facts) facts
 account decimals facts OtherAmount = other_amount_account decimals (asked_of facts) facts.row facts.again
-account decimals facts PaymentUnclear = unclear_account decimals facts
+account decimals facts PaymentUnclear = unclear_account decimals (asked_of facts) facts
 account decimals facts PaidAlike = alike_account decimals (asked_of facts) facts.row facts.again
 account decimals facts ReversalUnclear = reversal_account decimals (asked_of facts) facts.entry facts.row.outcome
 account decimals facts TakenBackBefore = taken_back_account decimals (asked_of facts) facts.entry

@@ -120,36 +120,49 @@ pub(crate) fn title(
 }
 
 /// Writes what happened to a payment later: it was paid again, or an end of day counts it.
-fn later_part(text: &mut Text, decimals: Decimals, facts: &Facts) -> Result<(), AllocError>
-    ensures { OnOk result (text.new ≡ text.old ++ later_part decimals facts.now) }
+fn later_part(
+    text: &mut Text,
+    decimals: Decimals,
+    asked: &Option<Amount>,
+    facts: &Facts,
+) -> Result<(), AllocError>
+    ensures { OnOk result (text.new ≡ text.old ++ later_part decimals asked.now facts.now) }
 {
-    again_part(text, decimals, &asked_of(facts), &facts.row, &facts.again)?;
+    again_part(text, decimals, asked, &facts.row, &facts.again)?;
     counted_as_paid(text, facts.counted)
 }
 
 /// Writes what happened to a payment that was approved, but is unclear.
-fn approved_account(text: &mut Text, decimals: Decimals, facts: &Facts) -> Result<(), AllocError>
-    ensures { OnOk result (text.new ≡ text.old ++ approved_account decimals facts.now) }
+fn approved_account(
+    text: &mut Text,
+    decimals: Decimals,
+    asked: &Option<Amount>,
+    facts: &Facts,
+) -> Result<(), AllocError>
+    ensures { OnOk result (text.new ≡ text.old ++ approved_account decimals asked.now facts.now) }
 {
-    let asked = asked_of(facts);
-    phrase(text, decimals, b"The terminal approved ", &asked, b"")?;
+    phrase(text, decimals, b"The terminal approved ", asked, b"")?;
     approval_part(text, &facts.row.approval)?;
     text.word(b", but the payment is unclear: ")?;
     reason(text, &facts.row.outcome)?;
     text.push(b'.')?;
-    later_part(text, decimals, facts)
+    later_part(text, decimals, asked, facts)
 }
 
 /// Writes what happened to an unclear payment whose approval the terminal repeated in a later order.
-fn repeated_account(text: &mut Text, decimals: Decimals, facts: &Facts) -> Result<(), AllocError>
-    ensures { OnOk result (text.new ≡ text.old ++ repeated_account decimals facts.now) }
+fn repeated_account(
+    text: &mut Text,
+    decimals: Decimals,
+    asked: &Option<Amount>,
+    facts: &Facts,
+) -> Result<(), AllocError>
+    ensures { OnOk result (text.new ≡ text.old ++ repeated_account decimals asked.now facts.now) }
 {
-    let asked = asked_of(facts);
-    phrase(text, decimals, b"The payment of ", &asked, b" is unclear: ")?;
+    phrase(text, decimals, b"The payment of ", asked, b" is unclear: ")?;
     reason(text, &facts.row.outcome)?;
-    confirmed_part(text, decimals, &asked, facts.asked_again, &facts.confirmed)?;
+    confirmed_part(text, decimals, asked, facts.asked_again, &facts.confirmed)?;
     text.push(b'.')?;
-    later_part(text, decimals, facts)
+    later_part(text, decimals, asked, facts)
 }
 
 /// Writes what happened to a payment if the terminal approved another amount.
@@ -178,14 +191,18 @@ fn other_amount_account(
 }
 
 /// Writes what happened to an unclear payment without an approval.
-fn unclear_account(text: &mut Text, decimals: Decimals, facts: &Facts) -> Result<(), AllocError>
-    ensures { OnOk result (text.new ≡ text.old ++ unclear_account decimals facts.now) }
+fn unclear_account(
+    text: &mut Text,
+    decimals: Decimals,
+    asked: &Option<Amount>,
+    facts: &Facts,
+) -> Result<(), AllocError>
+    ensures { OnOk result (text.new ≡ text.old ++ unclear_account decimals asked.now facts.now) }
 {
-    let asked = asked_of(facts);
-    phrase(text, decimals, b"The payment of ", &asked, b" is unclear: ")?;
+    phrase(text, decimals, b"The payment of ", asked, b" is unclear: ")?;
     reason(text, &facts.row.outcome)?;
     text.word(b". The till heard no approval, but the terminal may have given one.")?;
-    later_part(text, decimals, facts)
+    later_part(text, decimals, asked, facts)
 }
 
 /// Writes how far a payment is apart from an earlier one, if that is known.
@@ -355,10 +372,10 @@ pub(crate) fn account(
     let (row, entry, again) = (&facts.row, &facts.entry, &facts.again);
     let outcome = &row.outcome;
     match case {
-        Case::ApprovedNotCompleted => approved_account(text, decimals, facts),
-        Case::ApprovalRepeated => repeated_account(text, decimals, facts),
+        Case::ApprovedNotCompleted => approved_account(text, decimals, asked, facts),
+        Case::ApprovalRepeated => repeated_account(text, decimals, asked, facts),
         Case::OtherAmount => other_amount_account(text, decimals, asked, row, again),
-        Case::PaymentUnclear => unclear_account(text, decimals, facts),
+        Case::PaymentUnclear => unclear_account(text, decimals, asked, facts),
         Case::PaidAlike => alike_account(text, decimals, asked, row, again),
         Case::ReversalUnclear => reversal_account(text, decimals, asked, entry, outcome),
         Case::TakenBackBefore => taken_back_account(text, decimals, asked, entry),
