@@ -76,7 +76,7 @@ pub use explaining::Explained;
 pub use form::ReportForm;
 pub use report::{Report, report_trace};
 pub use rows::{Approval, OrderMessage, OrderRow};
-pub use statements::Statement;
+pub use statements::{Statement, Undoing};
 pub use times::Times;
 pub use written::{ReportSummary, read_report, write_report};
 pub use zones::Zone;

@@ -5,7 +5,7 @@ ghost use Rattle.zvt_report.specs.Sentences.{asked_of, charged_title, close_acco
 ghost use Rattle.zvt_report.specs.Sentences.{elsewhere_account, elsewhere_unclear_account, later_part, other_account};
 ghost use Rattle.zvt_report.specs.Sentences.{other_amount_account, other_amount_title, other_title, refused_account};
 ghost use Rattle.zvt_report.specs.Sentences.{repeated_account, reversal_account, taken_back_account, title};
-ghost use Rattle.zvt_report.specs.Sentences.{unclear_account};
+ghost use Rattle.zvt_report.specs.Sentences.{unclear_account, undone_account, undone_part, undone_title};
 
 use crate::apart::apart_part;
 use crate::card_texts::card_or_dash;
@@ -19,7 +19,7 @@ use crate::other_table::money_name;
 use crate::parts::approved_of;
 use crate::phrases::{
     again_part, amount_of, amount_or_dash, approval_part, counted_part, entry_part,
-    maybe_payment_at, payment_at, payment_name, phrase, reason, twice_part,
+    maybe_payment_at, payment_at, payment_name, phrase, reason, trace_part, twice_part,
 };
 use crate::rows::{OrderMessage, OrderRow};
 use std::alloc::AllocError;
@@ -62,6 +62,18 @@ fn charged_title(
     twice_part(text, again)
 }
 
+/// Writes the title of a payment whose approval was taken back.
+fn undone_title(
+    text: &mut Text,
+    decimals: Decimals,
+    asked: &Option<Amount>,
+) -> Result<(), AllocError>
+    ensures { OnOk result (text.new ≡ text.old ++ undone_title decimals asked.now) }
+{
+    amount_or_dash(text, decimals, asked)?;
+    text.word(b" approved, then taken back")
+}
+
 /// Writes the title of a payment if the terminal approved another amount.
 fn other_amount_title(
     text: &mut Text,
@@ -102,6 +114,7 @@ pub(crate) fn title(
         Case::ApprovedNotCompleted | Case::ApprovalRepeated => {
             charged_title(text, decimals, asked, &facts.again)
         }
+        Case::ApprovedThenUndone => undone_title(text, decimals, asked),
         Case::OtherAmount => other_amount_title(text, decimals, asked, &facts.row),
         Case::PaymentUnclear => phrase(text, decimals, b"Payment of ", asked, b" unclear"),
         Case::PaidAlike => phrase(text, decimals, b"", asked, b" paid twice with one card"),
@@ -161,6 +174,33 @@ fn repeated_account(
     phrase(text, decimals, b"The payment of ", asked, b" is unclear: ")?;
     reason(text, &facts.row.outcome)?;
     confirmed_part(text, decimals, asked, facts.asked_again, &facts.confirmed)?;
+    text.push(b'.')?;
+    later_part(text, decimals, asked, facts)
+}
+
+/// Writes which approval was taken back.
+fn undone_part(text: &mut Text, decimals: Decimals, facts: &Facts) -> Result<(), AllocError>
+    ensures { OnOk result (text.new ≡ text.old ++ undone_part decimals facts.now) }
+{
+    amount_or_dash(text, decimals, &approved_of(&facts.row))?;
+    approval_part(text, &facts.row.approval)?;
+    text.word(b", and then took it back")?;
+    trace_part(text, &facts.undone_by)
+}
+
+/// Writes what happened to a payment whose approval was taken back.
+fn undone_account(
+    text: &mut Text,
+    decimals: Decimals,
+    asked: &Option<Amount>,
+    facts: &Facts,
+) -> Result<(), AllocError>
+    ensures { OnOk result (text.new ≡ text.old ++ undone_account decimals asked.now facts.now) }
+{
+    text.word(b"The terminal approved ")?;
+    undone_part(text, decimals, facts)?;
+    text.word(b". The payment is unclear: ")?;
+    reason(text, &facts.row.outcome)?;
     text.push(b'.')?;
     later_part(text, decimals, asked, facts)
 }
@@ -374,6 +414,7 @@ pub(crate) fn account(
     match case {
         Case::ApprovedNotCompleted => approved_account(text, decimals, asked, facts),
         Case::ApprovalRepeated => repeated_account(text, decimals, asked, facts),
+        Case::ApprovedThenUndone => undone_account(text, decimals, asked, facts),
         Case::OtherAmount => other_amount_account(text, decimals, asked, row, again),
         Case::PaymentUnclear => unclear_account(text, decimals, asked, facts),
         Case::PaidAlike => alike_account(text, decimals, asked, row, again),

@@ -122,6 +122,7 @@ fn looks_of(alloc: Global, report: &Report) -> Result<Vec<Look>, AllocError>
         alloc,
         books.book.as_slice(),
         report.closings.as_slice(),
+        report.statements.as_slice(),
         report.messages.as_slice(),
         books.orders.as_slice(),
     )
