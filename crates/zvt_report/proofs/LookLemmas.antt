@@ -11,7 +11,8 @@ use Rattle.zvt_till.specs.declared.outcomes.Outcome.TheVariants.{Registered, Pai
 use Rattle.zvt_report.specs.Alike.{is_marked, repeated_at, repeated_payments}
 use Rattle.zvt_report.specs.Differing.{differs_at}
 use Rattle.zvt_report.specs.Kinds.{foreign_kind, kind_at, kind_of, message_at}
-use Rattle.zvt_report.specs.Looks.{EachOtherIsLookedAt, EachPaymentIsLookedAt, EachReversalIsLookedAt, case_as, confirming, decides, foreign_case, is_of_other, is_of_payment, is_of_reversal, is_unclear_by, is_unclear_other, look_with, looks_from, open_by, open_places, others_looked_at, paid_again, payment_case, payments_looked_at, reversals_looked_at, unclear_others, unclear_places, undoing_at, was_undone}
+use Rattle.zvt_report.specs.Looks.{case_as, confirming, decides, foreign_case, look_with, looks_from, paid_again, payment_case, undoing_at, was_undone}
+use Rattle.zvt_report.specs.LookLaws.{EachOtherIsLookedAt, EachPaymentIsLookedAt, EachReversalIsLookedAt, is_of_other, is_of_payment, is_of_reversal, is_unclear_by, is_unclear_other, open_by, open_places, others_looked_at, payments_looked_at, reversals_looked_at, unclear_others, unclear_places}
 use Rattle.zvt_report.specs.declared.cases.Case.{Case}
 use Rattle.zvt_report.specs.declared.cases.Case.TheVariants.{ApprovedNotCompleted, OtherAmount, ReversalRefused, ReversalUnclear, TakenBackBefore}
 use Rattle.zvt_report.specs.declared.cases.Look.{Look}

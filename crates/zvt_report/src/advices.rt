@@ -122,7 +122,8 @@ fn fixed_advice(case: Case) -> &'static [u8]
     match case {
         Case::ReversalUnclear | Case::ElsewhereUnclear => reversal_advice(),
         Case::ApprovedThenUndone => {
-            b"The customer has probably not been charged. Look for both trace numbers in the terminal's journal to be sure."
+            b"The customer has probably not been charged. Look for both trace numbers in the terminal's journal to be \
+                sure."
         }
         Case::TakenBackBefore => b"Subtract the payment from the net total by hand.",
         Case::ReversalRefused => {

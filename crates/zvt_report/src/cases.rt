@@ -1,20 +1,20 @@
 //! The orders that a person should look at, and why.
 ghost use Rattle.std.specs.Prelude.{◌≡◌, ◌+◌, ◌<◌, ◌^◌, IfOk, length};
-ghost use Rattle.zvt_report.specs.Looks.{alike_case, case_as, close_case, confirmed_if, elsewhere_case, foreign_case};
-ghost use Rattle.zvt_report.specs.Looks.{is_undone, look_at, look_with, looks, money_case, other_payment, paid_case};
-ghost use Rattle.zvt_report.specs.Looks.{payment_case, refused_case, reversal_case, undoes, undoing_at, undone_if};
-ghost use Rattle.zvt_report.specs.Looks.{was_undone};
+ghost use Rattle.zvt_report.specs.Looks.{case_as, close_case, confirmed_if, elsewhere_case, foreign_case, look_at};
+ghost use Rattle.zvt_report.specs.Looks.{look_with, looks, money_case, other_payment, refused_case, reversal_case};
+ghost use Rattle.zvt_report.specs.Looks.{undoing_at, undone_if};
 
 use crate::alike::{is_marked, repeated_at, repeated_payments};
 use crate::closings::Closing;
 use crate::differing::differs_at;
 use crate::kinds::{OrderKind, kind_at};
 use crate::later_orders::{ALREADY_REVERSED, confirming, is_decided, paid_again};
-use crate::rows::{Approval, OrderMessage, OrderRow};
+use crate::payment_cases::paid_case;
+use crate::rows::{OrderMessage, OrderRow};
 use crate::statements::{Statement, Undoing};
 use std::alloc::{AllocError, Global};
-use zvt_bcd::{Amount, Trace};
-use zvt_till::{Cause, Entry, Original, Outcome, Sent};
+use zvt_bcd::Trace;
+use zvt_till::{Entry, Outcome, Sent};
 
 /// How urgent it is to look at an order.
 #[derive(Clone, Copy, Debug, PartialEq, Eq)]
@@ -141,58 +141,6 @@ pub struct Look {
     pub undone_by: Option<Trace>,
 }
 
-/// Whether another status information names the trace number of this approval as its original.
-fn undoes(undoing: &Undoing, approval: &Approval) -> bool
-    ensures { result ≡ undoes undoing.now approval.now }
-{
-    match approval.trace {
-        Some(trace) => {
-            Original::Once(undoing.original).names(trace) && undoing.trace != Some(trace)
-        }
-        None => false,
-    }
-}
-
-/// Whether an approval was taken back.
-fn is_undone(approval: &Option<Approval>, undoing: &Option<Undoing>) -> bool
-    ensures { result ≡ is_undone approval.now undoing.now }
-{
-    match (approval, undoing) {
-        (Some(approval), Some(undoing)) => undoes(undoing, approval),
-        _ => false,
-    }
-}
-
-/// Whether a payment that is unclear for this reason was aborted after its approval was taken back.
-fn was_undone(cause: Cause, approval: &Option<Approval>, undoing: &Option<Undoing>) -> bool
-    ensures { result ≡ was_undone cause approval.now undoing.now }
-{
-    match cause {
-        Cause::AbortAfterApproval => is_undone(approval, undoing),
-        _ => false,
-    }
-}
-
-/// Returns why to look at an unclear payment. Its approval was taken back or not, and repeated in a later order or not.
-fn payment_case(
-    amount: Amount,
-    confirmed: Option<usize>,
-    undone: bool,
-    approval: &Option<Approval>,
-) -> Case
-    ensures { result ≡ payment_case amount confirmed undone approval.now }
-{
-    if undone {
-        return Case::ApprovedThenUndone;
-    }
-    match (approval, confirmed) {
-        (None, None) => Case::PaymentUnclear,
-        (None, Some(_)) => Case::ApprovalRepeated,
-        (Some(approval), _) if approval.amount == amount => Case::ApprovedNotCompleted,
-        (Some(_), _) => Case::OtherAmount,
-    }
-}
-
 /// Returns why to look at a reversal that the terminal refused or aborted with this code.
 fn refused_case(book: &[Entry], place: usize, code: u8, decided: bool) -> Option<Case>
     ensures { result ≡ refused_case book.now place code decided }
@@ -230,38 +178,6 @@ fn close_case(differs: bool, outcome: &Outcome) -> Option<Case>
         }
         Outcome::Unclear(_) => Some(Case::CloseUnclear),
         Outcome::DayClosed if differs => Some(Case::CloseDiffers),
-        _ => None,
-    }
-}
-
-/// Returns why to look at a booked payment, which repeats an earlier one or not.
-fn alike_case(repeats: Option<usize>) -> Option<Case>
-    ensures { result ≡ alike_case repeats }
-{
-    match repeats {
-        Some(_) => Some(Case::PaidAlike),
-        None => None,
-    }
-}
-
-/// Returns why to look at a payment. It repeats an earlier one or not, its approval was repeated in a later order or
-/// not, and its statuses take something back or not.
-fn paid_case(
-    amount: Amount,
-    repeats: Option<usize>,
-    confirmed: Option<usize>,
-    undoing: &Option<Undoing>,
-    approval: &Option<Approval>,
-    outcome: &Outcome,
-) -> Option<Case>
-    ensures { result ≡ paid_case amount repeats confirmed undoing.now approval.now outcome.now }
-{
-    match outcome {
-        Outcome::Unclear(cause) => {
-            let undone = was_undone(*cause, approval, undoing);
-            Some(payment_case(amount, confirmed, undone, approval))
-        }
-        Outcome::Paid { .. } => alike_case(repeats),
         _ => None,
     }
 }

@@ -1,6 +1,6 @@
 //! Laws of every day and of every report, each stated as the contract of an empty function.
 ghost use Rattle.zvt_report.specs.Laws.{DoubtsAreLeftOpen, EachOrderHasARow, SameBooks, SameMarks, SumsMakeBooked};
-ghost use Rattle.zvt_report.specs.Looks.{EachOtherIsLookedAt, EachPaymentIsLookedAt, EachReversalIsLookedAt};
+ghost use Rattle.zvt_report.specs.LookLaws.{EachOtherIsLookedAt, EachPaymentIsLookedAt, EachReversalIsLookedAt};
 ghost use Rattle.zvt_report.specs.Naming.{ReversalsNameEntries};
 ghost use Rattle.zvt_report.specs.Reported.{EachOrderHasAMessage, EachReversalNamesAnEntry, SameBooksAsAudit};
 ghost use Rattle.zvt_report.specs.Page.{ReportsAreDocuments};

@@ -1,6 +1,6 @@
 use Rattle.std.proofs.Common.{append_assoc}
 use Rattle.zvt_report.proofs.TextLemmas.{completes}
-use Rattle.zvt_report.proofs.sentences.title.Goals as goal
+use Rattle.zvt_report.proofs.titles.title.Goals as goal
 
 pub returns-in-ReversalUnclear : goal.returns-in-ReversalUnclear
 returns-in-ReversalUnclear c =

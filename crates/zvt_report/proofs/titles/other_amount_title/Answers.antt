@@ -1,6 +1,6 @@
 use Rattle.std.proofs.Common.{append_assoc}
 use Rattle.zvt_report.proofs.TextLemmas.{adds_completely}
-use Rattle.zvt_report.proofs.sentences.other_amount_title.Goals as goal
+use Rattle.zvt_report.proofs.titles.other_amount_title.Goals as goal
 
 pub returns : goal.returns
 returns c =
