@@ -38,7 +38,7 @@ use Rattle.zvt_report.specs.declared.members.Word.TheVariants as word
 use Rattle.zvt_report.specs.declared.rows.OrderMessage.{OrderMessage}
 use Rattle.zvt_report.specs.declared.rows.OrderRow.{OrderRow}
 
--- ---- members of which some are sentences
+-- ---- members and sentences
 
 -- a name, and what stands under it
 abbrev pub Told : Type 0

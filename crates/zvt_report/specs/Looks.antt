@@ -341,7 +341,7 @@ not_confirmed = refl
 abbrev undoing : (trace : Option ℕ) → Statement
 undoing trace = record { declines = true; total = None; totals = None; card = None; undoing = Some (record { original = 0 ∷ 0 ∷ 0x20 ∷ []; trace = trace }) }
 
--- what was approved under trace number 20 was taken back; and a payment of which that is not known
+-- what was approved under trace number 20 was taken back, then not by another status, and then the line was lost
 undone : looks [] [] (undoing (Some 21) ∷ undoing (Some 20) ∷ undoing (Some 21) ∷ []) []
     (a_row (Pay 500) (Unclear AbortAfterApproval) (approved 500) ∷ a_row (Pay 500) (Unclear AbortAfterApproval) (approved 500) ∷ a_row (Pay 500) (Unclear Line) (approved 500) ∷ [])
     ≡ record (looked ApprovedThenUndone 0 (Some 1)) { undone_by = Some 21 } ∷ looked ApprovedNotCompleted 1 (Some 2) ∷ looked ApprovedNotCompleted 2 None ∷ []

@@ -35,7 +35,7 @@ pub(crate) fn write(
     alloc: Global,
     text: &mut Text,
     tally: Tally,
-    currency: Option<Currency>,
+    currency: &Option<Currency>,
     times: &Times,
     books: &DayBooks,
     messages: &[OrderMessage],
@@ -43,10 +43,10 @@ pub(crate) fn write(
     looks: &[Look],
 ) -> Result<(), AllocError>
     ensures { OnOk result (text.new ≡ text.old
-        ++ report_json tally currency times.now books.now messages.now closings.now looks.now) }
+        ++ report_json tally currency.now times.now books.now messages.now closings.now looks.now) }
 {
-    summary(text, tally, currency, times, books, messages, looks)?;
-    look_lines(alloc, text, currency, books, messages, closings, looks)?;
+    summary(text, tally, *currency, times, books, messages, looks)?;
+    look_lines(alloc, text, *currency, books, messages, closings, looks)?;
     order_rows(text, books, messages, closings)
 }
 

@@ -210,7 +210,7 @@ fn text_of(
             alloc,
             &mut text,
             report.tally,
-            report.currency,
+            &report.currency,
             &report.times,
             books,
             messages,
