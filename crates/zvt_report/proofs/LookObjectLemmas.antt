@@ -2,11 +2,11 @@
 use Rattle.std.proofs.Common.{◌≡◌, ℕ, Bool, true, false, List, [], ◌∷◌, ◌++◌, map, Option, Some, None, Result, Ok, Err, codes, refl, sym, ◌∙◌, ap, append_assoc}
 use Rattle.std.specs.Prelude.{OnOk}
 use Rattle.std.specs.declared.alloc.AllocError.{AllocError}
-use Rattle.serde_json.specs.Data.{Data, Members, member, no_members}
+use Rattle.serde_json.specs.Data.{Data, Members, member}
 use Rattle.serde_json.specs.Written.{comma_if, compact_text, members_text}
 use Rattle.zvt_json.specs.Strings.{line_text}
 use Rattle.zvt_report.specs.LookObjects.{Told, look_value, more_of, more_text, of_member, told, told_text}
-use Rattle.zvt_report.specs.Members.{name_text, object_name}
+use Rattle.zvt_report.specs.Members.{name_text}
 use Rattle.zvt_report.specs.declared.members.Member.{Member}
 use Rattle.zvt_report.specs.declared.members.Name.{Name}
 use Rattle.zvt_report.specs.declared.members.Object.TheVariants as object_of

@@ -1,11 +1,7 @@
 -- What to do about an order that a person should look at.
-use Rattle.std.specs.Prelude.{◌≡◌, ℕ, List, [], ◌∷◌, ◌++◌, codes, false, Option, Some, None, refl}
+use Rattle.std.specs.Prelude.{◌≡◌, ℕ, List, [], ◌++◌, codes, Option, Some, None, refl}
 use Rattle.std.specs.Fmt.{digits}
 use Rattle.hex.specs.Hex.{encode_with}
-use Rattle.zvt_till.specs.declared.happenings.Sent.TheVariants.{Foreign, Pay}
-use Rattle.zvt_till.specs.declared.outcomes.Outcome.TheVariants.{DayClosed, Paid, Unclear}
-use Rattle.zvt_till.specs.declared.outcomes.Cause.TheVariants.{Line}
-use Rattle.zvt_report.specs.Amounts.{amount_text}
 use Rattle.zvt_report.specs.Differences.{shares_advice}
 use Rattle.zvt_report.specs.Objects.{approved_of, receipt_by}
 use Rattle.zvt_report.specs.Phrases.{amount_or_dash, approved_receipt, receipt_name, receipt_of, unless_earlier}

@@ -5,7 +5,7 @@ use Rattle.std.specs.Option.{option_or}
 use Rattle.zvt_field.specs.Grammar.{Field, plain}
 use Rattle.zvt_field.specs.Named.{content_of, original_of, result_of, trace_of}
 use Rattle.zvt_apdu.specs.Kinds.{kind_of}
-use Rattle.zvt_apdu.specs.Message.{Message, authorisation, end_of_day, status, completion}
+use Rattle.zvt_apdu.specs.Message.{Message, end_of_day, status, completion}
 use Rattle.zvt_apdu.specs.Views.{fields_in}
 use Rattle.zvt_apdu.specs.declared.kinds.Kind.{Kind}
 use Rattle.zvt_apdu.specs.declared.kinds.Kind.TheVariants as kind

@@ -1,4 +1,4 @@
-use Rattle.std.proofs.Common.{◌≡◌, ◌++◌, ◌∷◌, [], ◌∙◌, List, ℕ, ap, append_assoc, false, true}
+use Rattle.std.proofs.Common.{◌≡◌, ◌++◌, ◌∷◌, [], ◌∙◌, List, ℕ, ap}
 use Rattle.serde_json.specs.Data.{string}
 use Rattle.zvt_report.specs.Advices.{advice}
 use Rattle.zvt_report.specs.LookObjects as look
