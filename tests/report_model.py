@@ -20,7 +20,7 @@ WITH_PASSWORD = {"0625", "0631"}
 CONTROLS = {"Registration": "0600", "Authorisation": "0601", "Reversal": "0630", "EndOfDay": "0650"}
 ALREADY_REVERSED = "B4"
 DECLINES, GOOD = "declines", "good"
-CHECKS = ("PaymentUnclear", "PaidAlike", "ReversalRefused", "CloseUnclear", "CloseRefused", "CloseDiffers")
+CHECKS = ("ApprovedThenUndone", "PaymentUnclear", "PaidAlike", "ReversalRefused", "CloseUnclear", "CloseRefused", "CloseDiffers")
 MOVES = ("payment", "reversal", "other", "close")
 TOTALS, CARD_NUMBER, CARD_TYPE, CARD_NAME, TERMINAL = "60", "22", "8A", "8B", "29"
 NAMES = {**json_model.COMMANDS, "0600": "registration"}
@@ -162,11 +162,19 @@ class Order:
         self.amount = amount_of(message)
         self.receipt = only(message, RECEIPT)
         self.accepted, self.statuses, self.approval, self.outcome, self.last_status, self.card = False, [], None, None, {}, {}
+        self.undoing = None
 
     @property
     def is_of_money(self):
         """Whether it is a payment, or a reversal of an entry of the book."""
         return self.kind == "payment" or self.kind == "reversal" and self.entry is not None
+
+    @property
+    def is_undone(self):
+        """Whether it was aborted after the first status with an original, field 37, named what the terminal had approved."""
+        trace = self.approval and self.approval["trace"]
+        original, own = self.undoing or ("", None)
+        return self.outcome == ("unclear", "AbortAfterApproval") and trace is not None and original == f"{trace:06}" and own != original
 
     def class_of(self, status, book):
         """What a status says of the order: that it declines it, with the code; a cause of doubt; or that it is good."""
@@ -190,6 +198,8 @@ class Order:
     def noted(self, status, book):
         self.statuses.append((*self.class_of(status, book), only(status, RECEIPT)))
         self.last_status = status
+        if only(status, ORIGINAL) is not None:
+            self.undoing = self.undoing or (only(status, ORIGINAL), only(status, TRACE))
         if only(status, RESULT) == "00":
             self.card = self.card or card_of(status)
         if self.approval is None and only(status, RESULT) == "00" and amount_of(status):
@@ -347,6 +357,8 @@ class Report(Audit):
         if self.repeated(order) is not None:
             return "PaidAlike"
         if order.kind == "payment" and word == "unclear":
+            if order.is_undone:
+                return "ApprovedThenUndone"
             if order.approval is None:
                 return "PaymentUnclear" if self.confirming(self.orders.index(order)) is None else "ApprovalRepeated"
             return "ApprovedNotCompleted" if order.approval["amount"] == order.amount else "OtherAmount"

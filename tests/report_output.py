@@ -207,13 +207,18 @@ def refunded(amount, *answers):
     return ordered(b"\x06\x31", bytes(3) + b"\x04" + digits(amount, 6), *answers)
 
 
+def undoing(number, original):
+    """A status that declines, and names an original."""
+    return message(STATUS, b"\x27\x6C" + (b"" if number is None else b"\x0B" + digits(number, 3)) + b"\x37" + digits(original, 3))
+
+
 def repeated(*answers):
     """The till asks for the last receipt once more."""
     return ordered(b"\x06\x20", bytes(3), *answers)
 
 
 LOST, DONE, DECLINED = ("!", None), message(COMPLETION), message(STATUS, b"\x27\x6C")
-UNHEARD = [*paid(500, 1)[:2], LOST]
+ABORTED, UNHEARD = message(ABORT, b"\x6C"), [*paid(500, 1)[:2], LOST]
 TAKEN_BACK = (ACK, approving(500, 2, 1), DONE)
 CASES = [
     ("ApprovedNotCompleted", [*paid(500, 1, approving(500, 1)), LOST], [*paid(500, 1), LOST]),
@@ -223,6 +228,9 @@ CASES = [
     ("ApprovalRepeated", [*UNHEARD, *ordered(b"\x06\x70", b"", DONE), *repeated(approving(500, 1), DONE)], [*UNHEARD, *paid(700, 1), *repeated(approving(500, 1), DONE)]),
     ("ApprovalRepeated", [*UNHEARD, *repeated(DECLINED, approving(500, 1), DONE), *paid(500, 2)], [*UNHEARD, *refunded(500, DONE), *repeated(approving(500, 1), DONE)]),
     ("ApprovalRepeated", [*UNHEARD, *repeated(message(STATUS, b"\x27\0\x04" + digits(500, 6)), DONE)], [*paid(500, 1, approving(500, 1)), LOST, *repeated(approving(500, 1), DONE)]),
+    ("ApprovedThenUndone", [*paid(500, 17, approving(500, 17), undoing(18, 17), ABORTED)], [*paid(500, 17, approving(500, 17), undoing(18, 16), ABORTED)]),
+    ("ApprovedThenUndone", [*paid(500, 17, approving(550, 17), undoing(None, 17), ABORTED), *paid(500, 19)], [*paid(500, 17, approving(500, 17), undoing(18, 17)), LOST]),
+    ("ApprovedThenUndone", [*paid(500, 17, approving(500, 17), undoing(18, 17), undoing(19, 16), ABORTED)], [*paid(500, 17, approving(500, 17), undoing(17, 17), ABORTED)]),
     ("PaidAlike", [*paid_with(GIROCARD, 500, 1), *paid_with(VISA, 500, 2), *paid_with(GIROCARD, 500, 3)], [*paid_with(GIROCARD, 500, 1), *paid_with(VISA, 500, 2)]),
     ("PaidAlike", [*paid_with(VISA, 500, 1), *paid(500, 2), *paid_with(VISA, 500, 3)], [*paid_with(VISA, 500, 1), *paid_with(VISA, 700, 2), *paid_with(VISA, 500, 3)]),
     ("PaidAlike", [*paid_with(GIROCARD, 500, 1), *paid_with(GIROCARD, 500, 3), *reversed_by(2, *TAKEN_BACK)],

@@ -23,6 +23,7 @@ NOT_BOOKED = ". The payment is not booked in this trace, so the net total does n
 REVERSAL_ADVICE = ("Look for the reversal in the terminal's journal before you give money back. You can also reverse the payment again: if the "
                    "terminal then answers B4, it had already taken the payment back.")
 FIXED = {
+    "ApprovedThenUndone": "The customer has probably not been charged. Look for both trace numbers in the terminal's journal to be sure.",
     "ReversalUnclear": REVERSAL_ADVICE,
     "TakenBackBefore": "Subtract the payment from the net total by hand.",
     "ReversalRefused": "If the customer was promised the money, it has not been given back.",
@@ -115,6 +116,12 @@ class Sentences:
                 f"The payment of {amount} is unclear: {self.reason(order)}. The till then {asked} (line {confirmed.first}), and the answer approves "
                 f"{amount}{self.approved(confirmed)}.{self.later(order, again)}",
                 unless + (", the customer has been charged for it, and may have paid twice." if again else ", the customer has been charged. Do not charge again."))
+
+    def ApprovedThenUndone(self, order, again, _):
+        trace = order.undoing[1]
+        return (f"{self.money(order.amount)} approved, then taken back",
+                f"The terminal approved {self.money(order.approval['amount'])}{self.approved(order)}, and then took it back{f', trace {trace}' if trace else ''}. "
+                f"The payment is unclear: {self.reason(order)}.{self.later(order, again)}", None)
 
     def OtherAmount(self, order, again, _):
         asked, given, receipt = self.money(order.amount), self.money(order.approval["amount"]), order.approval["receipt"]

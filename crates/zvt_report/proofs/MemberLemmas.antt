@@ -34,6 +34,7 @@ case_plain : (c : Case) → escape (case_name c) ≡ case_name c
 unfolding escape_byte
 case_plain case_of.ApprovedNotCompleted = refl
 case_plain case_of.ApprovalRepeated = refl
+case_plain case_of.ApprovedThenUndone = refl
 case_plain case_of.OtherAmount = refl
 case_plain case_of.PaymentUnclear = refl
 case_plain case_of.PaidAlike = refl

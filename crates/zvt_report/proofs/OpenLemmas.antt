@@ -16,7 +16,8 @@ use Rattle.zvt_report.specs.Chapters.{Chapter, chapters}
 use Rattle.zvt_report.specs.Day.{DayValue, day_after, day_of, judged_as, no_orders}
 use Rattle.zvt_report.specs.Day as day
 use Rattle.zvt_report.specs.Laws.{AreOfEntries, DoubtsAreLeftOpen, IsOfEntry}
-use Rattle.zvt_report.specs.Looks.{decides, decides_as, decides_by, is_left_open, is_open_by}
+use Rattle.zvt_report.specs.Looks.{decides, decides_as, decides_by}
+use Rattle.zvt_report.specs.LookLaws.{is_left_open, is_open_by}
 use Rattle.zvt_report.specs.declared.rows.OrderRow.{OrderRow}
 
 -- ---- lists

@@ -202,7 +202,7 @@ read_named o ms ns named order = λ fit.
     let names = said_ordered ms ns [] no_members named order (λ k h. refl) in
     reads_back (object_value o ms) fit (ap (λ (b : Bool). b && true) names) (omega (arith, said_shallow ms))
 
--- ---- members of which some are sentences
+-- ---- members and sentences
 
 -- the member has this name, and a value without objects
 abbrev IsTold : Told → Name → Type 0

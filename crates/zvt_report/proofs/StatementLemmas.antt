@@ -15,11 +15,12 @@ use Rattle.zvt_trace.specs.TraceEvent as trace_event
 use Rattle.zvt_trace.specs.declared.direction.Direction.{Direction}
 use Rattle.zvt_trace.specs.declared.direction.Direction.TheVariants.{FromTill, FromTerminal}
 use Rattle.zvt_report.specs.Reported.{beginning}
-use Rattle.zvt_report.specs.Statements.{Begins, Ends, States, accepts, after_status, answered, attends, attention, begins, card_by, closed_by, declines_by, ends_by, first_card, heard_statuses, latest, no_statement, opened, stated, stated_by, stated_with, statements_of, stating, statuses_in, total_by, totals_of}
+use Rattle.zvt_report.specs.Statements.{Begins, Ends, States, accepts, after_status, answered, attends, attention, begins, card_by, closed_by, declines_by, ends_by, first_card, first_undoing, heard_statuses, latest, no_statement, opened, stated, stated_by, stated_with, statements_of, stating, statuses_in, total_by, totals_of, undoing_by}
 use Rattle.zvt_report.specs.declared.cards.Card.{Card}
 use Rattle.zvt_report.specs.declared.statements.Attention.{Attention}
 use Rattle.zvt_report.specs.declared.statements.Hearing.{Hearing}
 use Rattle.zvt_report.specs.declared.statements.Statement.{Statement}
+use Rattle.zvt_report.specs.declared.statements.Undoing.{Undoing}
 
 -- ---- one status after another
 
@@ -31,21 +32,30 @@ or_assoc : (a b c : Bool) → ((a || b) || c) ≡ (a || (b || c))
 or_assoc true b c = refl
 or_assoc false b c = refl
 
-or_first : (a b c : Option Card) → option_or (option_or a b) c ≡ option_or a (option_or b c)
+or_first : {A : Type 0} (a b c : Option A) → option_or (option_or a b) c ≡ option_or a (option_or b c)
 or_first None b c = refl
-or_first (Some card) b c = refl
+or_first (Some given) b c = refl
 
-or_none : (a : Option Card) → option_or a None ≡ a
+or_none : {A : Type 0} (a : Option A) → option_or a None ≡ a
 or_none None = refl
-or_none (Some card) = refl
+or_none (Some given) = refl
+
+-- what statuses say after earlier ones
+abbrev said_after : Statement → (declines : Bool) → (heard : List (List Field)) → Option Card → Option Undoing → Statement
+said_after s declines heard card undoing = record { declines = declines; total = latest s.total total_by heard; totals = latest s.totals totals_of heard; card = card; undoing = undoing }
 
 after_all : (s : Statement) (heard : List (List Field))
-    → fold after_status s heard ≡ record { declines = s.declines || list_any declines_by heard; total = latest s.total total_by heard; totals = latest s.totals totals_of heard; card = option_or s.card (first_card heard) }
-after_all s [] = ap₂ (λ (d : Bool) (c : Option Card). record { declines = d; total = s.total; totals = s.totals; card = c }) (sym (or_false s.declines)) (sym (or_none s.card))
+    → fold after_status s heard ≡ said_after s (s.declines || list_any declines_by heard) heard (option_or s.card (first_card heard)) (option_or s.undoing (first_undoing heard))
+after_all s [] =
+    ap₂ (λ (d : Bool) (c : Option Card). said_after s d [] c s.undoing) (sym (or_false s.declines)) (sym (or_none s.card))
+    ∙ ap (said_after s (s.declines || false) [] (option_or s.card None)) (sym (or_none s.undoing))
 after_all s (f ∷ heard) =
-    after_all (after_status s f) heard
-    ∙ ap₂ (λ (d : Bool) (c : Option Card). record { declines = d; total = latest (total_by f) total_by heard; totals = latest (totals_of f) totals_of heard; card = c })
+    let next = after_status s f in
+    after_all next heard
+    ∙ ap₂ (λ (d : Bool) (c : Option Card). said_after next d heard c (option_or (option_or s.undoing (undoing_by f)) (first_undoing heard)))
     (or_assoc s.declines (declines_by f) (list_any declines_by heard)) (or_first s.card (card_by f) (first_card heard))
+    ∙ ap (said_after next (s.declines || (declines_by f || list_any declines_by heard)) heard (option_or s.card (option_or (card_by f) (first_card heard))))
+    (or_first s.undoing (undoing_by f) (first_undoing heard))
 
 all_stated_by : (heard : List (List Field)) → fold after_status no_statement heard ≡ stated_by heard
 all_stated_by heard = after_all no_statement heard

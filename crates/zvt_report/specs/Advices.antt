@@ -1,17 +1,13 @@
 -- What to do about an order that a person should look at.
-use Rattle.std.specs.Prelude.{◌≡◌, ℕ, List, [], ◌∷◌, ◌++◌, codes, false, Option, Some, None, refl}
+use Rattle.std.specs.Prelude.{◌≡◌, ℕ, List, [], ◌++◌, codes, Option, Some, None, refl}
 use Rattle.std.specs.Fmt.{digits}
 use Rattle.hex.specs.Hex.{encode_with}
-use Rattle.zvt_till.specs.declared.happenings.Sent.TheVariants.{Foreign, Pay}
-use Rattle.zvt_till.specs.declared.outcomes.Outcome.TheVariants.{DayClosed, Paid, Unclear}
-use Rattle.zvt_till.specs.declared.outcomes.Cause.TheVariants.{Line}
-use Rattle.zvt_report.specs.Amounts.{amount_text}
 use Rattle.zvt_report.specs.Differences.{shares_advice}
 use Rattle.zvt_report.specs.Objects.{approved_of, receipt_by}
 use Rattle.zvt_report.specs.Phrases.{amount_or_dash, approved_receipt, receipt_name, receipt_of, unless_earlier}
 use Rattle.zvt_report.specs.Sentences.{asked_of, about, a_payment, a_later_one, a_repeat, by_card}
 use Rattle.zvt_report.specs.declared.cases.Case.{Case}
-use Rattle.zvt_report.specs.declared.cases.Case.TheVariants.{ApprovedNotCompleted, ApprovalRepeated, OtherAmount, PaymentUnclear, PaidAlike, ReversalUnclear, TakenBackBefore, ReversalRefused, ReversalElsewhere, ElsewhereUnclear, OtherUnclear, CloseUnclear, CloseRefused, CloseDiffers}
+use Rattle.zvt_report.specs.declared.cases.Case.TheVariants.{ApprovedNotCompleted, ApprovalRepeated, ApprovedThenUndone, OtherAmount, PaymentUnclear, PaidAlike, ReversalUnclear, TakenBackBefore, ReversalRefused, ReversalElsewhere, ElsewhereUnclear, OtherUnclear, CloseUnclear, CloseRefused, CloseDiffers}
 use Rattle.zvt_report.specs.declared.currencies.Decimals.{Decimals}
 use Rattle.zvt_report.specs.declared.currencies.Decimals.TheVariants.{Two}
 use Rattle.zvt_report.specs.declared.facts.Facts.{Facts}
@@ -54,6 +50,7 @@ reversal_advice =
 abbrev pub fixed_advice : Case → List ℕ
 fixed_advice ApprovedNotCompleted = []
 fixed_advice ApprovalRepeated = []
+fixed_advice ApprovedThenUndone = codes "The customer has probably not been charged. Look for both trace numbers in the terminal's journal to be sure."
 fixed_advice OtherAmount = []
 fixed_advice PaymentUnclear = []
 fixed_advice PaidAlike = []
@@ -71,6 +68,7 @@ fixed_advice CloseDiffers = []
 abbrev pub advice : Decimals → Facts → Case → List ℕ
 advice decimals facts ApprovedNotCompleted = approved_advice facts.row.approval facts.again
 advice decimals facts ApprovalRepeated = repeated_advice (receipt_of facts.confirmed) facts.again
+advice decimals facts ApprovedThenUndone = fixed_advice ApprovedThenUndone
 advice decimals facts OtherAmount = other_amount_advice decimals facts.row
 advice decimals facts PaymentUnclear = unclear_advice decimals (asked_of facts) facts.again
 advice decimals facts PaidAlike = alike_advice (receipt_by facts.row.outcome facts.row.approval)

@@ -122,7 +122,7 @@ abbrev an_entry : (amount : ℕ) → Entry
 an_entry amount = record { amount = amount; trace = 17; receipt = None; reversed = true; doubt = No }
 
 abbrev totalled : (total : ℕ) → Statement
-totalled total = record { declines = false; total = Some total; totals = None; card = None }
+totalled total = record { declines = false; total = Some total; totals = None; card = None; undoing = None }
 
 abbrev a_closing : (stated booked taken_back : ℕ) → Closing
 a_closing stated booked taken_back = record { stated = Some stated; totals = None; booked = booked; taken_back = taken_back; covered = Some (stated + taken_back); explained = Nothing }

@@ -123,6 +123,7 @@ facts_with book closings messages rows look row =
       again = maybe_row rows look.again;
       confirmed = maybe_row rows look.confirmed_by;
       asked_again = asks_again messages look.confirmed_by;
+      undone_by = look.undone_by;
       counted = counted_at closings rows look.order;
       closing = closing_at closings look.order;
       shares = shares_in book messages rows (closing_at closings look.order);

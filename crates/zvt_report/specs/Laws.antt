@@ -15,7 +15,7 @@ use Rattle.zvt_till.specs.Segments.{Ended}
 use Rattle.zvt_till.specs.Settings.{strict}
 use Rattle.zvt_report.specs.Chapters.{Noted, Chapter, chapters, ended, happenings}
 use Rattle.zvt_report.specs.Day.{DayValue, day_after, day_of, no_orders}
-use Rattle.zvt_report.specs.Looks.{is_left_open}
+use Rattle.zvt_report.specs.LookLaws.{is_left_open}
 use Rattle.zvt_report.specs.declared.rows.OrderRow.{OrderRow}
 
 -- a day books the payments of its log, and leaves those unclear that the log leaves open

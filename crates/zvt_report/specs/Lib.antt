@@ -4,6 +4,7 @@ pub mod Judging
 pub mod Laws
 pub mod Alike
 pub mod Looks
+pub mod LookLaws
 pub mod Naming
 pub mod Reported
 pub mod CardTotals

@@ -98,7 +98,7 @@ abbrev an_end : OrderRow
 an_end = record { order = CloseDay; first = 10; last = 16; outcome = Unclear Line; approval = None; time = Some (moment 2026 11 28 18 30 1 0); card = None }
 
 abbrev a_look : Case → (order : ℕ) → Look
-a_look case order = record { case = case; order = order; again = None; confirmed_by = None }
+a_look case order = record { case = case; order = order; again = None; confirmed_by = None; undone_by = None }
 
 -- the end of day is the first order, and not urgent
 urgent_first :

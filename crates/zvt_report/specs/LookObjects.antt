@@ -38,7 +38,7 @@ use Rattle.zvt_report.specs.declared.members.Word.TheVariants as word
 use Rattle.zvt_report.specs.declared.rows.OrderMessage.{OrderMessage}
 use Rattle.zvt_report.specs.declared.rows.OrderRow.{OrderRow}
 
--- ---- members of which some are sentences
+-- ---- members and sentences
 
 -- a name, and what stands under it
 abbrev pub Told : Type 0
@@ -106,7 +106,7 @@ looks_json decimals book closings messages rows looks = flat_map (look_line deci
 
 -- ---- the same texts, as they are written
 
-abbrev pub told_text : (later : Bool) → Name → Data → List ℕ
+unfoldable pub told_text : (later : Bool) → Name → Data → List ℕ
 told_text later n d = comma_if later ++ ((34 ∷ name_text n ++ 34 ∷ 58 ∷ []) ++ compact_text d)
 
 -- members after others
@@ -115,6 +115,9 @@ more_text [] = []
 more_text (None ∷ more) = more_text more
 more_text (Some t ∷ more) = told_text true t.0 t.1 ++ more_text more
 
+unfoldable pub more_of : List (Option Member) → List ℕ
+more_of members = more_text (map of_member members)
+
 -- ---- rows worked by hand
 
 abbrev a_row : Sent → ℕ → ℕ → Outcome → OrderRow
@@ -122,7 +125,7 @@ a_row order first last outcome = record { order = order; first = first; last = l
 
 -- a payment that was made twice
 paid_twice : let orders = a_row (sent.Register None) 2 4 outcome.Registered ∷ a_row (sent.Pay 3499) 6 8 (outcome.Unclear cause.Line) ∷ a_row (sent.Pay 3499) 10 12 (outcome.Paid 21 None) ∷ [] in
-    looks_json Two [] [] [] orders (record { case = case_of.PaymentUnclear; order = 1; again = Some 2; confirmed_by = None } ∷ [])
+    looks_json Two [] [] [] orders (record { case = case_of.PaymentUnclear; order = 1; again = Some 2; confirmed_by = None; undone_by = None } ∷ [])
     ≡ codes "{\"look\":{\"advice\":\"Look in the terminal's journal for two payments of 34.99. The customer may have paid twice.\",\"again\":3,\"case\":\"PaymentUnclear\",\"cause\":\"Line\",\"lines\":[6,8],\"order\":2,\"payment\":1,\"text\":\"The payment of 34.99 is unclear: the connection was lost. The till heard no approval, but the terminal may have given one. Then 34.99 was paid again (line 10, trace 000021).\",\"title\":\"Payment of 34.99 unclear\",\"weight\":\"check\"}}\n"
 unfolding again_part amount_or_dash amount_text apart_part card_part counted_as_paid digits escape_byte likeness paid_again_by reason
 paid_twice = refl

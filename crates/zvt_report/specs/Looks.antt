@@ -1,19 +1,23 @@
 -- The orders that a person should look at.
-use Rattle.std.specs.Prelude.{◌≡◌, ℕ, ◌+◌, ◌==◌, Bool, true, false, not, cond, ◌&&◌, ◌||◌, List, [], ◌∷◌, ◌++◌, Option, Some, None, option_map, slice_get, refl}
+use Rattle.std.specs.Prelude.{◌≡◌, ℕ, ◌+◌, ◌==◌, Bool, true, false, not, cond, ◌&&◌, List, [], ◌∷◌, Option, Some, None, option_map, slice_get, refl}
 use Rattle.std.specs.List.{cons_option, list_any, position}
+use Rattle.std.specs.Option.{option_and_then}
 use Rattle.zvt_till.specs.Doubts.{already_reversed}
 use Rattle.zvt_till.specs.declared.entries.Doubt.TheVariants.{No}
 use Rattle.zvt_till.specs.declared.entries.Entry.{Entry}
 use Rattle.zvt_till.specs.declared.happenings.Sent.{Sent}
 use Rattle.zvt_till.specs.declared.happenings.Sent.TheVariants.{Register, Pay, Reverse, CloseDay, Cancel, Foreign}
-use Rattle.zvt_till.specs.declared.outcomes.Cause.TheVariants.{Line, NoStatus}
+use Rattle.zvt_till.specs.Statuses.{is_value, names}
+use Rattle.zvt_till.specs.declared.messages.Original.TheVariants.{Once}
+use Rattle.zvt_till.specs.declared.outcomes.Cause.{Cause}
+use Rattle.zvt_till.specs.declared.outcomes.Cause.TheVariants.{AbortAfterApproval, Line, NoStatus}
 use Rattle.zvt_till.specs.declared.outcomes.Outcome.{Outcome}
 use Rattle.zvt_till.specs.declared.outcomes.Outcome.TheVariants.{Registered, Paid, Declined, Refused, Aborted, Unclear, Reversed, DayClosed}
 use Rattle.zvt_report.specs.Alike.{is_marked, repeated_at, repeated_payments}
 use Rattle.zvt_report.specs.Differing.{differs_at}
-use Rattle.zvt_report.specs.Kinds.{kind_at, kind_of}
+use Rattle.zvt_report.specs.Kinds.{kind_at}
 use Rattle.zvt_report.specs.declared.cases.Case.{Case}
-use Rattle.zvt_report.specs.declared.cases.Case.TheVariants.{ApprovedNotCompleted, ApprovalRepeated, OtherAmount, PaymentUnclear, PaidAlike, ReversalUnclear, TakenBackBefore, ReversalRefused, ReversalElsewhere, ElsewhereUnclear, OtherUnclear, CloseUnclear, CloseRefused, CloseDiffers}
+use Rattle.zvt_report.specs.declared.cases.Case.TheVariants.{ApprovedNotCompleted, ApprovalRepeated, ApprovedThenUndone, OtherAmount, PaymentUnclear, PaidAlike, ReversalUnclear, TakenBackBefore, ReversalRefused, ReversalElsewhere, ElsewhereUnclear, OtherUnclear, CloseUnclear, CloseRefused, CloseDiffers}
 use Rattle.zvt_report.specs.declared.cases.Look.{Look}
 use Rattle.zvt_report.specs.declared.cases.Weight.{Weight}
 use Rattle.zvt_report.specs.declared.cases.Weight.TheVariants.{Act, Check}
@@ -24,6 +28,8 @@ use Rattle.zvt_report.specs.declared.kinds.OrderKind.TheVariants as kind
 use Rattle.zvt_report.specs.declared.rows.Approval.{Approval}
 use Rattle.zvt_report.specs.declared.rows.OrderMessage.{OrderMessage}
 use Rattle.zvt_report.specs.declared.rows.OrderRow.{OrderRow}
+use Rattle.zvt_report.specs.declared.statements.Statement.{Statement}
+use Rattle.zvt_report.specs.declared.statements.Undoing.{Undoing}
 
 -- ---- rows among each other
 
@@ -88,11 +94,27 @@ confirming Foreign messages place later = None
 
 -- ---- one row
 
--- an unclear payment: by the first approval that the terminal stated for it, or by the later order that repeated it
-abbrev pub payment_case : (amount : ℕ) → (confirmed : Option ℕ) → Option Approval → Case
-payment_case amount None None = PaymentUnclear
-payment_case amount (Some order) None = ApprovalRepeated
-payment_case amount confirmed (Some approval) = cond (approval.amount == amount) ApprovedNotCompleted OtherAmount
+-- another status names the trace number of this approval as its original
+abbrev pub undoes : Undoing → Approval → Bool
+undoes undoing approval = elim approval.trace [ None ↦ false | Some trace ↦ names (Once undoing.original) trace && not (is_value undoing.trace trace) ]
+
+abbrev pub is_undone : Option Approval → Option Undoing → Bool
+is_undone None undoing = false
+is_undone (Some approval) None = false
+is_undone (Some approval) (Some undoing) = undoes undoing approval
+
+-- it was broken off after the terminal had approved it, and the terminal took the approval back
+abbrev pub was_undone : Cause → Option Approval → Option Undoing → Bool
+was_undone AbortAfterApproval approval undoing = is_undone approval undoing
+was_undone _ approval undoing = false
+
+-- an unclear payment: by the first approval that the terminal stated for it, by what took it back, or by the later order that
+-- repeated it
+abbrev pub payment_case : (amount : ℕ) → (confirmed : Option ℕ) → (undone : Bool) → Option Approval → Case
+payment_case amount confirmed true approval = ApprovedThenUndone
+payment_case amount None false None = PaymentUnclear
+payment_case amount (Some order) false None = ApprovalRepeated
+payment_case amount confirmed false (Some approval) = cond (approval.amount == amount) ApprovedNotCompleted OtherAmount
 
 -- a reversal that the terminal refused or aborted with this code
 abbrev pub refused_case : List Entry → (place code : ℕ) → (decided : Bool) → Option Case
@@ -127,15 +149,15 @@ alike_case None = None
 alike_case (Some earlier) = Some PaidAlike
 
 -- a payment
-abbrev pub paid_case : (amount : ℕ) → (repeats confirmed : Option ℕ) → Option Approval → Outcome → Option Case
-paid_case amount repeats confirmed approval Registered = None
-paid_case amount repeats confirmed approval (Paid trace receipt) = alike_case repeats
-paid_case amount repeats confirmed approval (Declined code) = None
-paid_case amount repeats confirmed approval (Refused code) = None
-paid_case amount repeats confirmed approval (Aborted code) = None
-paid_case amount repeats confirmed approval (Unclear cause) = Some (payment_case amount confirmed approval)
-paid_case amount repeats confirmed approval Reversed = None
-paid_case amount repeats confirmed approval DayClosed = None
+abbrev pub paid_case : (amount : ℕ) → (repeats confirmed : Option ℕ) → Option Undoing → Option Approval → Outcome → Option Case
+paid_case amount repeats confirmed undoing approval Registered = None
+paid_case amount repeats confirmed undoing approval (Paid trace receipt) = alike_case repeats
+paid_case amount repeats confirmed undoing approval (Declined code) = None
+paid_case amount repeats confirmed undoing approval (Refused code) = None
+paid_case amount repeats confirmed undoing approval (Aborted code) = None
+paid_case amount repeats confirmed undoing approval (Unclear cause) = Some (payment_case amount confirmed (was_undone cause approval undoing) approval)
+paid_case amount repeats confirmed undoing approval Reversed = None
+paid_case amount repeats confirmed undoing approval DayClosed = None
 
 -- a reversal of a payment that is not in the trace
 abbrev pub elsewhere_case : Outcome → Option Case
@@ -168,14 +190,14 @@ foreign_case kind.Close outcome = None
 foreign_case kind.Plain outcome = None
 
 -- Why to look at an order of this kind, in this book, before these later rows. A payment repeats an earlier one or not, and its
--- approval is repeated in a later order or not.
-abbrev pub case_as : List Entry → (differs : Bool) → (repeats confirmed : Option ℕ) → OrderKind → (later : List OrderRow) → Option Approval → Outcome → Sent → Option Case
-case_as book differs repeats confirmed k later approval outcome (Register c) = None
-case_as book differs repeats confirmed k later approval outcome (Pay a) = paid_case a repeats confirmed approval outcome
-case_as book differs repeats confirmed k later approval outcome (Reverse e) = reversal_case book e (list_any (decides e) later) outcome
-case_as book differs repeats confirmed k later approval outcome CloseDay = close_case differs outcome
-case_as book differs repeats confirmed k later approval outcome Cancel = None
-case_as book differs repeats confirmed k later approval outcome Foreign = foreign_case k outcome
+-- approval is repeated in a later order or taken back, or not.
+abbrev pub case_as : List Entry → (differs : Bool) → (repeats confirmed : Option ℕ) → Option Undoing → OrderKind → (later : List OrderRow) → Option Approval → Outcome → Sent → Option Case
+case_as book differs repeats confirmed undoing k later approval outcome (Register c) = None
+case_as book differs repeats confirmed undoing k later approval outcome (Pay a) = paid_case a repeats confirmed undoing approval outcome
+case_as book differs repeats confirmed undoing k later approval outcome (Reverse e) = reversal_case book e (list_any (decides e) later) outcome
+case_as book differs repeats confirmed undoing k later approval outcome CloseDay = close_case differs outcome
+case_as book differs repeats confirmed undoing k later approval outcome Cancel = None
+case_as book differs repeats confirmed undoing k later approval outcome Foreign = foreign_case k outcome
 
 -- the first later payment of the same amount that is booked or unclear; the first later row has this place
 abbrev pub paid_again : Sent → (place : ℕ) → (later : List OrderRow) → Option ℕ
@@ -190,6 +212,7 @@ paid_again Foreign place later = None
 abbrev pub other_payment : Case → (repeats again : Option ℕ) → Option ℕ
 other_payment ApprovedNotCompleted repeats again = again
 other_payment ApprovalRepeated repeats again = again
+other_payment ApprovedThenUndone repeats again = again
 other_payment OtherAmount repeats again = again
 other_payment PaymentUnclear repeats again = again
 other_payment PaidAlike repeats again = repeats
@@ -208,19 +231,30 @@ abbrev pub confirmed_if : Case → (confirmed : Option ℕ) → Option ℕ
 confirmed_if ApprovalRepeated confirmed = confirmed
 confirmed_if _ confirmed = None
 
--- a look in this case at the order of this place
-abbrev pub look_with : (place : ℕ) → (repeats confirmed again : Option ℕ) → Case → Look
-look_with place repeats confirmed again case = record { case = case; order = place; again = other_payment case repeats again; confirmed_by = confirmed_if case confirmed }
+-- the trace number of what took the approval back, if that is the case
+abbrev pub undone_if : Case → Option Undoing → Option ℕ
+undone_if ApprovedThenUndone undoing = option_and_then (λ (u : Undoing). u.trace) undoing
+undone_if _ undoing = None
 
-abbrev pub look_at : List Entry → List (Option Closing) → List OrderMessage → List (Option ℕ) → (place : ℕ) → OrderRow → (later : List OrderRow) → Option Look
-look_at book closings messages repeated place row later =
+-- a look in this case at the order of this place
+abbrev pub look_with : (place : ℕ) → (repeats confirmed : Option ℕ) → Option Undoing → (again : Option ℕ) → Case → Look
+look_with place repeats confirmed undoing again case =
+    record { case = case; order = place; again = other_payment case repeats again; confirmed_by = confirmed_if case confirmed; undone_by = undone_if case undoing }
+
+-- what the statuses of the order at this place take back
+abbrev pub undoing_at : List Statement → (place : ℕ) → Option Undoing
+undoing_at statements place = option_and_then (λ (statement : Statement). statement.undoing) (slice_get statements place)
+
+abbrev pub look_at : List Entry → List (Option Closing) → List Statement → List OrderMessage → List (Option ℕ) → (place : ℕ) → OrderRow → (later : List OrderRow) → Option Look
+look_at book closings statements messages repeated place row later =
     let confirmed = confirming row.order messages (place + 1) later in
-    option_map (look_with place (repeated_at repeated place) confirmed (paid_again row.order (place + 1) later))
-    (case_as book (differs_at closings place) (repeated_at repeated place) confirmed (kind_at messages place row) later row.approval row.outcome row.order)
+    option_map (look_with place (repeated_at repeated place) confirmed (undoing_at statements place) (paid_again row.order (place + 1) later))
+    (case_as book (differs_at closings place) (repeated_at repeated place) confirmed (undoing_at statements place) (kind_at messages place row) later row.approval row.outcome row.order)
 
 abbrev pub weight_of : Case → Weight
 weight_of ApprovedNotCompleted = Act
 weight_of ApprovalRepeated = Act
+weight_of ApprovedThenUndone = Check
 weight_of OtherAmount = Act
 weight_of PaymentUnclear = Check
 weight_of PaidAlike = Check
@@ -236,123 +270,14 @@ weight_of CloseDiffers = Check
 
 -- ---- all rows
 
-abbrev pub looks_from : List Entry → List (Option Closing) → List OrderMessage → List (Option ℕ) → (place : ℕ) → List OrderRow → List Look
-looks_from book closings messages repeated place [] = []
-looks_from book closings messages repeated place (row ∷ later) =
-    cons_option (look_at book closings messages repeated place row later) (looks_from book closings messages repeated (place + 1) later)
+abbrev pub looks_from : List Entry → List (Option Closing) → List Statement → List OrderMessage → List (Option ℕ) → (place : ℕ) → List OrderRow → List Look
+looks_from book closings statements messages repeated place [] = []
+looks_from book closings statements messages repeated place (row ∷ later) =
+    cons_option (look_at book closings statements messages repeated place row later) (looks_from book closings statements messages repeated (place + 1) later)
 
 -- in the order of the rows
-abbrev pub looks : List Entry → List (Option Closing) → List OrderMessage → List OrderRow → List Look
-looks book closings messages rows = looks_from book closings messages (repeated_payments book rows) 0 rows
-
--- ---- laws
-
-abbrev pub is_unclear_by : Sent → Outcome → Bool
-is_unclear_by (Pay a) (Unclear cause) = true
-is_unclear_by _ _ = false
-
--- the places of the unclear payments among these rows; the first row has this place
-abbrev pub unclear_places : (place : ℕ) → List OrderRow → List ℕ
-unclear_places place [] = []
-unclear_places place (row ∷ later) = cond (is_unclear_by row.order row.outcome) (place ∷ []) [] ++ unclear_places (place + 1) later
-
-abbrev pub is_of_payment : Case → Bool
-is_of_payment ApprovedNotCompleted = true
-is_of_payment ApprovalRepeated = true
-is_of_payment OtherAmount = true
-is_of_payment PaymentUnclear = true
-is_of_payment PaidAlike = false
-is_of_payment ReversalUnclear = false
-is_of_payment TakenBackBefore = false
-is_of_payment ReversalRefused = false
-is_of_payment ReversalElsewhere = false
-is_of_payment ElsewhereUnclear = false
-is_of_payment OtherUnclear = false
-is_of_payment CloseUnclear = false
-is_of_payment CloseRefused = false
-is_of_payment CloseDiffers = false
-
--- the places of these looks that are about an unclear payment
-abbrev pub payments_looked_at : List Look → List ℕ
-payments_looked_at [] = []
-payments_looked_at (look ∷ more) = cond (is_of_payment look.case) (look.order ∷ []) [] ++ payments_looked_at more
-
--- each unclear payment is looked at once, and no other payment is called unclear
-abbrev pub EachPaymentIsLookedAt : Type 0
-EachPaymentIsLookedAt = (book : List Entry) (closings : List (Option Closing)) (messages : List OrderMessage) (rows : List OrderRow) → payments_looked_at (looks book closings messages rows) ≡ unclear_places 0 rows
-
-abbrev pub is_open_by : (place : ℕ) → Sent → Outcome → Bool
-is_open_by place (Reverse e) (Unclear cause) = e == place
-is_open_by place _ _ = false
-
--- an unclear reversal of the entry at this place that no later one decides
-abbrev pub is_left_open : (place : ℕ) → List OrderRow → Bool
-is_left_open place [] = false
-is_left_open place (row ∷ later) = (is_open_by place row.order row.outcome && not (list_any (decides place) later)) || is_left_open place later
-
--- the places of the rows that leave some reversal open; the first row has this place
-abbrev pub open_by : Sent → Outcome → (later : List OrderRow) → Bool
-open_by (Reverse e) (Unclear cause) later = not (list_any (decides e) later)
-open_by _ _ later = false
-
-abbrev pub open_places : (place : ℕ) → List OrderRow → List ℕ
-open_places place [] = []
-open_places place (row ∷ later) = cond (open_by row.order row.outcome later) (place ∷ []) [] ++ open_places (place + 1) later
-
-abbrev pub is_of_reversal : Case → Bool
-is_of_reversal ApprovedNotCompleted = false
-is_of_reversal ApprovalRepeated = false
-is_of_reversal OtherAmount = false
-is_of_reversal PaymentUnclear = false
-is_of_reversal PaidAlike = false
-is_of_reversal ReversalUnclear = true
-is_of_reversal TakenBackBefore = false
-is_of_reversal ReversalRefused = false
-is_of_reversal ReversalElsewhere = false
-is_of_reversal ElsewhereUnclear = false
-is_of_reversal OtherUnclear = false
-is_of_reversal CloseUnclear = false
-is_of_reversal CloseRefused = false
-is_of_reversal CloseDiffers = false
-
--- the places of these looks that are about an unclear reversal
-abbrev pub reversals_looked_at : List Look → List ℕ
-reversals_looked_at [] = []
-reversals_looked_at (look ∷ more) = cond (is_of_reversal look.case) (look.order ∷ []) [] ++ reversals_looked_at more
-
--- each reversal that was left open is looked at once, and no other is called unclear
-abbrev pub EachReversalIsLookedAt : Type 0
-EachReversalIsLookedAt = (book : List Entry) (closings : List (Option Closing)) (messages : List OrderMessage) (rows : List OrderRow) → reversals_looked_at (looks book closings messages rows) ≡ open_places 0 rows
-
-abbrev pub is_unclear : Outcome → Bool
-is_unclear (Unclear cause) = true
-is_unclear _ = false
-
--- an unclear order of a kind that moves money, and that the book does not follow
-abbrev pub is_unclear_other : OrderKind → Outcome → Bool
-is_unclear_other kind.Payment outcome = false
-is_unclear_other kind.Reversal outcome = false
-is_unclear_other kind.OtherMoney outcome = is_unclear outcome
-is_unclear_other kind.Close outcome = false
-is_unclear_other kind.Plain outcome = false
-
--- the places of these orders among these rows; the first row has this place
-abbrev pub unclear_others : List OrderMessage → (place : ℕ) → List OrderRow → List ℕ
-unclear_others messages place [] = []
-unclear_others messages place (row ∷ later) = cond (is_unclear_other (kind_at messages place row) row.outcome) (place ∷ []) [] ++ unclear_others messages (place + 1) later
-
-abbrev pub is_of_other : Case → Bool
-is_of_other OtherUnclear = true
-is_of_other _ = false
-
--- the places of these looks that are about such an order
-abbrev pub others_looked_at : List Look → List ℕ
-others_looked_at [] = []
-others_looked_at (look ∷ more) = cond (is_of_other look.case) (look.order ∷ []) [] ++ others_looked_at more
-
--- each unclear order that moves money beside the book is looked at once, and no other order is called that
-abbrev pub EachOtherIsLookedAt : Type 0
-EachOtherIsLookedAt = (book : List Entry) (closings : List (Option Closing)) (messages : List OrderMessage) (rows : List OrderRow) → others_looked_at (looks book closings messages rows) ≡ unclear_others messages 0 rows
+abbrev pub looks : List Entry → List (Option Closing) → List Statement → List OrderMessage → List OrderRow → List Look
+looks book closings statements messages rows = looks_from book closings statements messages (repeated_payments book rows) 0 rows
 
 -- ---- rows worked by hand
 
@@ -363,33 +288,33 @@ abbrev approved : ℕ → Option Approval
 approved amount = Some (record { line = 2; amount = amount; trace = Some 20; receipt = None })
 
 abbrev looked : Case → ℕ → Option ℕ → Look
-looked case order again = record { case = case; order = order; again = again; confirmed_by = None }
+looked case order again = record { case = case; order = order; again = again; confirmed_by = None; undone_by = None }
 
 -- paid again after a lost line, with a decline between
-twice : looks [] [] [] (a_row (Pay 3499) (Unclear Line) (approved 3499) ∷ a_row (Pay 3499) (Declined 0x65) None ∷ a_row (Pay 3499) (Paid 21 None) (approved 3499) ∷ []) ≡ looked ApprovedNotCompleted 0 (Some 2) ∷ []
+twice : looks [] [] [] [] (a_row (Pay 3499) (Unclear Line) (approved 3499) ∷ a_row (Pay 3499) (Declined 0x65) None ∷ a_row (Pay 3499) (Paid 21 None) (approved 3499) ∷ []) ≡ looked ApprovedNotCompleted 0 (Some 2) ∷ []
 twice = refl
 
-a_tip : looks [] [] [] (a_row (Pay 5000) (Unclear NoStatus) (approved 5500) ∷ a_row (Pay 500) (Unclear Line) None ∷ []) ≡ looked OtherAmount 0 None ∷ looked PaymentUnclear 1 None ∷ []
+a_tip : looks [] [] [] [] (a_row (Pay 5000) (Unclear NoStatus) (approved 5500) ∷ a_row (Pay 500) (Unclear Line) None ∷ []) ≡ looked OtherAmount 0 None ∷ looked PaymentUnclear 1 None ∷ []
 a_tip = refl
 
 abbrev an_entry : Bool → Entry
 an_entry reversed = record { amount = 500; trace = 1; receipt = None; reversed = reversed; doubt = No }
 
 -- a second reversal decided what the first one left open
-decided_later : looks (an_entry true ∷ []) [] [] (a_row (Reverse 0) (Unclear Line) None ∷ a_row (Reverse 0) Reversed None ∷ a_row (Reverse 0) (Aborted 0xB4) None ∷ []) ≡ []
+decided_later : looks (an_entry true ∷ []) [] [] [] (a_row (Reverse 0) (Unclear Line) None ∷ a_row (Reverse 0) Reversed None ∷ a_row (Reverse 0) (Aborted 0xB4) None ∷ []) ≡ []
 decided_later = refl
 
 abbrev by_card : OrderRow
 by_card = record { order = Pay 500; first = 1; last = 2; outcome = Paid 1 None; approval = None; time = None; card = Some (record { card_type = None; name = None; number = Some (0x12 ∷ []) }) }
 
-paid_alike : looks (an_entry false ∷ an_entry false ∷ []) [] [] (by_card ∷ by_card ∷ []) ≡ looked PaidAlike 1 (Some 0) ∷ []
+paid_alike : looks (an_entry false ∷ an_entry false ∷ []) [] [] [] (by_card ∷ by_card ∷ []) ≡ looked PaidAlike 1 (Some 0) ∷ []
 paid_alike = refl
 
-taken_back_before : looks (an_entry false ∷ []) [] [] (a_row (Reverse 0) (Unclear Line) None ∷ a_row (Reverse 0) (Refused 0xB4) None ∷ a_row CloseDay (Aborted 0x6C) None ∷ []) ≡ looked TakenBackBefore 1 None ∷ looked CloseRefused 2 None ∷ []
+taken_back_before : looks (an_entry false ∷ []) [] [] [] (a_row (Reverse 0) (Unclear Line) None ∷ a_row (Reverse 0) (Refused 0xB4) None ∷ a_row CloseDay (Aborted 0x6C) None ∷ []) ≡ looked TakenBackBefore 1 None ∷ looked CloseRefused 2 None ∷ []
 taken_back_before = refl
 
 -- a total of 3.00 after a payment of 5.00
-closed_differently : looks [] (None ∷ Some (record { stated = Some 300; totals = None; booked = 500; taken_back = 0; covered = Some 300; explained = Nothing }) ∷ []) [] (a_row (Pay 500) (Paid 17 None) None ∷ a_row CloseDay DayClosed None ∷ [])
+closed_differently : looks [] (None ∷ Some (record { stated = Some 300; totals = None; booked = 500; taken_back = 0; covered = Some 300; explained = Nothing }) ∷ []) [] [] (a_row (Pay 500) (Paid 17 None) None ∷ a_row CloseDay DayClosed None ∷ [])
     ≡ looked CloseDiffers 1 None ∷ []
 closed_differently = refl
 
@@ -398,17 +323,26 @@ with_control low = record { high = 0x06; low = low; amount = Some 500; receipt =
 
 -- a refund, a pre-authorisation that was completed, and two reversals of payments of another trace
 beside_the_book :
-    looks [] [] (with_control 0x31 ∷ with_control 0x22 ∷ with_control 0x30 ∷ with_control 0x30 ∷ with_control 0x30 ∷ [])
+    looks [] [] [] (with_control 0x31 ∷ with_control 0x22 ∷ with_control 0x30 ∷ with_control 0x30 ∷ with_control 0x30 ∷ [])
     (a_row Foreign (Unclear Line) None ∷ a_row Foreign DayClosed None ∷ a_row Foreign DayClosed None ∷ a_row Foreign (Unclear Line) None ∷ a_row Foreign (Aborted 0x6C) None ∷ [])
     ≡ looked OtherUnclear 0 None ∷ looked ReversalElsewhere 2 None ∷ looked ElsewhereUnclear 3 None ∷ []
 beside_the_book = refl
 
 -- the receipt is printed again, after the till had asked for the terminal's state
-confirmed_later : looks [] [] (with_control 0x01 ∷ with_control 0x70 ∷ with_control 0x20 ∷ []) (a_row (Pay 500) (Unclear Line) None ∷ a_row Foreign DayClosed None ∷ a_row Foreign DayClosed (approved 500) ∷ [])
+confirmed_later : looks [] [] [] (with_control 0x01 ∷ with_control 0x70 ∷ with_control 0x20 ∷ []) (a_row (Pay 500) (Unclear Line) None ∷ a_row Foreign DayClosed None ∷ a_row Foreign DayClosed (approved 500) ∷ [])
     ≡ record (looked ApprovalRepeated 0 None) { confirmed_by = Some 2 } ∷ []
 confirmed_later = refl
 
 -- with another amount, and after the next order that moves money
-not_confirmed : looks [] [] (with_control 0x01 ∷ with_control 0x20 ∷ with_control 0x31 ∷ with_control 0x20 ∷ [])
+not_confirmed : looks [] [] [] (with_control 0x01 ∷ with_control 0x20 ∷ with_control 0x31 ∷ with_control 0x20 ∷ [])
     (a_row (Pay 500) (Unclear Line) None ∷ a_row Foreign DayClosed (approved 700) ∷ a_row Foreign DayClosed None ∷ a_row Foreign DayClosed (approved 500) ∷ []) ≡ looked PaymentUnclear 0 None ∷ []
 not_confirmed = refl
+
+abbrev undoing : (trace : Option ℕ) → Statement
+undoing trace = record { declines = true; total = None; totals = None; card = None; undoing = Some (record { original = 0 ∷ 0 ∷ 0x20 ∷ []; trace = trace }) }
+
+-- what was approved under trace number 20 was taken back, then not by another status, and then the line was lost
+undone : looks [] [] (undoing (Some 21) ∷ undoing (Some 20) ∷ undoing (Some 21) ∷ []) []
+    (a_row (Pay 500) (Unclear AbortAfterApproval) (approved 500) ∷ a_row (Pay 500) (Unclear AbortAfterApproval) (approved 500) ∷ a_row (Pay 500) (Unclear Line) (approved 500) ∷ [])
+    ≡ record (looked ApprovedThenUndone 0 (Some 1)) { undone_by = Some 21 } ∷ looked ApprovedNotCompleted 1 (Some 2) ∷ looked ApprovedNotCompleted 2 None ∷ []
+undone = refl

@@ -26,7 +26,7 @@ pub use Rattle.zvt_report.specs.Kinds.{message_at}
 use Rattle.zvt_report.specs.Laws.{booked_total}
 use Rattle.zvt_report.specs.Members.{object_text}
 use Rattle.zvt_report.specs.OrderNames.{order_name}
-use Rattle.zvt_report.specs.Places.{counted, no_counts, payment_of, payments_in, place_after, reversed_by}
+use Rattle.zvt_report.specs.Places.{counted, no_counts, payment_of, place_after, reversed_by}
 use Rattle.zvt_report.specs.Sums.{reversed_count, unclear_reversals, unclear_total}
 use Rattle.zvt_report.specs.TimeMembers.{back_member, bad_member, from_member, maybe_time, to_member}
 use Rattle.zvt_report.specs.Times.{no_times}

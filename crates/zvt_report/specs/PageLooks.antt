@@ -1,5 +1,5 @@
 -- The orders that a person should look at, on a page.
-use Rattle.std.specs.Prelude.{◌≡◌, ℕ, Bool, true, false, cond, List, [], ◌∷◌, ◌++◌, codes, Option, Some, None, slice_get, refl}
+use Rattle.std.specs.Prelude.{◌≡◌, ℕ, Bool, true, false, cond, List, [], ◌∷◌, ◌++◌, codes, Option, Some, None, refl}
 use Rattle.std.specs.Fmt.{digits}
 use Rattle.zvt_page.specs.Html.{Html, nothing, both, class_of, element, text, leaf, all, attribute_text, end_tag, escaped, render, start_tag}
 use Rattle.zvt_page.specs.declared.elements.Attribute.TheVariants.{Class, Id}

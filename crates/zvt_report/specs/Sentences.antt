@@ -8,16 +8,16 @@ use Rattle.zvt_till.specs.declared.entries.Entry.{Entry}
 use Rattle.zvt_till.specs.declared.happenings.Sent.TheVariants.{Foreign, Pay}
 use Rattle.zvt_till.specs.declared.outcomes.Outcome.{Outcome}
 use Rattle.zvt_till.specs.declared.outcomes.Outcome.TheVariants.{DayClosed, Paid, Unclear}
-use Rattle.zvt_till.specs.declared.outcomes.Cause.TheVariants.{Line}
+use Rattle.zvt_till.specs.declared.outcomes.Cause.TheVariants.{AbortAfterApproval, Line}
 use Rattle.zvt_report.specs.Amounts.{amount_text}
 use Rattle.zvt_report.specs.Apart.{apart_part, card_part, seconds_text}
 use Rattle.zvt_report.specs.CardTexts.{card_or_dash}
 use Rattle.zvt_report.specs.Differences.{distance_part, shares_part, totals_part}
 use Rattle.zvt_report.specs.Objects.{approved_of}
 use Rattle.zvt_report.specs.OtherTable.{money_name}
-use Rattle.zvt_report.specs.Phrases.{amount_of, amount_or_dash, twice_part, approval_part, entry_part, reason, again_part, likeness, paid_again_by, counted_part, maybe_payment_at, payment_at, payment_name, confirmed_by, confirmed_part, counted_as_paid, of_amount}
+use Rattle.zvt_report.specs.Phrases.{amount_of, amount_or_dash, twice_part, approval_part, entry_part, reason, again_part, likeness, paid_again_by, counted_part, maybe_payment_at, payment_at, payment_name, confirmed_by, confirmed_part, counted_as_paid, of_amount, trace_part}
 use Rattle.zvt_report.specs.declared.cases.Case.{Case}
-use Rattle.zvt_report.specs.declared.cases.Case.TheVariants.{ApprovedNotCompleted, ApprovalRepeated, OtherAmount, PaymentUnclear, PaidAlike, ReversalUnclear, TakenBackBefore, ReversalRefused, ReversalElsewhere, ElsewhereUnclear, OtherUnclear, CloseUnclear, CloseRefused, CloseDiffers}
+use Rattle.zvt_report.specs.declared.cases.Case.TheVariants.{ApprovedNotCompleted, ApprovalRepeated, ApprovedThenUndone, OtherAmount, PaymentUnclear, PaidAlike, ReversalUnclear, TakenBackBefore, ReversalRefused, ReversalElsewhere, ElsewhereUnclear, OtherUnclear, CloseUnclear, CloseRefused, CloseDiffers}
 use Rattle.zvt_report.specs.declared.closings.Closing.{Closing}
 use Rattle.zvt_report.specs.declared.currencies.Decimals.{Decimals}
 use Rattle.zvt_report.specs.declared.currencies.Decimals.TheVariants.{Two}
@@ -41,6 +41,9 @@ other_title decimals message row = codes "Order" ++ of_amount decimals (option_o
 abbrev pub charged_title : Decimals → (asked : Option ℕ) → (again : Option OrderRow) → List ℕ
 charged_title decimals asked again = amount_or_dash decimals asked ++ codes " may have been charged" ++ twice_part again
 
+abbrev pub undone_title : Decimals → (asked : Option ℕ) → List ℕ
+undone_title decimals asked = amount_or_dash decimals asked ++ codes " approved, then taken back"
+
 abbrev pub other_amount_title : Decimals → (asked : Option ℕ) → OrderRow → List ℕ
 other_amount_title decimals asked row = amount_or_dash decimals asked ++ codes " asked for, " ++ amount_or_dash decimals (approved_of row) ++ codes " approved"
 
@@ -50,6 +53,7 @@ differs_title decimals closing = codes "End of day differs" ++ distance_part dec
 abbrev pub title : Decimals → Facts → Case → List ℕ
 title decimals facts ApprovedNotCompleted = charged_title decimals (asked_of facts) facts.again
 title decimals facts ApprovalRepeated = charged_title decimals (asked_of facts) facts.again
+title decimals facts ApprovedThenUndone = undone_title decimals (asked_of facts)
 title decimals facts OtherAmount = other_amount_title decimals (asked_of facts) facts.row
 title decimals facts PaymentUnclear = codes "Payment of " ++ amount_or_dash decimals (asked_of facts) ++ codes " unclear"
 title decimals facts PaidAlike = amount_or_dash decimals (asked_of facts) ++ codes " paid twice with one card"
@@ -66,28 +70,35 @@ title decimals facts CloseDiffers = differs_title decimals facts.closing
 -- ---- what happened
 
 -- what happened to a payment later: it was paid again, and an end of day counts it
-abbrev pub later_part : Decimals → Facts → List ℕ
-later_part decimals facts = again_part decimals (asked_of facts) facts.row facts.again ++ counted_as_paid facts.counted
+abbrev pub later_part : Decimals → (asked : Option ℕ) → Facts → List ℕ
+later_part decimals asked facts = again_part decimals asked facts.row facts.again ++ counted_as_paid facts.counted
 
-abbrev pub approved_account : Decimals → Facts → List ℕ
-approved_account decimals facts =
-    codes "The terminal approved " ++ amount_or_dash decimals (asked_of facts) ++ approval_part facts.row.approval ++ codes ", but the payment is unclear: "
-    ++ reason facts.row.outcome ++ codes "." ++ later_part decimals facts
+abbrev pub approved_account : Decimals → (asked : Option ℕ) → Facts → List ℕ
+approved_account decimals asked facts =
+    codes "The terminal approved " ++ amount_or_dash decimals asked ++ approval_part facts.row.approval ++ codes ", but the payment is unclear: "
+    ++ reason facts.row.outcome ++ codes "." ++ later_part decimals asked facts
 
-abbrev pub repeated_account : Decimals → Facts → List ℕ
-repeated_account decimals facts =
-    codes "The payment of " ++ amount_or_dash decimals (asked_of facts) ++ codes " is unclear: " ++ reason facts.row.outcome
-    ++ confirmed_part decimals (asked_of facts) facts.asked_again facts.confirmed ++ codes "." ++ later_part decimals facts
+abbrev pub repeated_account : Decimals → (asked : Option ℕ) → Facts → List ℕ
+repeated_account decimals asked facts =
+    codes "The payment of " ++ amount_or_dash decimals asked ++ codes " is unclear: " ++ reason facts.row.outcome
+    ++ confirmed_part decimals asked facts.asked_again facts.confirmed ++ codes "." ++ later_part decimals asked facts
+
+abbrev pub undone_part : Decimals → Facts → List ℕ
+undone_part decimals facts = amount_or_dash decimals (approved_of facts.row) ++ approval_part facts.row.approval ++ codes ", and then took it back" ++ trace_part facts.undone_by
+
+abbrev pub undone_account : Decimals → (asked : Option ℕ) → Facts → List ℕ
+undone_account decimals asked facts =
+    codes "The terminal approved " ++ undone_part decimals facts ++ codes ". The payment is unclear: " ++ reason facts.row.outcome ++ codes "." ++ later_part decimals asked facts
 
 abbrev pub other_amount_account : Decimals → (asked : Option ℕ) → OrderRow → (again : Option OrderRow) → List ℕ
 other_amount_account decimals asked row again =
     codes "The till asked for " ++ amount_or_dash decimals asked ++ codes ", but the terminal approved " ++ amount_or_dash decimals (approved_of row)
     ++ approval_part row.approval ++ codes ", perhaps with a tip. The payment is unclear: " ++ reason row.outcome ++ codes "." ++ again_part decimals asked row again
 
-abbrev pub unclear_account : Decimals → Facts → List ℕ
-unclear_account decimals facts =
-    codes "The payment of " ++ amount_or_dash decimals (asked_of facts) ++ codes " is unclear: " ++ reason facts.row.outcome
-    ++ codes ". The till heard no approval, but the terminal may have given one." ++ later_part decimals facts
+abbrev pub unclear_account : Decimals → (asked : Option ℕ) → Facts → List ℕ
+unclear_account decimals asked facts =
+    codes "The payment of " ++ amount_or_dash decimals asked ++ codes " is unclear: " ++ reason facts.row.outcome
+    ++ codes ". The till heard no approval, but the terminal may have given one." ++ later_part decimals asked facts
 
 -- how far a payment is apart from an earlier one
 unfoldable pub apart_from : (earlier : Option OrderRow) → OrderRow → List ℕ
@@ -132,10 +143,11 @@ differs_account decimals facts = totals_part decimals facts.closing ++ shares_pa
 
 -- what happened to an order in this case
 abbrev pub account : Decimals → Facts → Case → List ℕ
-account decimals facts ApprovedNotCompleted = approved_account decimals facts
-account decimals facts ApprovalRepeated = repeated_account decimals facts
+account decimals facts ApprovedNotCompleted = approved_account decimals (asked_of facts) facts
+account decimals facts ApprovalRepeated = repeated_account decimals (asked_of facts) facts
+account decimals facts ApprovedThenUndone = undone_account decimals (asked_of facts) facts
 account decimals facts OtherAmount = other_amount_account decimals (asked_of facts) facts.row facts.again
-account decimals facts PaymentUnclear = unclear_account decimals facts
+account decimals facts PaymentUnclear = unclear_account decimals (asked_of facts) facts
 account decimals facts PaidAlike = alike_account decimals (asked_of facts) facts.row facts.again
 account decimals facts ReversalUnclear = reversal_account decimals (asked_of facts) facts.entry facts.row.outcome
 account decimals facts TakenBackBefore = taken_back_account decimals (asked_of facts) facts.entry
@@ -170,6 +182,7 @@ about row again =
       again = again;
       confirmed = None;
       asked_again = false;
+      undone_by = None;
       counted = None;
       closing = None;
       shares = Nothing;
@@ -236,3 +249,8 @@ an_unclear_refund = refl
 of_another_trace : account Two a_refund ElsewhereUnclear ≡ codes "The reversal of receipt 0009 is unclear: the connection was lost. The payment is not booked in this trace, so the net total does not change."
 unfolding encode_with reason
 of_another_trace = refl
+
+undone : account Two (record (about (record a_payment { outcome = Unclear AbortAfterApproval }) None) { undone_by = Some 21 }) ApprovedThenUndone
+    ≡ codes "The terminal approved 34.99 (line 144, trace 000020, receipt 0008), and then took it back, trace 000021. The payment is unclear: it was broken off after the terminal had approved it or contradicted itself."
+unfolding again_part counted_as_paid amount_or_dash amount_text approval_part digits encode_with reason
+undone = refl

@@ -1,5 +1,5 @@
 -- When an end of day counts as closed.
-use Rattle.std.specs.Prelude.{◌≡◌, ℕ, ◌+◌, Bool, true, false, cond, List, [], ◌∷◌, Option, Some, None, slice_get, refl}
+use Rattle.std.specs.Prelude.{◌≡◌, ℕ, ◌+◌, Bool, true, false, List, [], ◌∷◌, Option, Some, None, slice_get, refl}
 use Rattle.zvt_till.specs.declared.happenings.Sent.{Sent}
 use Rattle.zvt_till.specs.declared.happenings.Sent.TheVariants.{Pay, CloseDay}
 use Rattle.zvt_till.specs.declared.outcomes.Cause.{Cause}
@@ -56,7 +56,7 @@ abbrev a_row : Sent → Cause → OrderRow
 a_row order cause = record { order = order; first = 1; last = 2; outcome = Unclear cause; approval = None; time = None; card = None }
 
 abbrev a_statement : Bool → Statement
-a_statement declines = record { declines = declines; total = Some 500; totals = None; card = None }
+a_statement declines = record { declines = declines; total = Some 500; totals = None; card = None; undoing = None }
 
 -- without a result code, and without a connection
 one_closed : settled_from (a_statement false ∷ a_statement false ∷ a_statement true ∷ a_statement false ∷ []) 0

@@ -1,11 +1,11 @@
 -- What the terminal's status informations say about an order.
-use Rattle.std.specs.Prelude.{◌≡◌, ℕ, ◌==◌, Bool, true, false, not, cond, ◌||◌, List, [], ◌∷◌, ◌++◌, Option, Some, None, is_some, fold, map, refl}
+use Rattle.std.specs.Prelude.{◌≡◌, ℕ, ◌==◌, Bool, true, false, not, cond, ◌||◌, List, [], ◌∷◌, ◌++◌, Option, Some, None, is_some, fold, map, option_map, refl}
 use Rattle.std.specs.List.{cons_option, list_any}
 use Rattle.std.specs.Option.{option_or}
 use Rattle.zvt_field.specs.Grammar.{Field, plain}
-use Rattle.zvt_field.specs.Named.{content_of, result_of}
+use Rattle.zvt_field.specs.Named.{content_of, original_of, result_of, trace_of}
 use Rattle.zvt_apdu.specs.Kinds.{kind_of}
-use Rattle.zvt_apdu.specs.Message.{Message, authorisation, end_of_day, status, completion}
+use Rattle.zvt_apdu.specs.Message.{Message, end_of_day, status, completion}
 use Rattle.zvt_apdu.specs.Views.{fields_in}
 use Rattle.zvt_apdu.specs.declared.kinds.Kind.{Kind}
 use Rattle.zvt_apdu.specs.declared.kinds.Kind.TheVariants as kind
@@ -25,6 +25,7 @@ use Rattle.zvt_report.specs.declared.cards.Card.{Card}
 use Rattle.zvt_report.specs.declared.statements.Attention.{Attention}
 use Rattle.zvt_report.specs.declared.statements.Hearing.{Hearing}
 use Rattle.zvt_report.specs.declared.statements.Statement.{Statement}
+use Rattle.zvt_report.specs.declared.statements.Undoing.{Undoing}
 
 -- ---- the statuses of each order
 
@@ -118,9 +119,19 @@ abbrev pub first_card : List (List Field) → Option Card
 first_card [] = None
 first_card (fields ∷ more) = option_or (card_by fields) (first_card more)
 
+-- the original trace number, if it is there once, and the trace number of the same status
+abbrev pub undoing_by : List Field → Option Undoing
+undoing_by fields = option_map (λ (digits : List ℕ). record { original = digits; trace = trace_of fields }) (original_of fields)
+
+-- the first one
+abbrev pub first_undoing : List (List Field) → Option Undoing
+first_undoing [] = None
+first_undoing (fields ∷ more) = option_or (undoing_by fields) (first_undoing more)
+
 -- what these statuses say about their order
 abbrev pub stated_by : List (List Field) → Statement
-stated_by heard = record { declines = list_any declines_by heard; total = latest None total_by heard; totals = latest None totals_of heard; card = first_card heard }
+stated_by heard =
+    record { declines = list_any declines_by heard; total = latest None total_by heard; totals = latest None totals_of heard; card = first_card heard; undoing = first_undoing heard }
 
 -- the statement about each order
 abbrev pub statements_of : List At → List Statement
@@ -129,10 +140,17 @@ statements_of events = map stated_by (answered events)
 -- ---- event by event
 
 abbrev pub no_statement : Statement
-no_statement = record { declines = false; total = None; totals = None; card = None }
+no_statement = record { declines = false; total = None; totals = None; card = None; undoing = None }
 
 abbrev pub after_status : Statement → List Field → Statement
-after_status before fields = record { declines = before.declines || declines_by fields; total = total_by fields; totals = totals_of fields; card = option_or before.card (card_by fields) }
+after_status before fields =
+    record {
+      declines = before.declines || declines_by fields;
+      total = total_by fields;
+      totals = totals_of fields;
+      card = option_or before.card (card_by fields);
+      undoing = option_or before.undoing (undoing_by fields);
+    }
 
 abbrev pub stated_with : Statement → Option (List Field) → Statement
 stated_with before None = before
@@ -181,11 +199,11 @@ from_terminal line m = on line (trace_event.message FromTerminal m)
 -- the last status counts; what comes after the completion does not
 a_close : statements_of (on 1 (trace_event.message FromTill (end_of_day (0 ∷ 0 ∷ 0 ∷ []) [])) ∷ from_terminal 2 (a_total 0x01) ∷ from_terminal 3 (a_total 0x02)
     ∷ from_terminal 4 (completion []) ∷ from_terminal 5 (a_total 0x03) ∷ [])
-    ≡ record { declines = false; total = Some 502; totals = None; card = None } ∷ []
+    ≡ record { declines = false; total = Some 502; totals = None; card = None; undoing = None } ∷ []
 a_close = refl
 
 a_decline : statements_of (on 1 (trace_event.message FromTill (end_of_day (0 ∷ 0 ∷ 0 ∷ []) [])) ∷ from_terminal 2 (status (plain 0x27 (0x6C ∷ []) ∷ [])) ∷ from_terminal 3 (a_total 0x02) ∷ [])
-    ≡ record { declines = true; total = Some 502; totals = None; card = None } ∷ []
+    ≡ record { declines = true; total = Some 502; totals = None; card = None; undoing = None } ∷ []
 a_decline = refl
 
 -- of two cards the first one counts, and none of a status that declines
@@ -196,3 +214,12 @@ its_card : map (λ (s : Statement). s.card) (statements_of (on 1 (trace_event.me
     ∷ from_terminal 4 (a_named_card 0x00 67) ∷ []))
     ≡ card_in None (Some (66 ∷ [])) None ∷ []
 its_card = refl
+
+-- the second status takes back the first
+abbrev an_approval : Message
+an_approval = status (plain 0x27 (0 ∷ []) ∷ plain 0x0B (0 ∷ 0 ∷ 0x17 ∷ []) ∷ [])
+
+an_undoing : map (λ (s : Statement). s.undoing) (statements_of (on 1 (trace_event.message FromTill (end_of_day (0 ∷ 0 ∷ 0 ∷ []) [])) ∷ from_terminal 2 an_approval
+    ∷ from_terminal 3 (status (plain 0x37 (0 ∷ 0 ∷ 0x17 ∷ []) ∷ plain 0x0B (0 ∷ 0 ∷ 0x18 ∷ []) ∷ [])) ∷ []))
+    ≡ Some (record { original = 0 ∷ 0 ∷ 0x17 ∷ []; trace = Some 18 }) ∷ []
+an_undoing = refl

@@ -5,7 +5,7 @@ use Rattle.zvt_till.specs.declared.happenings.Sent.TheVariants.{Register, Pay, R
 use Rattle.zvt_till.specs.declared.outcomes.Outcome.{Outcome}
 use Rattle.zvt_till.specs.declared.outcomes.Outcome.TheVariants as outcome
 use Rattle.zvt_report.specs.declared.cases.Case.{Case}
-use Rattle.zvt_report.specs.declared.cases.Case.TheVariants.{ApprovedNotCompleted, ApprovalRepeated, OtherAmount, PaymentUnclear, PaidAlike, ReversalUnclear, TakenBackBefore, ReversalRefused, ReversalElsewhere, ElsewhereUnclear, OtherUnclear, CloseUnclear, CloseRefused, CloseDiffers}
+use Rattle.zvt_report.specs.declared.cases.Case.TheVariants.{ApprovedNotCompleted, ApprovalRepeated, ApprovedThenUndone, OtherAmount, PaymentUnclear, PaidAlike, ReversalUnclear, TakenBackBefore, ReversalRefused, ReversalElsewhere, ElsewhereUnclear, OtherUnclear, CloseUnclear, CloseRefused, CloseDiffers}
 use Rattle.zvt_report.specs.declared.cases.Weight.{Weight}
 use Rattle.zvt_report.specs.declared.cases.Weight.TheVariants.{Act, Check}
 use Rattle.zvt_report.specs.declared.endings.Ending.{Ending}
@@ -14,6 +14,7 @@ use Rattle.zvt_report.specs.declared.endings.Ending.TheVariants.{Completed, Paid
 abbrev pub case_name : Case → List ℕ
 case_name ApprovedNotCompleted = codes "ApprovedNotCompleted"
 case_name ApprovalRepeated = codes "ApprovalRepeated"
+case_name ApprovedThenUndone = codes "ApprovedThenUndone"
 case_name OtherAmount = codes "OtherAmount"
 case_name PaymentUnclear = codes "PaymentUnclear"
 case_name PaidAlike = codes "PaidAlike"

@@ -37,7 +37,7 @@ report_in Page name report found dialogue = report_page name report.tally report
 
 -- the looks that its orders need
 abbrev pub looks_of : Report → List Look
-looks_of report = looks report.books.book report.closings.items report.messages.items report.books.orders
+looks_of report = looks report.books.book report.closings.items report.statements.items report.messages.items report.books.orders
 
 abbrev pub written : ReportForm → (name : List ℕ) → Report → (dialogue : List ℕ) → List ℕ
 written form name report dialogue = report_in form name report (looks_of report) dialogue

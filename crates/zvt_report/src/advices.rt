@@ -121,6 +121,10 @@ fn fixed_advice(case: Case) -> &'static [u8]
 {
     match case {
         Case::ReversalUnclear | Case::ElsewhereUnclear => reversal_advice(),
+        Case::ApprovedThenUndone => {
+            b"The customer has probably not been charged. Look for both trace numbers in the terminal's journal to be \
+                sure."
+        }
         Case::TakenBackBefore => b"Subtract the payment from the net total by hand.",
         Case::ReversalRefused => {
             b"If the customer was promised the money, it has not been given back."

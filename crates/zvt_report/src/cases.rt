@@ -1,17 +1,19 @@
 //! The orders that a person should look at, and why.
 ghost use Rattle.std.specs.Prelude.{◌≡◌, ◌+◌, ◌<◌, ◌^◌, IfOk, length};
-ghost use Rattle.zvt_report.specs.Looks.{alike_case, case_as, close_case, confirmed_if, elsewhere_case, foreign_case};
-ghost use Rattle.zvt_report.specs.Looks.{look_at, look_with, looks, money_case, other_payment, paid_case};
-ghost use Rattle.zvt_report.specs.Looks.{payment_case, refused_case, reversal_case};
+ghost use Rattle.zvt_report.specs.Looks.{case_as, close_case, confirmed_if, elsewhere_case, foreign_case, look_at};
+ghost use Rattle.zvt_report.specs.Looks.{look_with, looks, money_case, other_payment, refused_case, reversal_case};
+ghost use Rattle.zvt_report.specs.Looks.{undoing_at, undone_if};
 
 use crate::alike::{is_marked, repeated_at, repeated_payments};
 use crate::closings::Closing;
 use crate::differing::differs_at;
 use crate::kinds::{OrderKind, kind_at};
 use crate::later_orders::{ALREADY_REVERSED, confirming, is_decided, paid_again};
-use crate::rows::{Approval, OrderMessage, OrderRow};
+use crate::payment_cases::paid_case;
+use crate::rows::{OrderMessage, OrderRow};
+use crate::statements::{Statement, Undoing};
 use std::alloc::{AllocError, Global};
-use zvt_bcd::Amount;
+use zvt_bcd::Trace;
 use zvt_till::{Entry, Outcome, Sent};
 
 /// How urgent it is to look at an order.
@@ -45,6 +47,8 @@ pub enum Case {
     ApprovedNotCompleted,
     /// It is unknown whether the payment took place, and the terminal repeated its approval in a later order.
     ApprovalRepeated,
+    /// The terminal approved the payment, took the approval back, and aborted the order.
+    ApprovedThenUndone,
     /// The terminal approved another amount than the till asked for, perhaps with a tip.
     OtherAmount,
     /// It is unknown whether the payment took place, and no approval of it was heard.
@@ -83,6 +87,7 @@ impl Case {
         match self {
             Case::ApprovedNotCompleted => "ApprovedNotCompleted",
             Case::ApprovalRepeated => "ApprovalRepeated",
+            Case::ApprovedThenUndone => "ApprovedThenUndone",
             Case::OtherAmount => "OtherAmount",
             Case::PaymentUnclear => "PaymentUnclear",
             Case::PaidAlike => "PaidAlike",
@@ -109,7 +114,8 @@ impl Case {
             | Case::TakenBackBefore
             | Case::ElsewhereUnclear
             | Case::OtherUnclear => Weight::Act,
-            Case::PaymentUnclear
+            Case::ApprovedThenUndone
+            | Case::PaymentUnclear
             | Case::PaidAlike
             | Case::ReversalRefused
             | Case::ReversalElsewhere
@@ -131,18 +137,8 @@ pub struct Look {
     pub again: Option<usize>,
     /// The index of the later order in which the terminal repeated the approval.
     pub confirmed_by: Option<usize>,
-}
-
-/// Returns why to look at an unclear payment, whose approval was repeated in a later order or not.
-fn payment_case(amount: Amount, confirmed: Option<usize>, approval: &Option<Approval>) -> Case
-    ensures { result ≡ payment_case amount confirmed approval.now }
-{
-    match (approval, confirmed) {
-        (None, None) => Case::PaymentUnclear,
-        (None, Some(_)) => Case::ApprovalRepeated,
-        (Some(approval), _) if approval.amount == amount => Case::ApprovedNotCompleted,
-        (Some(_), _) => Case::OtherAmount,
-    }
+    /// The trace number of the status information that took the approval back.
+    pub undone_by: Option<Trace>,
 }
 
 /// Returns why to look at a reversal that the terminal refused or aborted with this code.
@@ -186,34 +182,6 @@ fn close_case(differs: bool, outcome: &Outcome) -> Option<Case>
     }
 }
 
-/// Returns why to look at a booked payment, which repeats an earlier one or not.
-fn alike_case(repeats: Option<usize>) -> Option<Case>
-    ensures { result ≡ alike_case repeats }
-{
-    match repeats {
-        Some(_) => Some(Case::PaidAlike),
-        None => None,
-    }
-}
-
-/// Returns why to look at a payment. It repeats an earlier one or not, and its approval was repeated in a later order
-/// or not.
-fn paid_case(
-    amount: Amount,
-    repeats: Option<usize>,
-    confirmed: Option<usize>,
-    approval: &Option<Approval>,
-    outcome: &Outcome,
-) -> Option<Case>
-    ensures { result ≡ paid_case amount repeats confirmed approval.now outcome.now }
-{
-    match outcome {
-        Outcome::Unclear(_) => Some(payment_case(amount, confirmed, approval)),
-        Outcome::Paid { .. } => alike_case(repeats),
-        _ => None,
-    }
-}
-
 /// Returns why to look at a reversal of a payment that is not in the trace.
 fn elsewhere_case(outcome: &Outcome) -> Option<Case>
     ensures { result ≡ elsewhere_case outcome.now }
@@ -247,22 +215,30 @@ fn foreign_case(kind: OrderKind, outcome: &Outcome) -> Option<Case>
 }
 
 /// Returns why to look at an order of this kind, given the book and the later orders. `differs` says whether the total
-/// of an end of day differs from the book, `repeats` which payment a payment repeats, and `confirmed` which later order
-/// repeated its approval.
+/// of an end of day differs from the book, `repeats` which payment a payment repeats, `confirmed` which later order
+/// repeated its approval, and `undoing` what its statuses take back.
 fn case_of(
     book: &[Entry],
     differs: bool,
     repeats: Option<usize>,
     confirmed: Option<usize>,
+    undoing: &Option<Undoing>,
     kind: OrderKind,
     row: &OrderRow,
     later: &[OrderRow],
 ) -> Option<Case>
-    ensures { result ≡ case_as book.now differs repeats confirmed kind later.now row.now.approval row.now.outcome
-        row.now.order }
+    ensures { result ≡ case_as book.now differs repeats confirmed undoing.now kind later.now row.now.approval
+        row.now.outcome row.now.order }
 {
     match &row.order {
-        Sent::Pay(amount) => { paid_case(*amount, repeats, confirmed, &row.approval, &row.outcome) }
+        Sent::Pay(amount) => paid_case(
+            *amount,
+            repeats,
+            confirmed,
+            undoing,
+            &row.approval,
+            &row.outcome,
+        ),
         Sent::Reverse(place) => {
             let decided = is_decided(*place, later);
             reversal_case(book, *place, decided, &row.outcome)
@@ -293,21 +269,40 @@ fn confirmed_if(case: Case, confirmed: Option<usize>) -> Option<usize>
     }
 }
 
+/// Returns the trace number of what took the approval back, if that is the case.
+fn undone_if(case: Case, undoing: &Option<Undoing>) -> Option<Trace>
+    ensures { result ≡ undone_if case undoing.now }
+{
+    match (case, undoing) {
+        (Case::ApprovedThenUndone, Some(undoing)) => undoing.trace,
+        _ => None,
+    }
+}
+
+/// Returns what the statuses of the order at this place take back.
+fn undoing_at(statements: &[Statement], place: usize) -> Option<Undoing>
+    ensures { result ≡ undoing_at statements.now place }
+{
+    statements.get(place)?.undoing
+}
+
 /// Returns a look in this case at the order of this place.
 fn look_with(
     place: usize,
     repeats: Option<usize>,
     confirmed: Option<usize>,
+    undoing: &Option<Undoing>,
     again: Option<usize>,
     case: Case,
 ) -> Look
-    ensures { result ≡ look_with place repeats confirmed again case }
+    ensures { result ≡ look_with place repeats confirmed undoing.now again case }
 {
     Look {
         case,
         order: place,
         again: other_payment(case, repeats, again),
         confirmed_by: confirmed_if(case, confirmed),
+        undone_by: undone_if(case, undoing),
     }
 }
 
@@ -315,6 +310,7 @@ fn look_with(
 fn look_at(
     book: &[Entry],
     closings: &[Option<Closing>],
+    statements: &[Statement],
     messages: &[OrderMessage],
     repeated: &[Option<usize>],
     place: usize,
@@ -322,27 +318,31 @@ fn look_at(
     later: &[OrderRow],
 ) -> Option<Look>
     requires { place + length later.now + 1 < 2 ^ 64 }
-    ensures { result ≡ look_at book.now closings.now messages.now repeated.now place row.now later.now }
+    ensures { result ≡ look_at book.now closings.now statements.now messages.now repeated.now place row.now
+        later.now }
 {
     let differs = differs_at(closings, place);
     let repeats = repeated_at(repeated, place);
     let confirmed = confirming(&row.order, messages, place + 1, later);
+    let undoing = &undoing_at(statements, place);
     let kind = kind_at(messages, place, row);
-    let case = case_of(book, differs, repeats, confirmed, kind, row, later)?;
+    let case = case_of(book, differs, repeats, confirmed, undoing, kind, row, later)?;
     let again = paid_again(&row.order, place + 1, later);
-    Some(look_with(place, repeats, confirmed, again, case))
+    Some(look_with(place, repeats, confirmed, undoing, again, case))
 }
 
 /// Returns the orders that a person should look at, in the order of their rows. `messages` has the message of each
-/// order. Fails only if memory runs out.
+/// order, and `statements` what its statuses say. Fails only if memory runs out.
 pub fn looks(
     alloc: Global,
     book: &[Entry],
     closings: &[Option<Closing>],
+    statements: &[Statement],
     messages: &[OrderMessage],
     rows: &[OrderRow],
 ) -> Result<Vec<Look>, AllocError>
-    ensures { IfOk result (λ found. found.items ≡ looks book.now closings.now messages.now rows.now) }
+    ensures { IfOk result (λ found. found.items ≡ looks book.now closings.now statements.now messages.now
+        rows.now) }
 {
     let repeated = repeated_payments(alloc, book, rows)?;
     let mut found = Vec::new(alloc);
@@ -350,7 +350,9 @@ pub fn looks(
     let mut place = 0;
     'rows: while let [row, later @ ..] = rest {
         let repeats = repeated.as_slice();
-        if let Some(look) = look_at(book, closings, messages, repeats, place, row, later) {
+        if let Some(look) = look_at(
+            book, closings, statements, messages, repeats, place, row, later,
+        ) {
             found.push(look)?;
         }
         rest = later;

@@ -11,6 +11,7 @@ use crate::differing::closing_at;
 use crate::explaining::{Explained, OpenItem, open_item};
 use crate::objects::message_at;
 use crate::rows::{OrderMessage, OrderRow};
+use zvt_bcd::Trace;
 use zvt_till::{Entry, Sent};
 
 /// What an order is called that explains a difference.
@@ -57,6 +58,8 @@ pub(crate) struct Facts {
     pub(crate) confirmed: Option<OrderRow>,
     /// Whether that order asks for the last receipt once more.
     pub(crate) asked_again: bool,
+    /// The trace number of the status information that took the approval back.
+    pub(crate) undone_by: Option<Trace>,
     /// The first line of the end of day that counts the payment.
     pub(crate) counted: Option<u64>,
     /// The end of day, if the order closed a day.
@@ -304,6 +307,7 @@ fn facts_with(
         again: maybe_row(rows, look.again),
         confirmed: maybe_row(rows, look.confirmed_by),
         asked_again: asks_again(messages, look.confirmed_by),
+        undone_by: look.undone_by,
         counted: counted_at(closings, rows, look.order),
         closing,
         shares: shares_in(book, messages, rows, &closing),

@@ -2,7 +2,7 @@
 ghost use Rattle.zvt_report.specs.CardTotals.{ListedGroupsAddUp};
 ghost use Rattle.zvt_report.specs.Hidden.{HiddenBytesAreNotShown, HiddenBytesMeanNothing};
 ghost use Rattle.zvt_report.specs.Laws.{DoubtsAreLeftOpen, EachOrderHasARow, SameBooks, SameMarks, SumsMakeBooked};
-ghost use Rattle.zvt_report.specs.Looks.{EachOtherIsLookedAt, EachPaymentIsLookedAt, EachReversalIsLookedAt};
+ghost use Rattle.zvt_report.specs.LookLaws.{EachOtherIsLookedAt, EachPaymentIsLookedAt, EachReversalIsLookedAt};
 ghost use Rattle.zvt_report.specs.Naming.{ReversalsNameEntries};
 ghost use Rattle.zvt_report.specs.Reported.{EachOrderHasAMessage, EachReversalNamesAnEntry, SameBooksAsAudit};
 ghost use Rattle.zvt_report.specs.Page.{ReportsAreDocuments};

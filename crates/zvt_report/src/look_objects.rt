@@ -1,11 +1,11 @@
 //! Writes the objects of the orders that a person should look at.
-ghost use Rattle.std.specs.Prelude.{◌≡◌, ◌++◌, ◌<◌, ◌^◌, false, length, map, OnOk};
+ghost use Rattle.std.specs.Prelude.{◌≡◌, ◌++◌, ◌<◌, false, length, true, OnOk};
 ghost use Rattle.serde_json.specs.Data.{string};
 ghost use Rattle.serde_json.specs.Written.{members_text};
 ghost use Rattle.zvt_json.specs.Strings.{line_text};
 ghost use Rattle.zvt_report.specs.Advices as advices;
-ghost use Rattle.zvt_report.specs.LookObjects.{look_line, look_members, look_told, look_value, looks_json, more_text};
-ghost use Rattle.zvt_report.specs.LookObjects.{of_member, order_member, payment_at, told, told_text, weight_member};
+ghost use Rattle.zvt_report.specs.LookObjects.{look_line, look_members, look_told, look_value, looks_json, more_of};
+ghost use Rattle.zvt_report.specs.LookObjects.{order_member, payment_at, told, told_text, weight_member};
 ghost use Rattle.zvt_report.specs.Sentences as sentences;
 ghost use Rattle.zvt_report.specs.declared.members.Name.TheVariants as name;
 
@@ -19,8 +19,9 @@ use crate::parts::{cause_of, count, lines, maybe_cause, maybe_count, said_as};
 use crate::places::payments_in;
 use crate::quoting::quoted_text;
 use crate::rows::{OrderMessage, OrderRow};
-use crate::sentences::{account, title};
+use crate::sentences::account;
 use crate::time_members::maybe_time;
+use crate::titles::title;
 use std::alloc::AllocError;
 use zvt_text::Text;
 use zvt_till::{Entry, Sent};
@@ -51,6 +52,7 @@ fn weight_member(look: &Look) -> Option<Member>
 }
 
 /// Writes a sentence under this name, with a comma before it if there is an earlier member.
+#[tactic(auto, unfolding(crate::specs::LookObjects::told_text))]
 fn sentence(text: &mut Text, later: bool, name: Name, sentence: &[u8]) -> Result<(), AllocError>
     ensures { OnOk result (text.new ≡ text.old ++ told_text later name (string sentence.now)) }
 {
@@ -60,8 +62,9 @@ fn sentence(text: &mut Text, later: bool, name: Name, sentence: &[u8]) -> Result
 }
 
 /// Writes members after others.
+#[tactic(auto, unfolding(crate::specs::LookObjects::told_text, crate::specs::LookObjects::more_of))]
 fn more(text: &mut Text, members: &[Option<Member>]) -> Result<(), AllocError>
-    ensures { OnOk result (text.new ≡ text.old ++ more_text (map of_member members.now)) }
+    ensures { OnOk result (text.new ≡ text.old ++ more_of members.now) }
 {
     let mut rest = members;
     'members: while let [first, after @ ..] = rest {
@@ -124,8 +127,7 @@ fn title_member(
 /// Writes the members between the sentences.
 fn middle(text: &mut Text, rows: &[OrderRow], look: &Look, row: &OrderRow) -> Result<(), AllocError>
     requires { look.now.order < length rows.now }
-    ensures { OnOk result (text.new ≡ text.old
-        ++ more_text (map of_member (look_members rows.now look.now row.now))) }
+    ensures { OnOk result (text.new ≡ text.old ++ more_of (look_members rows.now look.now row.now)) }
 {
     let members = [
         order_member(Name::Again, look.again),

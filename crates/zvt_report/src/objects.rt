@@ -35,7 +35,7 @@ pub(crate) fn write(
     text: &mut Text,
     note: &mut Text,
     tally: Tally,
-    currency: Option<Currency>,
+    currency: &Option<Currency>,
     terminal: Option<[u8; 4]>,
     times: &Times,
     books: &DayBooks,
@@ -44,12 +44,12 @@ pub(crate) fn write(
     looks: &[Look],
 ) -> Result<(), AllocError>
     ensures { OnOk result (text.new ≡ text.old
-        ++ report_json tally currency terminal times.now books.now messages.now closings.now looks.now) }
+        ++ report_json tally currency.now terminal times.now books.now messages.now closings.now looks.now) }
 {
     summary(
-        text, tally, currency, terminal, times, books, messages, looks,
+        text, tally, *currency, terminal, times, books, messages, looks,
     )?;
-    look_lines(text, note, currency, books, messages, closings, looks)?;
+    look_lines(text, note, *currency, books, messages, closings, looks)?;
     order_rows(text, books, messages, closings)
 }
 

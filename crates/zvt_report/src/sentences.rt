@@ -1,27 +1,25 @@
-//! Writes the sentences about an order that a person should look at: a title, what happened, and what to do.
+//! Writes what happened to an order that a person should look at.
 ghost use Rattle.std.specs.Prelude.{◌≡◌, ◌++◌, OnOk};
 ghost use Rattle.zvt_report.specs.Sentences.{account, alike_account, alike_payments, apart_from, approved_account};
-ghost use Rattle.zvt_report.specs.Sentences.{asked_of, charged_title, close_account, differs_account, differs_title};
-ghost use Rattle.zvt_report.specs.Sentences.{elsewhere_account, elsewhere_unclear_account, later_part, other_account};
-ghost use Rattle.zvt_report.specs.Sentences.{other_amount_account, other_amount_title, other_title, refused_account};
-ghost use Rattle.zvt_report.specs.Sentences.{repeated_account, reversal_account, taken_back_account, title};
-ghost use Rattle.zvt_report.specs.Sentences.{unclear_account};
+ghost use Rattle.zvt_report.specs.Sentences.{asked_of, close_account, differs_account, elsewhere_account};
+ghost use Rattle.zvt_report.specs.Sentences.{elsewhere_unclear_account, later_part, other_account};
+ghost use Rattle.zvt_report.specs.Sentences.{other_amount_account, refused_account, repeated_account};
+ghost use Rattle.zvt_report.specs.Sentences.{reversal_account, taken_back_account, unclear_account, undone_account};
+ghost use Rattle.zvt_report.specs.Sentences.{undone_part};
 
 use crate::apart::apart_part;
 use crate::card_texts::card_or_dash;
 use crate::cases::Case;
-use crate::closings::Closing;
-use crate::confirmations::{confirmed_part, counted_as_paid, of_amount};
+use crate::confirmations::{confirmed_part, counted_as_paid};
 use crate::currencies::Decimals;
-use crate::differences::{distance_part, shares_part, totals_part};
+use crate::differences::{shares_part, totals_part};
 use crate::facts::Facts;
-use crate::other_table::money_name;
 use crate::parts::approved_of;
 use crate::phrases::{
     again_part, amount_of, amount_or_dash, approval_part, counted_part, entry_part,
-    maybe_payment_at, payment_at, payment_name, phrase, reason, twice_part,
+    maybe_payment_at, payment_at, payment_name, phrase, reason, trace_part,
 };
-use crate::rows::{OrderMessage, OrderRow};
+use crate::rows::OrderRow;
 use std::alloc::AllocError;
 use zvt_bcd::Amount;
 use zvt_text::Text;
@@ -34,122 +32,77 @@ pub(crate) fn asked_of(facts: &Facts) -> Option<Amount>
     amount_of(&facts.entry, &facts.row.order)
 }
 
-/// Writes the title of an unclear order that moves money beside the book.
-fn other_title(
-    text: &mut Text,
-    decimals: Decimals,
-    message: &OrderMessage,
-    row: &OrderRow,
-) -> Result<(), AllocError>
-    ensures { OnOk result (text.new ≡ text.old ++ other_title decimals message.now row.now) }
-{
-    text.word(b"Order")?;
-    of_amount(text, decimals, &message.amount.or(approved_of(row)))?;
-    text.word(b" unclear: ")?;
-    money_name(text, message.high, message.low)
-}
-
-/// Writes the title of a payment that may have been charged.
-fn charged_title(
-    text: &mut Text,
-    decimals: Decimals,
-    asked: &Option<Amount>,
-    again: &Option<OrderRow>,
-) -> Result<(), AllocError>
-    ensures { OnOk result (text.new ≡ text.old ++ charged_title decimals asked.now again.now) }
-{
-    phrase(text, decimals, b"", asked, b" may have been charged")?;
-    twice_part(text, again)
-}
-
-/// Writes the title of a payment if the terminal approved another amount.
-fn other_amount_title(
-    text: &mut Text,
-    decimals: Decimals,
-    asked: &Option<Amount>,
-    row: &OrderRow,
-) -> Result<(), AllocError>
-    ensures { OnOk result (text.new ≡ text.old ++ other_amount_title decimals asked.now row.now) }
-{
-    phrase(text, decimals, b"", asked, b" asked for, ")?;
-    amount_or_dash(text, decimals, &approved_of(row))?;
-    text.word(b" approved")
-}
-
-/// Writes the title of an end of day whose total differs from the book.
-fn differs_title(
-    text: &mut Text,
-    decimals: Decimals,
-    closing: &Option<Closing>,
-) -> Result<(), AllocError>
-    ensures { OnOk result (text.new ≡ text.old ++ differs_title decimals closing.now) }
-{
-    text.word(b"End of day differs")?;
-    distance_part(text, decimals, closing)
-}
-
-/// Writes the title of an order in this case.
-pub(crate) fn title(
-    text: &mut Text,
-    decimals: Decimals,
-    facts: &Facts,
-    case: Case,
-) -> Result<(), AllocError>
-    ensures { OnOk result (text.new ≡ text.old ++ title decimals facts.now case) }
-{
-    let asked = &asked_of(facts);
-    match case {
-        Case::ApprovedNotCompleted | Case::ApprovalRepeated => {
-            charged_title(text, decimals, asked, &facts.again)
-        }
-        Case::OtherAmount => other_amount_title(text, decimals, asked, &facts.row),
-        Case::PaymentUnclear => phrase(text, decimals, b"Payment of ", asked, b" unclear"),
-        Case::PaidAlike => phrase(text, decimals, b"", asked, b" paid twice with one card"),
-        Case::ReversalUnclear => phrase(text, decimals, b"Reversal of ", asked, b" unclear"),
-        Case::TakenBackBefore => phrase(text, decimals, b"", asked, b" already taken back"),
-        Case::ReversalRefused => phrase(text, decimals, b"Reversal of ", asked, b" not done"),
-        Case::ReversalElsewhere => text.word(b"Reversal of a payment that is not in this trace"),
-        Case::ElsewhereUnclear => {
-            text.word(b"Reversal of a payment that is not in this trace unclear")
-        }
-        Case::OtherUnclear => other_title(text, decimals, &facts.message, &facts.row),
-        Case::CloseUnclear => text.word(b"End of day unclear"),
-        Case::CloseRefused => text.word(b"Day not closed"),
-        Case::CloseDiffers => differs_title(text, decimals, &facts.closing),
-    }
-}
-
 /// Writes what happened to a payment later: it was paid again, or an end of day counts it.
-fn later_part(text: &mut Text, decimals: Decimals, facts: &Facts) -> Result<(), AllocError>
-    ensures { OnOk result (text.new ≡ text.old ++ later_part decimals facts.now) }
+fn later_part(
+    text: &mut Text,
+    decimals: Decimals,
+    asked: &Option<Amount>,
+    facts: &Facts,
+) -> Result<(), AllocError>
+    ensures { OnOk result (text.new ≡ text.old ++ later_part decimals asked.now facts.now) }
 {
-    again_part(text, decimals, &asked_of(facts), &facts.row, &facts.again)?;
+    again_part(text, decimals, asked, &facts.row, &facts.again)?;
     counted_as_paid(text, facts.counted)
 }
 
 /// Writes what happened to a payment that was approved, but is unclear.
-fn approved_account(text: &mut Text, decimals: Decimals, facts: &Facts) -> Result<(), AllocError>
-    ensures { OnOk result (text.new ≡ text.old ++ approved_account decimals facts.now) }
+fn approved_account(
+    text: &mut Text,
+    decimals: Decimals,
+    asked: &Option<Amount>,
+    facts: &Facts,
+) -> Result<(), AllocError>
+    ensures { OnOk result (text.new ≡ text.old ++ approved_account decimals asked.now facts.now) }
 {
-    let asked = asked_of(facts);
-    phrase(text, decimals, b"The terminal approved ", &asked, b"")?;
+    phrase(text, decimals, b"The terminal approved ", asked, b"")?;
     approval_part(text, &facts.row.approval)?;
     text.word(b", but the payment is unclear: ")?;
     reason(text, &facts.row.outcome)?;
     text.push(b'.')?;
-    later_part(text, decimals, facts)
+    later_part(text, decimals, asked, facts)
 }
 
 /// Writes what happened to an unclear payment whose approval the terminal repeated in a later order.
-fn repeated_account(text: &mut Text, decimals: Decimals, facts: &Facts) -> Result<(), AllocError>
-    ensures { OnOk result (text.new ≡ text.old ++ repeated_account decimals facts.now) }
+fn repeated_account(
+    text: &mut Text,
+    decimals: Decimals,
+    asked: &Option<Amount>,
+    facts: &Facts,
+) -> Result<(), AllocError>
+    ensures { OnOk result (text.new ≡ text.old ++ repeated_account decimals asked.now facts.now) }
 {
-    let asked = asked_of(facts);
-    phrase(text, decimals, b"The payment of ", &asked, b" is unclear: ")?;
+    phrase(text, decimals, b"The payment of ", asked, b" is unclear: ")?;
     reason(text, &facts.row.outcome)?;
-    confirmed_part(text, decimals, &asked, facts.asked_again, &facts.confirmed)?;
+    confirmed_part(text, decimals, asked, facts.asked_again, &facts.confirmed)?;
     text.push(b'.')?;
-    later_part(text, decimals, facts)
+    later_part(text, decimals, asked, facts)
+}
+
+/// Writes which approval was taken back.
+fn undone_part(text: &mut Text, decimals: Decimals, facts: &Facts) -> Result<(), AllocError>
+    ensures { OnOk result (text.new ≡ text.old ++ undone_part decimals facts.now) }
+{
+    amount_or_dash(text, decimals, &approved_of(&facts.row))?;
+    approval_part(text, &facts.row.approval)?;
+    text.word(b", and then took it back")?;
+    trace_part(text, &facts.undone_by)
+}
+
+/// Writes what happened to a payment whose approval was taken back.
+fn undone_account(
+    text: &mut Text,
+    decimals: Decimals,
+    asked: &Option<Amount>,
+    facts: &Facts,
+) -> Result<(), AllocError>
+    ensures { OnOk result (text.new ≡ text.old ++ undone_account decimals asked.now facts.now) }
+{
+    text.word(b"The terminal approved ")?;
+    undone_part(text, decimals, facts)?;
+    text.word(b". The payment is unclear: ")?;
+    reason(text, &facts.row.outcome)?;
+    text.push(b'.')?;
+    later_part(text, decimals, asked, facts)
 }
 
 /// Writes what happened to a payment if the terminal approved another amount.
@@ -178,14 +131,18 @@ fn other_amount_account(
 }
 
 /// Writes what happened to an unclear payment without an approval.
-fn unclear_account(text: &mut Text, decimals: Decimals, facts: &Facts) -> Result<(), AllocError>
-    ensures { OnOk result (text.new ≡ text.old ++ unclear_account decimals facts.now) }
+fn unclear_account(
+    text: &mut Text,
+    decimals: Decimals,
+    asked: &Option<Amount>,
+    facts: &Facts,
+) -> Result<(), AllocError>
+    ensures { OnOk result (text.new ≡ text.old ++ unclear_account decimals asked.now facts.now) }
 {
-    let asked = asked_of(facts);
-    phrase(text, decimals, b"The payment of ", &asked, b" is unclear: ")?;
+    phrase(text, decimals, b"The payment of ", asked, b" is unclear: ")?;
     reason(text, &facts.row.outcome)?;
     text.word(b". The till heard no approval, but the terminal may have given one.")?;
-    later_part(text, decimals, facts)
+    later_part(text, decimals, asked, facts)
 }
 
 /// Writes how far a payment is apart from an earlier one, if that is known.
@@ -355,10 +312,11 @@ pub(crate) fn account(
     let (row, entry, again) = (&facts.row, &facts.entry, &facts.again);
     let outcome = &row.outcome;
     match case {
-        Case::ApprovedNotCompleted => approved_account(text, decimals, facts),
-        Case::ApprovalRepeated => repeated_account(text, decimals, facts),
+        Case::ApprovedNotCompleted => approved_account(text, decimals, asked, facts),
+        Case::ApprovalRepeated => repeated_account(text, decimals, asked, facts),
+        Case::ApprovedThenUndone => undone_account(text, decimals, asked, facts),
         Case::OtherAmount => other_amount_account(text, decimals, asked, row, again),
-        Case::PaymentUnclear => unclear_account(text, decimals, facts),
+        Case::PaymentUnclear => unclear_account(text, decimals, asked, facts),
         Case::PaidAlike => alike_account(text, decimals, asked, row, again),
         Case::ReversalUnclear => reversal_account(text, decimals, asked, entry, outcome),
         Case::TakenBackBefore => taken_back_account(text, decimals, asked, entry),

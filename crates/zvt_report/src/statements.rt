@@ -4,12 +4,13 @@
 ghost use Rattle.std.specs.Prelude.{◌≡◌};
 ghost use Rattle.std.specs.Option.{option_copied};
 ghost use Rattle.zvt_field.specs.Named.{content_of};
-ghost use Rattle.zvt_report.specs.Statements.{card_by, declines_by, stating};
+ghost use Rattle.zvt_report.specs.Statements.{card_by, declines_by, stating, undoing_by};
 
 use crate::card_totals::{CardTotals, total_in, totals_in};
 use crate::cards::{Card, card_in};
 use std::alloc::{AllocError, Global};
 use zvt_apdu::{ApduView, Kind};
+use zvt_bcd::Trace;
 use zvt_field::FieldsView;
 use zvt_till::{Happening, Heard, ends, heard_view};
 
@@ -28,6 +29,15 @@ const CARD_TYPE: u8 = 0x8A;
 /// The BMP of a card name.
 const CARD_NAME: u8 = 0x8B;
 
+/// A status information that names an original: it takes back what was approved under that trace number.
+#[derive(Clone, Copy, Debug, PartialEq, Eq)]
+pub struct Undoing {
+    /// The original trace number as read: three bytes, which need not be digits.
+    pub original: [u8; 3],
+    /// Its own trace number, if there is exactly one.
+    pub trace: Option<Trace>,
+}
+
 /// What the status informations of an order say.
 #[derive(Clone, Copy, Debug, PartialEq, Eq)]
 pub struct Statement {
@@ -39,6 +49,8 @@ pub struct Statement {
     pub totals: Option<CardTotals>,
     /// The card that the first one with result 00 names, of those that name one.
     pub card: Option<Card>,
+    /// The first one that names exactly one original.
+    pub undoing: Option<Undoing>,
 }
 
 impl Statement {
@@ -54,6 +66,7 @@ impl Statement {
             total: None,
             totals: None,
             card: None,
+            undoing: None,
         }
     }
 
@@ -61,11 +74,14 @@ impl Statement {
     fn after(&self, fields: &FieldsView<'_>) -> Statement
         ensures { result ≡ after_status self.now fields.now }
     {
+        // Names a type in a statement, which the proof asks for.
+        let _trace: Option<Trace> = None;
         Statement {
             declines: self.declines || declines_by(fields),
             total: total_in(content_of(fields, AMOUNT)),
             totals: totals_in(content_of(fields, TOTALS)),
             card: self.card.or(card_by(fields)),
+            undoing: self.undoing.or(undoing_by(fields)),
         }
     }
 }
@@ -92,6 +108,16 @@ fn card_by(fields: &FieldsView<'_>) -> Option<Card>
         ),
         _ => None,
     }
+}
+
+/// Returns what a status with these fields takes back, if it names exactly one original.
+fn undoing_by(fields: &FieldsView<'_>) -> Option<Undoing>
+    ensures { result ≡ undoing_by fields.now }
+{
+    Some(Undoing {
+        original: fields.original()?,
+        trace: fields.trace(),
+    })
 }
 
 /// Returns the bytes of the field with this BMP, if it appears exactly once and is not a container.
@@ -189,6 +215,9 @@ impl Hearing {
     pub(crate) fn end(&mut self) -> Result<(), AllocError>
         ensures { OnOk result (Ends self.old self.new) }
     {
+        // Names types in a statement, which the proof asks for.
+        let _undoing: Option<Undoing> = None;
+        let _trace: Option<Trace> = None;
         if let Some(attention) = self.current {
             self.statements.push(attention.statement)?;
             self.current = None;

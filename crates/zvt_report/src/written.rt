@@ -122,6 +122,7 @@ pub(crate) fn looks_of(alloc: Global, report: &Report) -> Result<Vec<Look>, Allo
         alloc,
         books.book.as_slice(),
         report.closings.as_slice(),
+        report.statements.as_slice(),
         report.messages.as_slice(),
         books.orders.as_slice(),
     )
@@ -219,7 +220,7 @@ fn text_of(
             &mut text,
             &mut Text::new(alloc),
             report.tally,
-            report.currency,
+            &report.currency,
             report.terminal,
             &report.times,
             books,

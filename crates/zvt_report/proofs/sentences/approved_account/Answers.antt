@@ -4,4 +4,5 @@ use Rattle.zvt_report.proofs.sentences.approved_account.Goals as goal
 
 pub returns : goal.returns
 returns c =
-    completes c.again_part.result c.push.new.self c.again_part.new.text _ _ (simp (c.in_ok-push.ensures, c.in_ok-reason.ensures, c.in_ok-word.ensures, c.in_ok-approval_part.ensures, c.in_ok-phrase.ensures, append_assoc)) c.again_part.ensures
+    completes c.later_part.result c.push.new.self c.later_part.new.text _ _
+    (simp (c.in_ok-push.ensures, c.in_ok-reason.ensures, c.in_ok-word.ensures, c.in_ok-approval_part.ensures, c.in_ok-phrase.ensures, append_assoc)) c.later_part.ensures
