@@ -56,3 +56,8 @@ pub mod Heading
 pub mod Zones
 pub mod PageEvents
 pub mod Dialogue
+pub mod Masking
+pub mod Slips
+pub mod SlipObjects
+pub mod PageSlips
+pub mod SlipWalk

@@ -333,10 +333,10 @@ summary_members tally currency terminal times books messages looks =
 abbrev pub summary_line : Tally → (currency : Option ℕ) → (terminal : Option (List ℕ)) → Times → DayValue → List OrderMessage → List Look → List ℕ
 summary_line tally currency terminal times books messages looks = object_text object_of.Summary (summary_members tally currency terminal times books messages looks)
 
--- the summary, then the looks, then the orders
-abbrev pub report_json : Tally → (currency : Option ℕ) → (terminal : Option (List ℕ)) → Times → DayValue → List OrderMessage → List (Option Closing) → List Look → List ℕ
-report_json tally currency terminal times books messages closings looks =
-    summary_line tally currency terminal times books messages looks ++ looks_json books.orders looks ++ rows_json books messages closings no_counts books.orders
+-- the summary, then the looks, then the orders, then the slips, which are written already
+abbrev pub report_json : Tally → (currency : Option ℕ) → (terminal : Option (List ℕ)) → Times → DayValue → List OrderMessage → List (Option Closing) → List Look → (slips : List ℕ) → List ℕ
+report_json tally currency terminal times books messages closings looks slips =
+    summary_line tally currency terminal times books messages looks ++ looks_json books.orders looks ++ rows_json books messages closings no_counts books.orders ++ slips
 
 -- ---- rows worked by hand
 
@@ -405,7 +405,7 @@ a_time = refl
 -- the summary comes first, then the look, then the orders
 a_report : let orders = a_row (sent.Register None) 2 4 outcome.Registered None ∷ a_row (sent.Pay 3499) 6 8 (outcome.Unclear cause.Line) None ∷ a_row (sent.Pay 3499) 10 12 (outcome.Paid 21 None) None ∷ [] in
     let book : List Entry = record { amount = 3499; trace = 21; receipt = None; reversed = false; doubt = doubt.No } ∷ [] in
-    report_json (record { messages = 24; bad = 0 }) (Some 978) None no_times (record { book = book; unclear = (3499, cause.Line) ∷ []; orders = orders }) (a_message 0x00 None None ∷ a_message 0x01 (Some 3499) None ∷ a_message 0x01 (Some 3499) None ∷ []) [] (looks book [] orders)
-    ≡ codes "{\"summary\":{\"bad\":0,\"booked\":1,\"currency\":\"0978\",\"looks\":1,\"messages\":24,\"net\":3499,\"others\":0,\"reversals_unclear\":0,\"reversed\":0,\"total\":3499,\"unclear\":1,\"unclear_amount\":3499}}\n{\"look\":{\"again\":3,\"case\":\"PaymentUnclear\",\"cause\":\"Line\",\"lines\":[6,8],\"order\":2,\"payment\":1,\"weight\":\"check\"}}\n{\"order\":{\"control\":\"0600\",\"lines\":[2,4],\"name\":\"registration\",\"order\":1,\"outcome\":\"completed\"}}\n{\"payment\":{\"amount\":3499,\"cause\":\"Line\",\"lines\":[6,8],\"order\":2,\"outcome\":\"unclear\",\"payment\":1}}\n{\"payment\":{\"amount\":3499,\"lines\":[10,12],\"order\":3,\"outcome\":\"paid\",\"payment\":2,\"trace\":21}}\n"
+    report_json (record { messages = 24; bad = 0 }) (Some 978) None no_times (record { book = book; unclear = (3499, cause.Line) ∷ []; orders = orders }) (a_message 0x00 None None ∷ a_message 0x01 (Some 3499) None ∷ a_message 0x01 (Some 3499) None ∷ []) [] (looks book [] orders) (codes "SLIPS\n")
+    ≡ codes "{\"summary\":{\"bad\":0,\"booked\":1,\"currency\":\"0978\",\"looks\":1,\"messages\":24,\"net\":3499,\"others\":0,\"reversals_unclear\":0,\"reversed\":0,\"total\":3499,\"unclear\":1,\"unclear_amount\":3499}}\n{\"look\":{\"again\":3,\"case\":\"PaymentUnclear\",\"cause\":\"Line\",\"lines\":[6,8],\"order\":2,\"payment\":1,\"weight\":\"check\"}}\n{\"order\":{\"control\":\"0600\",\"lines\":[2,4],\"name\":\"registration\",\"order\":1,\"outcome\":\"completed\"}}\n{\"payment\":{\"amount\":3499,\"cause\":\"Line\",\"lines\":[6,8],\"order\":2,\"outcome\":\"unclear\",\"payment\":1}}\n{\"payment\":{\"amount\":3499,\"lines\":[10,12],\"order\":3,\"outcome\":\"paid\",\"payment\":2,\"trace\":21}}\nSLIPS\n"
 unfolding object_text digits escape_byte encode_with
 a_report = refl

@@ -9,8 +9,8 @@ ghost use Rattle.zvt_report.specs.Members.{difference_value, lines_value, member
 ghost use Rattle.zvt_report.specs.Members.{receipts_value, said, value_data, word_text};
 
 use crate::card_texts::{quoted_name, quoted_number, type_words};
-use crate::cases::{Case, Weight};
 use crate::card_totals::CardGroup;
+use crate::cases::{Case, Weight};
 use crate::endings::Ending;
 use crate::explaining::Explained;
 use crate::member_groups::write_groups;
