@@ -5,9 +5,10 @@
 
 PROGRAM is the one that `rt ci` built, unless another is named. The traces are those of examples/, tests/data/report and
 tests/data/real. A page is well formed, names no other file and runs nothing, its links lead somewhere, it has a row for each payment and
-an item for each case, its dialogue is what `show --safe --explain --open` writes, and its style sheet has no rule that no page uses. Text
-has enough contrast in every theme, and a keyboard reaches everything. The pages of the traces in tests/data/report are those beside them;
-`--store` writes them anew, so look at them before you commit them. The status is 1 if anything differs.
+an item for each case, the slips and the totals by card of the JSON, its dialogue is what `show --safe --explain --open` writes, and its
+style sheet has no rule that no page uses. Text has enough contrast in every theme, and a keyboard reaches everything. The pages of the
+traces in tests/data/report are those beside them; `--store` writes them anew, so look at them before you commit them. The status is 1 if
+anything differs.
 """
 import json
 import os
@@ -28,7 +29,7 @@ POLICY = "default-src 'none'; style-src 'unsafe-inline'; base-uri 'none'; form-a
 VOID = {"meta"}
 SPEAKERS = {"till", "terminal", "bad", "lost"}
 MOST = 2000  # messages of a trace whose dialogue is shown whole, and events on a page
-ELEMENTS = {"html", "head", "meta", "title", "style", "body", "a", "main", "header", "h1", "h2", "h3", "p", "dl", "div", "dt", "dd", "ol", "li", "span", "table", "thead", "tbody", "tr", "th", "td", "footer"}
+ELEMENTS = {"html", "head", "meta", "title", "style", "body", "a", "main", "header", "h1", "h2", "h3", "p", "dl", "div", "dt", "dd", "ol", "li", "pre", "span", "table", "thead", "tbody", "tr", "th", "td", "footer"}
 ATTRIBUTES = {"lang", "charset", "name", "content", "http-equiv", "class", "href", "id", "scope"}
 check = Checks()
 
@@ -106,6 +107,36 @@ def rows(page):
     return found
 
 
+def printed(text):
+    """The characters of a printed text: UTF-8 if it is valid, or else code page 437. A control character stays an escape."""
+    data = b"".join(bytes([int(one[2:], 16)]) if one[0] == "\\" else one.encode() for one in re.findall(r"\\x..|.", text))
+    try:
+        found = data.decode()
+    except UnicodeDecodeError:
+        found = data.decode("cp437")
+    return "".join("".join(f"\\x{byte:02X}" for byte in letter.encode()) if ord(letter) < 0x20 or 0x7F <= ord(letter) < 0xA0 else letter for letter in found)
+
+
+def slips(name, page, objects):
+    """The page has each slip, line by line."""
+    found, wanted = [], [one["slip"] for one in objects if "slip" in one]
+    for one in page.elements:
+        if one["tag"] == "pre":
+            found.append([])
+        elif one["tag"] == "span" and "pre" in one["in"]:
+            found[-1].append(one["text"])
+    check(f"the slips of {name}", found, [[printed(text) for text in slip["texts"]] for slip in wanted])
+    titles = [f"{slip['kind'].capitalize()} (lines {slip['lines'][0]}-{slip['lines'][1]})" for slip in wanted]
+    check(f"the titles of the slips of {name}", page.texts("h3")[-len(titles):] if titles else [], titles)
+    check(f"the heading of the slips of {name}", page.texts("h2").count("Printed by the terminal"), 1 if titles else 0)
+
+
+def groups(name, page, objects):
+    """The page has the totals by card of each end of day."""
+    wanted = [(group["card"], str(group["count"])) for one in objects for group in one.get("close", {}).get("groups", ())]
+    check(f"the totals by card of {name}", [(row["ca"], row["n"]) for row in rows(page) if "n" in row], wanted)
+
+
 def agrees(name, trace, page):
     """The page has what the text and the JSON of the report have."""
     text = " ".join(run(["report"], trace)[1].split())
@@ -122,6 +153,8 @@ def agrees(name, trace, page):
     summary = [re.search(rf"{words} (\S+)", text)[1] for words in ("Net total", "booked", "taken back", "Unclear")]
     check(f"the figures of {name}", figures[:8:2], summary)
     check(f"the footer of {name}", text.endswith(" ".join(page.texts("footer")[0].split())), True)
+    slips(name, page, objects)
+    groups(name, page, objects)
     if "time_from" in objects[0]["summary"]:
         check(f"the hours of {name}", text.startswith(page.texts("p", "meta")[0]), True)
 
@@ -174,12 +207,15 @@ def long_day():
     well_formed("a long trace", page)
     objects = [json.loads(line) for line in run(["report", "--json"], many)[1].splitlines()]
     cases = [one["look"] for one in objects if "look" in one]
-    orders = {one["order"]: one["lines"] for each in objects for one in each.values() if isinstance(one, dict) and "order" in one and "lines" in one and "case" not in one}
+    orders = {one["order"]: one["lines"] for each in objects for one in each.values() if isinstance(one, dict) and "order" in one and "lines" in one and not {"case", "kind"} & set(one)}
     ranges = [orders[one["order"]] for one in cases]
     messages = sum(one["class"] in ("till", "terminal") for one in told(many))
     wanted = [one for one in told(many) if any(first <= one["line"] <= last for first, last in ranges)][:MOST]
     check("a long trace is long", (status, messages > MOST, 0 < len(wanted) <= MOST), (0, True, True))
     check("the part of a long dialogue", [(one["line"], one["text"]) for one in events(page)], [(one["line"], one["text"]) for one in wanted])
+    slips = [one["slip"] for one in objects if "slip" in one]
+    shown = [one["kind"].capitalize() + " (lines {}-{})".format(*one["lines"]) for one in slips if any(first <= one["lines"][0] <= last for first, last in ranges)]
+    check("the slips of a long trace", (0 < len(shown) < len(slips), page.texts("h3")[-len(shown):], len(page.texts("pre"))), (True, shown, len(shown)))
     check("the note of a long dialogue", notes(page), ["The trace has more than 2000 messages. Onl"])
     check("no note of a short dialogue", notes(Page(run(["report", "--html"], few)[1])), [])
     losses = Page(run(["report", "--html"], b"!\n" * (MOST + 5))[1])

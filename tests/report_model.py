@@ -153,6 +153,70 @@ class Times:
                 "times_back": self.back, "times_bad": len(self.bad) or None}
 
 
+NUMBER = re.compile(rb"\d(?:[ .-]?\d)*")
+SLIPS = {"merchant": "merchant receipt", "customer": "customer receipt", "administration": "terminal report"}
+
+
+def kind_by(first):
+    """The kind of a refused message, by its control bytes."""
+    return json_model.KINDS.get(first[:2].hex().upper(), ("Nack" if first[0] == 0x84 else "Other",))[0]
+
+
+def without_numbers(text):
+    """A printed text with an asterisk for each digit of a number of 13 digits or more, but not for its last four."""
+    def starred(found):
+        digits = len(re.sub(rb"\D", b"", found[0]))
+        return re.sub(rb"\d", b"*", found[0], count=digits - 4) if digits >= 13 else found[0]
+    return NUMBER.sub(starred, text)
+
+
+class Slips:
+    """What the terminal printed: print lines with nothing but acknowledgements between them are one slip, and so is each text block."""
+
+    def __init__(self, trace, loose, strict):
+        self.found, self.orders, self.running, self.strict, malformed = [], 0, None, strict, False
+        sides = {sign: json_model.Side(name, loose, not strict) for sign, name in json_model.SIDES.items()}
+        for number, row in json_model.lines_of(trace):
+            if row == b"!":
+                malformed, self.running = False, None
+                for side in sides.values():
+                    list(side.cut(0))
+            elif row[:1] in sides and not malformed:
+                for event in sides[row[:1]].feed(json_model.bytes_of(number, row), number):
+                    self.take(row[:1], event, sides[row[:1]].first)
+                    malformed |= "refused" in event and strict
+
+    def take(self, sign, event, first):
+        kind = event.get("kind")
+        if "refused" in event:
+            # Read openly, it is known by its control bytes.
+            kind = None if self.strict else kind_by(first)
+        elif kind == "Ack":
+            return
+        elif kind == "PrintLine" and sign == b"<":
+            if self.running is None:
+                self.running = self.add("print lines", event)
+            self.running["lines"][1] = event["line"]
+            self.running["texts"].append(shown(event["text"]))
+            return
+        elif kind == "TextBlock" and sign == b"<":
+            name, texts = json_model.block_of(event)
+            if texts:
+                self.add(SLIPS.get(name, "print texts"), event)["texts"] += [json_model.quoted(without_numbers(text)) for text in texts]
+        self.running = None
+        self.orders += sign == b">" and kind in ORDERS
+
+    def add(self, kind, event):
+        self.found.append({"kind": kind, "lines": [event["line"]] * 2, "order": self.orders or None, "texts": []})
+        return self.found[-1]
+
+
+def shown(text):
+    """The text of a print line, which has escapes already. A number has none."""
+    found = re.findall(r"\\x..|.", text)
+    return json_model.quoted(without_numbers(bytes(int(one[2:], 16) if one[0] == "\\" else ord(one) for one in found)))
+
+
 class Order:
     """An order of the till, with what was heard of it."""
 
@@ -245,6 +309,7 @@ class Report(Audit):
     def __init__(self, trace, loose=False, strict=False):
         self.orders, self.running, self.book, self.in_force = [], None, [], None
         self.times, self.terminal = Times(trace), None
+        self.trace_read = trace, loose, strict
         super().__init__(trace, loose, not strict)
 
     def sent(self, message):
@@ -270,6 +335,11 @@ class Report(Audit):
         self.orders.append(self.running)
         if message["kind"] == "Registration":
             self.in_force = message.get("currency")
+
+    def known(self, sign, first, line):
+        super().known(sign, first, line)
+        if sign == b"<" and self.running and kind_by(first) in (*ORDERS, "AbortOrder"):
+            self.running.last = line
 
     def heard(self, message):
         super().heard(message)
@@ -395,6 +465,7 @@ class Report(Audit):
                                 payment=self.number_of(order), time=self.times.text(order.first), weight=weight, **sentences.of(case, order, *others))}
         for number, order in enumerate(self.orders, 1):
             yield {order.kind: said(**getattr(self, f"{order.kind}_members")(order), **self.ending(order), lines=[order.first, order.last], order=number, time=self.times.text(order.first))}
+        yield from ({"slip": said(**slip)} for slip in Slips(*self.trace_read).found)
 
     def summary(self):
         open_amounts = [order.amount for order in self.orders if order.kind == "payment" and order.outcome[0] == "unclear"]

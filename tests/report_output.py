@@ -51,6 +51,19 @@ CARDS = (GIROCARD, GIROCARD, VISA, VISA, card("6726EEEEEEEE1234FF", None, 5), ca
          card("67EEE1", b"\x94 \"\\<b>&amp;\x7F"), card("123456EEEE123456", b"x" * 24), card("12345EEEEE12345F", b"x" * 25), GIROCARD + VISA, card("", b"\0\x1F", 0xFF), card("EEEE"), card("", None, 6))
 
 
+TEXTS = (b"", b"B\x84ckerei", b"Karte 4761 7390 0101 0010", b"1234567890123", b"12345678901-2", b"123456789012  3", b"1 2.3-4 5.6-7 8.9-0 1.2-3 4 .5", b"6726########12340 28.11.2026 09:14", b"\"\\\xFF\x1B<b>&")
+
+
+def printed(chance):
+    """A print line or a text block."""
+    if chance.random() < 0.7:
+        return message(b"\x06\xD1", bytes([chance.choice((0, 0x40))]) + chance.choice(TEXTS))
+    texts = b"".join(b"\x07" + bytes([len(one)]) + one for one in chance.choices(TEXTS, k=chance.randrange(4)))
+    kind = chance.choice((b"", b"\x1F\x07\x01" + bytes([chance.randrange(1, 6)])))
+    objects = kind + b"\x25" + (bytes([len(texts)]) if len(texts) < 0x80 else b"\x81" + bytes([len(texts)])) + texts
+    return message(b"\x06\xD3", b"\x06" + (bytes([len(objects)]) if len(objects) < 0x80 else b"\x81" + bytes([len(objects)])) + objects)
+
+
 # Terminal identifiers, and what is none: no digits, or two of them.
 TERMINALS = (b"\x29\x52\x50\x00\x40", b"\x29\x52\x50\x00\x41", b"\x29\x52\x50\x00\x4A", 2 * b"\x29\x52\x50\x00\x42")
 
@@ -70,6 +83,9 @@ class Day(Dialogue):
             data = message(STATUS, data[3:] + self.chance.choice(CARDS))
         if sign == "<" and data[:2] in (STATUS, COMPLETION) and self.chance.random() < 0.1:
             data = message(data[:2], data[3:] + self.chance.choice(TERMINALS))
+        while sign == "<" and self.chance.random() < 0.3:
+            super().say("<", printed(self.chance))
+            super().say(">", self.chance.choice((ACK, ACK, ACK, b"\x84\x00\x00")))
         super().say(sign, data)
 
     def step(self):

@@ -8,7 +8,7 @@ use Rattle.zvt_page.specs.Names.{attribute_name, element_name}
 use Rattle.zvt_page.specs.declared.elements.Attribute.{Attribute}
 use Rattle.zvt_page.specs.declared.elements.Attribute.TheVariants.{Class, Href, Id, Scope}
 use Rattle.zvt_page.specs.declared.elements.Element.{Element}
-use Rattle.zvt_page.specs.declared.elements.Element.TheVariants.{A, Dd, Div, Dl, Dt, Footer, H1, H2, H3, Header, Li, Main, Ol, P, Section, Span, Table, Tbody, Td, Th, Thead, Tr}
+use Rattle.zvt_page.specs.declared.elements.Element.TheVariants.{A, Dd, Div, Dl, Dt, Footer, H1, H2, H3, Header, Li, Main, Ol, P, Pre, Section, Span, Table, Tbody, Td, Th, Thead, Tr}
 use Rattle.zvt_page.proofs.Letters.{as_shown, first_of, goes_on, is_quote, reads_first, not_empty, same_before, same_first, same_text, spelled_text, text_goes_on}
 
 -- ---- names
@@ -24,7 +24,7 @@ element_in [] name = None
 element_in (e ∷ more) name = cond (same_name (element_name e) name) (Some e) (element_in more name)
 
 abbrev element_named : List ℕ → Option Element
-element_named name = element_in (A ∷ Dd ∷ Div ∷ Dl ∷ Dt ∷ Footer ∷ H1 ∷ H2 ∷ H3 ∷ Header ∷ Li ∷ Main ∷ Ol ∷ P ∷ Section ∷ Span ∷ Table ∷ Tbody ∷ Td ∷ Th ∷ Thead ∷ Tr ∷ []) name
+element_named name = element_in (A ∷ Dd ∷ Div ∷ Dl ∷ Dt ∷ Footer ∷ H1 ∷ H2 ∷ H3 ∷ Header ∷ Li ∷ Main ∷ Ol ∷ P ∷ Pre ∷ Section ∷ Span ∷ Table ∷ Tbody ∷ Td ∷ Th ∷ Thead ∷ Tr ∷ []) name
 
 finds_element : (e : Element) → element_named (element_name e) ≡ Some e
 finds_element A = refl
@@ -41,6 +41,7 @@ finds_element Li = refl
 finds_element Main = refl
 finds_element Ol = refl
 finds_element P = refl
+finds_element Pre = refl
 finds_element Section = refl
 finds_element Span = refl
 finds_element Table = refl
@@ -85,6 +86,7 @@ element_goes_on Li = refl
 element_goes_on Main = refl
 element_goes_on Ol = refl
 element_goes_on P = refl
+element_goes_on Pre = refl
 element_goes_on Section = refl
 element_goes_on Span = refl
 element_goes_on Table = refl

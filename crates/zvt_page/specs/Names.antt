@@ -3,7 +3,7 @@ use Rattle.std.specs.Prelude.{ℕ, List, codes}
 use Rattle.zvt_page.specs.declared.elements.Attribute.{Attribute}
 use Rattle.zvt_page.specs.declared.elements.Attribute.TheVariants.{Class, Href, Id, Scope}
 use Rattle.zvt_page.specs.declared.elements.Element.{Element}
-use Rattle.zvt_page.specs.declared.elements.Element.TheVariants.{A, Dd, Div, Dl, Dt, Footer, H1, H2, H3, Header, Li, Main, Ol, P, Section, Span, Table, Tbody, Td, Th, Thead, Tr}
+use Rattle.zvt_page.specs.declared.elements.Element.TheVariants.{A, Dd, Div, Dl, Dt, Footer, H1, H2, H3, Header, Li, Main, Ol, P, Pre, Section, Span, Table, Tbody, Td, Th, Thead, Tr}
 
 abbrev pub element_name : Element → List ℕ
 element_name A = codes "a"
@@ -20,6 +20,7 @@ element_name Li = codes "li"
 element_name Main = codes "main"
 element_name Ol = codes "ol"
 element_name P = codes "p"
+element_name Pre = codes "pre"
 element_name Section = codes "section"
 element_name Span = codes "span"
 element_name Table = codes "table"

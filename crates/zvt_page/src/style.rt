@@ -56,6 +56,9 @@ border-bottom:1px solid var(--line);vertical-align:bottom}
 margin-right:.5rem;vertical-align:.06em}
 .dot.c-act::before{border-radius:1px;transform:rotate(45deg)}
 .dot.c-soft::before{background:none;border:1.5px solid currentColor}
+.slip{margin:.5rem 0 1.2rem;max-width:32rem;padding:.8rem 1rem;background:var(--paper);border:1px solid var(--line);
+font:.82rem/1.5 ui-monospace,SFMono-Regular,Menlo,Consolas,'DejaVu Sans Mono',monospace;white-space:pre-wrap}
+.slip span{display:block;min-height:1.5em}
 .dlg{list-style:none;margin:1rem 0 0;padding:0}
 .dlg li{display:flex;gap:.8rem;padding:.2rem 0;scroll-margin-top:1rem}
 .dlg .ln{min-width:5ch;text-align:right;color:var(--soft);font-size:.82rem;line-height:1.9}

@@ -37,7 +37,7 @@ number_plain (byte ∷ bytes) =
 
 -- ---- names
 
-plain_slashed : (byte : ℕ) → byte < 256 → escape (cond (is_plain byte) (byte ∷ []) (codes "\\x" ++ hex_of byte)) ≡ cond (is_plain byte) (byte ∷ []) (codes "\\\\x" ++ hex_of byte)
+pub plain_slashed : (byte : ℕ) → byte < 256 → escape (cond (is_plain byte) (byte ∷ []) (codes "\\x" ++ hex_of byte)) ≡ cond (is_plain byte) (byte ∷ []) (codes "\\\\x" ++ hex_of byte)
 unfolding escape_byte
 plain_slashed byte small = elim (cases_Bool (is_plain byte)) [
   | inl plain ↦ let same = escape_plain byte plain in rw plain (rw same refl)

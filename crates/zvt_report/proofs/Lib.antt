@@ -26,4 +26,6 @@ pub mod WrittenLemmas
 pub mod WrappingLemmas
 pub mod TimeLemmas
 pub mod DialogueLemmas
+pub mod SlipLemmas
+pub mod SlipObjectLemmas
 pub mod PageLemmas

@@ -112,13 +112,14 @@ orders_ordered (explained.Two a b) = refl
 orders_ordered (explained.Three a b c) = refl
 orders_ordered explained.Several = refl
 
+group_ordered : (used : Bool) (group : CardGroup) (groups : List CardGroup) → items_ordered (group_items groups) ≡ true
+    → items_ordered (cond used (item (group_value group) (group_items groups)) (group_items groups)) ≡ true
+group_ordered true group groups later = later
+group_ordered false group groups later = later
+
 groups_ordered : (groups : List CardGroup) → ordered (groups_value groups) ≡ true
 groups_ordered [] = refl
-groups_ordered (group ∷ groups) = ordered_if (is_used group)
-  where
-    ordered_if : (used : Bool) → items_ordered (cond used (item (group_value group) (group_items groups)) (group_items groups)) ≡ true
-    ordered_if true = groups_ordered groups
-    ordered_if false = groups_ordered groups
+groups_ordered (group ∷ groups) = group_ordered (is_used group) group groups (groups_ordered groups)
 
 value_ordered : (v : Value) → ordered (value_data v) ≡ true
 value_ordered value.True = refl
@@ -166,13 +167,14 @@ orders_shallow (explained.Two a b) = omega arith
 orders_shallow (explained.Three a b c) = omega arith
 orders_shallow explained.Several = omega arith
 
+group_shallow : (used : Bool) (group : CardGroup) (groups : List CardGroup) → items_depth (group_items groups) ≤ 1
+    → items_depth (cond used (item (group_value group) (group_items groups)) (group_items groups)) ≤ 1
+group_shallow true group groups later = omega (arith, later)
+group_shallow false group groups later = later
+
 groups_shallow : (groups : List CardGroup) → items_depth (group_items groups) ≤ 1
 groups_shallow [] = omega arith
-groups_shallow (group ∷ groups) = shallow_if (is_used group)
-  where
-    shallow_if : (used : Bool) → items_depth (cond used (item (group_value group) (group_items groups)) (group_items groups)) ≤ 1
-    shallow_if true = omega (arith, groups_shallow groups)
-    shallow_if false = groups_shallow groups
+groups_shallow (group ∷ groups) = group_shallow (is_used group) group groups (groups_shallow groups)
 
 value_shallow : (v : Value) → depth (value_data v) ≤ 2
 value_shallow value.True = omega arith

@@ -1,5 +1,5 @@
 -- What a report that is found and written answers.
-use Rattle.std.proofs.Common.{◌≡◌, ℕ, ◌≤◌, List, Option, Some, None, IfSome, Result, Ok, Err, length, subst, sym, ◌∙◌}
+use Rattle.std.proofs.Common.{◌≡◌, ℕ, ◌≤◌, ◌++◌, List, Option, Some, None, IfSome, Result, Ok, Err, length, subst, sym, ap, ◌∙◌}
 use Rattle.zvt_grammar.specs.Reading.{Reading}
 use Rattle.zvt_trace.specs.Written.{limit}
 use Rattle.zvt_trace.specs.declared.fault.TraceFault.{TraceFault}
@@ -8,31 +8,54 @@ use Rattle.zvt_trace.specs.declared.listener.Scope.{Scope}
 use Rattle.zvt_audit.proofs.AuditLemmas.{keeps_same}
 use Rattle.zvt_report.specs.Reports.{AnswersReport}
 use Rattle.zvt_report.specs.Dialogue.{AnswersDialogue, IsDialogue}
-use Rattle.zvt_report.specs.Written.{AnswersFound, AnswersReadWritten, AnswersWritten, looks_of, zone_for}
+use Rattle.zvt_report.specs.SlipWalk.{AnswersSlips, AreSlips}
+use Rattle.zvt_report.specs.Written.{AnswersDrawn, AnswersFound, AnswersReadWritten, AnswersWritten, IsDrawn, looks_of, zone_for}
 use Rattle.zvt_report.specs.declared.cases.Look.{Look}
 use Rattle.zvt_report.specs.declared.form.ReportForm.{ReportForm}
 use Rattle.zvt_report.specs.declared.report.Report.{Report}
 use Rattle.zvt_report.specs.declared.written.ReportSummary.{ReportSummary}
 use Rattle.zvt_report.specs.declared.zones.Zone.{Zone}
 
--- the looks and the text of the dialogue are lent
-pub dialogue_is : (r : Reading) (scope : Scope) (form : ReportForm) (trace : List ℕ) (report : Report) (looks : List Look) (text lent : List ℕ)
-    → looks ≡ looks_of report → lent ≡ text → IsDialogue r scope trace form report looks text → IsDialogue r scope trace form report (looks_of report) lent
-dialogue_is r scope form trace report looks text lent same is dialogue =
-    subst (λ (t : List ℕ). IsDialogue r scope trace form report (looks_of report) t) (sym is) (subst (λ (l : List Look). IsDialogue r scope trace form report l text) same dialogue)
+-- the looks and the text are lent
+pub drawn_is : (r : Reading) (scope : Scope) (form : ReportForm) (trace : List ℕ) (report : Report) (looks : List Look) (text lent : List ℕ)
+    → looks ≡ looks_of report → lent ≡ text → IsDrawn r scope trace form report looks text → IsDrawn r scope trace form report (looks_of report) lent
+drawn_is r scope form trace report looks text lent same is drawn =
+    subst (λ (t : List ℕ). IsDrawn r scope trace form report (looks_of report) t) (sym is) (subst (λ (l : List Look). IsDrawn r scope trace form report l text) same drawn)
 
-pub found_written : (r : Reading) (scope : Scope) (form : ReportForm) (zone : Zone) (name : List ℕ) (trace : List ℕ) (report : Report) (dialogue : List ℕ) (old new : Option (List ℕ)) (result : Result ReportSummary TraceFault)
-    → AnswersReport (zone_for form zone) r scope trace (Ok report) → IsDialogue r scope trace form report (looks_of report) dialogue → AnswersFound form name report dialogue old new result → AnswersWritten r scope form zone name trace old new result
-found_written r scope form zone name trace report dialogue old new (Ok summary) answers is (appends, sum) = (report, answers, dialogue, is, appends, sum)
-found_written r scope form zone name trace report dialogue old new (Err Memory) answers is kept = kept
-found_written r scope form zone name trace report dialogue old new (Err Write) answers is prefix = (report, answers, dialogue, is, prefix)
-found_written r scope form zone name trace report dialogue old new (Err (Trace number what)) answers is never = absurd never
-found_written r scope form zone name trace report dialogue old new (Err TooLong) answers is never = absurd never
-found_written r scope form zone name trace report dialogue old new (Err Read) answers is never = absurd never
+-- the slips are written before the dialogue
+pub drawn_both : (r : Reading) (scope : Scope) (form : ReportForm) (trace : List ℕ) (report : Report) (looks : List Look) (slips dialogue lent text : List ℕ)
+    → AreSlips r scope trace form report looks slips → IsDialogue r scope trace form report looks dialogue → lent ≡ dialogue → text ≡ slips ++ lent → IsDrawn r scope trace form report looks text
+drawn_both r scope form trace report looks slips dialogue lent text printed drawn same is = (slips, printed, dialogue, drawn, is ∙ ap (λ (l : List ℕ). slips ++ l) same)
 
--- the dialogue could not be read, before anything was written
+pub found_written : (r : Reading) (scope : Scope) (form : ReportForm) (zone : Zone) (name : List ℕ) (trace : List ℕ) (report : Report) (drawn : List ℕ) (old new : Option (List ℕ)) (result : Result ReportSummary TraceFault)
+    → AnswersReport (zone_for form zone) r scope trace (Ok report) → IsDrawn r scope trace form report (looks_of report) drawn → AnswersFound form name report drawn old new result → AnswersWritten r scope form zone name trace old new result
+found_written r scope form zone name trace report drawn old new (Ok summary) answers is (appends, sum) = (report, answers, drawn, is, appends, sum)
+found_written r scope form zone name trace report drawn old new (Err Memory) answers is kept = kept
+found_written r scope form zone name trace report drawn old new (Err Write) answers is prefix = (report, answers, drawn, is, prefix)
+found_written r scope form zone name trace report drawn old new (Err (Trace number what)) answers is never = absurd never
+found_written r scope form zone name trace report drawn old new (Err TooLong) answers is never = absurd never
+found_written r scope form zone name trace report drawn old new (Err Read) answers is never = absurd never
+
+-- what failed is the reading of the slips, or of the dialogue
+pub no_slips : (r : Reading) (scope : Scope) (form : ReportForm) (trace : List ℕ) (report : Report) (looks : List Look) (fault : TraceFault)
+    → AnswersSlips r scope trace form report looks (Err fault) → AnswersDrawn r scope trace form report looks (Err fault)
+no_slips r scope form trace report looks (Trace number what) broken = broken
+no_slips r scope form trace report looks Memory done = tt
+no_slips r scope form trace report looks Write never = absurd never
+no_slips r scope form trace report looks TooLong never = absurd never
+no_slips r scope form trace report looks Read never = absurd never
+
+pub no_dialogue : (r : Reading) (scope : Scope) (form : ReportForm) (trace : List ℕ) (report : Report) (looks : List Look) (fault : TraceFault)
+    → AnswersDialogue r scope trace form report looks (Err fault) → AnswersDrawn r scope trace form report looks (Err fault)
+no_dialogue r scope form trace report looks (Trace number what) broken = broken
+no_dialogue r scope form trace report looks Memory done = tt
+no_dialogue r scope form trace report looks Write never = absurd never
+no_dialogue r scope form trace report looks TooLong never = absurd never
+no_dialogue r scope form trace report looks Read never = absurd never
+
+-- the events could not be read again, before anything was written
 pub none_written : (r : Reading) (scope : Scope) (form : ReportForm) (zone : Zone) (name : List ℕ) (trace : List ℕ) (report : Report) (looks : List Look) (held : Option (List ℕ)) (fault : TraceFault)
-    → AnswersDialogue r scope trace form report looks (Err fault) → AnswersWritten r scope form zone name trace held held (Err fault)
+    → AnswersDrawn r scope trace form report looks (Err fault) → AnswersWritten r scope form zone name trace held held (Err fault)
 none_written r scope form zone name trace report looks held (Trace number what) broken = (broken, keeps_same held)
 none_written r scope form zone name trace report looks held Memory done = keeps_same held
 none_written r scope form zone name trace report looks held Write never = absurd never

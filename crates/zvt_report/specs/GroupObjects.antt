@@ -6,6 +6,7 @@ use Rattle.serde_json.specs.Data.{Data, string, array, object, Items, no_items, 
 use Rattle.serde_json.specs.Written.{compact_text}
 use Rattle.zvt_json.specs.Strings.{count_value}
 use Rattle.zvt_report.specs.CardTotals.{brand_name, is_used}
+use Rattle.zvt_report.specs.declared.card_totals.CardBrand.{CardBrand}
 use Rattle.zvt_report.specs.declared.card_totals.CardBrand.TheVariants.{Girocard, Jcb, Visa}
 use Rattle.zvt_report.specs.declared.card_totals.CardGroup.{CardGroup}
 
@@ -23,8 +24,11 @@ groups_value groups = array (group_items groups)
 
 -- ---- the same text, as it is written
 
+unfoldable pub named_words : CardBrand → List ℕ
+named_words brand = codes "{\"card\":\"" ++ brand_name brand ++ codes "\",\"count\":"
+
 abbrev pub group_words : CardGroup → List ℕ
-group_words group = codes "{\"card\":\"" ++ brand_name group.brand ++ codes "\",\"count\":" ++ decimal group.count ++ codes ",\"sum\":" ++ decimal group.sum ++ codes "}"
+group_words group = named_words group.brand ++ decimal group.count ++ codes ",\"sum\":" ++ decimal group.sum ++ codes "}"
 
 -- ---- rows worked by hand
 

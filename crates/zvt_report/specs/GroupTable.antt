@@ -21,9 +21,12 @@ line_if_used decimals group = cond (is_used group) (group_line decimals group) [
 abbrev pub group_lines : Decimals → List CardGroup → List ℕ
 group_lines decimals groups = flat_map (line_if_used decimals) groups
 
+unfoldable pub headed_lines : Decimals → List CardGroup → List ℕ
+headed_lines decimals groups = codes "\n  Terminal by card  Count         Amount\n" ++ group_lines decimals groups
+
 -- a heading and a line for each group that has a payment or a sum; nothing if no group has
 abbrev pub groups_table : Decimals → List CardGroup → List ℕ
-groups_table decimals groups = cond (list_any is_used groups) (codes "\n  Terminal by card  Count         Amount\n" ++ group_lines decimals groups) []
+groups_table decimals groups = cond (list_any is_used groups) (headed_lines decimals groups) []
 
 unfoldable pub groups_part : Decimals → Option CardTotals → List ℕ
 groups_part decimals None = []
@@ -41,7 +44,7 @@ some_totals count sum =
 
 two_groups : groups_part Two (some_totals 12 3424)
     ≡ codes "\n  Terminal by card  Count         Amount\n" ++ codes "  girocard             12          34.24\n" ++ codes "  American Express     12           0.00\n"
-unfolding amount_column digits group_line groups_part
+unfolding amount_column digits group_line groups_part headed_lines
 two_groups = refl
 
 no_group : groups_part Two (some_totals 0 0) ≡ []

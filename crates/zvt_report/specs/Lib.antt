@@ -65,3 +65,8 @@ pub mod PageEvents
 pub mod Dialogue
 pub mod Hidden
 pub mod Files
+pub mod Masking
+pub mod Slips
+pub mod SlipObjects
+pub mod PageSlips
+pub mod SlipWalk

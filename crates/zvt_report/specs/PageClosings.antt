@@ -49,10 +49,13 @@ closing_rows decimals closings place (row ∷ rows) = both (closing_of decimals 
 unfoldable pub closings_table : Decimals → List (Option Closing) → List OrderRow → Html
 closings_table decimals closings rows = table close_columns (closing_rows decimals closings 0 rows)
 
--- the table under its heading, and the totals by card, if an order closed a day
+-- the table under its heading, and the totals by card
+unfoldable pub titled_closings : Decimals → List (Option Closing) → List OrderRow → Html
+titled_closings decimals closings rows = both (leaf H2 [] (codes "End of day")) (both (closings_table decimals closings rows) (group_tables decimals closings 0 rows))
+
+-- both, if an order closed a day
 unfoldable pub closings_section : Decimals → List (Option Closing) → List OrderRow → Html
-closings_section decimals closings rows =
-    cond (list_any is_some closings) (both (leaf H2 [] (codes "End of day")) (both (closings_table decimals closings rows) (group_tables decimals closings 0 rows))) nothing
+closings_section decimals closings rows = cond (list_any is_some closings) (titled_closings decimals closings rows) nothing
 
 -- ---- a row worked by hand
 

@@ -1,7 +1,10 @@
 -- What is written of a report.
-use Rattle.std.specs.Prelude.{◌≡◌, ℕ, ◌<◌, ◌≤◌, List, length, Option, Result, Ok, Err}
+use Rattle.std.specs.Prelude.{◌≡◌, ℕ, ◌<◌, ◌≤◌, List, ◌++◌, length, Option, Result, Ok, Err}
 use Rattle.std.specs.Io.KnownBytes.{Appends, Keeps}
+use Rattle.std.specs.Str.Lines.{lines}
 use Rattle.zvt_grammar.specs.Reading.{Reading}
+use Rattle.zvt_trace.specs.Emitting.{BrokenTrace}
+use Rattle.zvt_trace.specs.TraceEvent.{At}
 use Rattle.zvt_trace.specs.Written.{AppendsPrefix, limit}
 use Rattle.zvt_trace.specs.declared.fault.TraceFault.{TraceFault}
 use Rattle.zvt_trace.specs.declared.fault.TraceFault.TheVariants.{Memory, Read, TooLong, Trace, Write}
@@ -11,6 +14,7 @@ use Rattle.zvt_report.specs.LookList.{urgent_count}
 use Rattle.zvt_report.specs.Looks.{looks}
 use Rattle.zvt_report.specs.JsonReport.{report_json}
 use Rattle.zvt_report.specs.Reports.{AnswersReport}
+use Rattle.zvt_report.specs.SlipWalk.{AreSlips}
 use Rattle.zvt_report.specs.Page.{report_page}
 use Rattle.zvt_report.specs.TextReport.{report_text}
 use Rattle.zvt_report.specs.declared.cases.Look.{Look}
@@ -29,18 +33,33 @@ zone_for Text zone = zone
 zone_for Json zone = utc
 zone_for Page zone = zone
 
--- the text, the objects or the page of a report with these looks; only the page has the name of the file and the dialogue
-abbrev pub report_in : ReportForm → (name : List ℕ) → Report → List Look → (dialogue : List ℕ) → List ℕ
-report_in Text name report found dialogue = report_text report.tally report.currency report.terminal report.times report.books report.messages.items report.closings.items found
-report_in Json name report found dialogue = report_json report.tally report.currency report.terminal report.times report.books report.messages.items report.closings.items found
-report_in Page name report found dialogue = report_page name report.tally report.currency report.terminal report.times report.books report.messages.items report.closings.items found dialogue
+-- the text, the objects or the page of a report with these looks; only the page has the name of the file
+abbrev pub report_in : ReportForm → (name : List ℕ) → Report → List Look → (drawn : List ℕ) → List ℕ
+report_in Text name report found drawn = report_text report.tally report.currency report.terminal report.times report.books report.messages.items report.closings.items found
+report_in Json name report found drawn = report_json report.tally report.currency report.terminal report.times report.books report.messages.items report.closings.items found drawn
+report_in Page name report found drawn = report_page name report.tally report.currency report.terminal report.times report.books report.messages.items report.closings.items found drawn
 
 -- the looks that its orders need
 abbrev pub looks_of : Report → List Look
 looks_of report = looks report.books.book report.closings.items report.statements.items report.messages.items report.books.orders
 
-abbrev pub written : ReportForm → (name : List ℕ) → Report → (dialogue : List ℕ) → List ℕ
-written form name report dialogue = report_in form name report (looks_of report) dialogue
+abbrev pub written : ReportForm → (name : List ℕ) → Report → (drawn : List ℕ) → List ℕ
+written form name report drawn = report_in form name report (looks_of report) drawn
+
+-- ---- the events
+
+-- the slips of a trace and then its dialogue, as far as the form has them
+abbrev pub IsDrawn : Reading → Scope → (trace : List ℕ) → ReportForm → Report → List Look → List ℕ → Type 0
+IsDrawn r scope trace form report looks drawn =
+    (slips : List ℕ) × AreSlips r scope trace form report looks slips × (dialogue : List ℕ) × IsDialogue r scope trace form report looks dialogue × (drawn ≡ slips ++ dialogue)
+
+abbrev pub AnswersDrawn : Reading → Scope → (trace : List ℕ) → ReportForm → Report → List Look → Result (List ℕ) TraceFault → Type 0
+AnswersDrawn r scope trace form report looks (Ok drawn) = IsDrawn r scope trace form report looks drawn
+AnswersDrawn r scope trace form report looks (Err (Trace number what)) = (events : List At) × BrokenTrace r scope (lines trace) number what events
+AnswersDrawn r scope trace form report looks (Err Memory) = Unit {0}
+AnswersDrawn r scope trace form report looks (Err Write) = ⊥
+AnswersDrawn r scope trace form report looks (Err TooLong) = ⊥
+AnswersDrawn r scope trace form report looks (Err Read) = ⊥
 
 -- ---- the summary
 
@@ -50,25 +69,25 @@ summed_up report = record { tally = report.tally; acts = urgent_count (looks_of 
 -- ---- the answer
 
 -- What the writing of a report in that form answers. If a write failed, a prefix of the text is written.
-abbrev pub AnswersFound : ReportForm → (name : List ℕ) → Report → (dialogue : List ℕ) → (old new : Option (List ℕ)) → Result ReportSummary TraceFault → Type 0
-AnswersFound form name report dialogue old new (Ok summary) = Appends old new (written form name report dialogue) × (summary ≡ summed_up report)
-AnswersFound form name report dialogue old new (Err Memory) = Keeps old new
-AnswersFound form name report dialogue old new (Err Write) = AppendsPrefix old new (written form name report dialogue)
-AnswersFound form name report dialogue old new (Err (Trace number what)) = ⊥
-AnswersFound form name report dialogue old new (Err TooLong) = ⊥
-AnswersFound form name report dialogue old new (Err Read) = ⊥
+abbrev pub AnswersFound : ReportForm → (name : List ℕ) → Report → (drawn : List ℕ) → (old new : Option (List ℕ)) → Result ReportSummary TraceFault → Type 0
+AnswersFound form name report drawn old new (Ok summary) = Appends old new (written form name report drawn) × (summary ≡ summed_up report)
+AnswersFound form name report drawn old new (Err Memory) = Keeps old new
+AnswersFound form name report drawn old new (Err Write) = AppendsPrefix old new (written form name report drawn)
+AnswersFound form name report drawn old new (Err (Trace number what)) = ⊥
+AnswersFound form name report drawn old new (Err TooLong) = ⊥
+AnswersFound form name report drawn old new (Err Read) = ⊥
 
 -- What a report answers that is written in this form, by that reading of lengths, and with what a refusal leaves unread. If it
 -- fails, nothing is written, but of a write that failed a prefix of the text.
 abbrev pub AnswersWritten : Reading → Scope → ReportForm → Zone → (name : List ℕ) → (trace : List ℕ) → (old new : Option (List ℕ)) → Result ReportSummary TraceFault → Type 0
 AnswersWritten r scope form zone name trace old new (Ok summary) =
-    (report : Report) × AnswersReport (zone_for form zone) r scope trace (Ok report) × (dialogue : List ℕ) × IsDialogue r scope trace form report (looks_of report) dialogue
-    × Appends old new (written form name report dialogue) × (summary ≡ summed_up report)
+    (report : Report) × AnswersReport (zone_for form zone) r scope trace (Ok report) × (drawn : List ℕ) × IsDrawn r scope trace form report (looks_of report) drawn
+    × Appends old new (written form name report drawn) × (summary ≡ summed_up report)
 AnswersWritten r scope form zone name trace old new (Err (Trace number what)) = AnswersReport (zone_for form zone) r scope trace (Err (Trace number what)) × Keeps old new
 AnswersWritten r scope form zone name trace old new (Err Memory) = Keeps old new
 AnswersWritten r scope form zone name trace old new (Err Write) =
-    (report : Report) × AnswersReport (zone_for form zone) r scope trace (Ok report) × (dialogue : List ℕ) × IsDialogue r scope trace form report (looks_of report) dialogue
-    × AppendsPrefix old new (written form name report dialogue)
+    (report : Report) × AnswersReport (zone_for form zone) r scope trace (Ok report) × (drawn : List ℕ) × IsDrawn r scope trace form report (looks_of report) drawn
+    × AppendsPrefix old new (written form name report drawn)
 AnswersWritten r scope form zone name trace old new (Err TooLong) = ⊥
 AnswersWritten r scope form zone name trace old new (Err Read) = ⊥
 

@@ -176,7 +176,7 @@ fn is_in(ranges: &[(u64, u64)], line: u64) -> bool
 }
 
 /// Whether a line is shown.
-fn is_within(ranges: &Option<Vec<(u64, u64)>>, line: u64) -> bool
+pub(crate) fn is_within(ranges: &Option<Vec<(u64, u64)>>, line: u64) -> bool
     ensures { result ≡ is_within (option_map (λ ranges. ranges.items) ranges.now) line }
 {
     match ranges {
@@ -236,7 +236,7 @@ fn shown_lines(
 }
 
 /// Returns the lines that the page of this report shows, or `None` if it shows all.
-fn lines_of(
+pub(crate) fn lines_of(
     alloc: Global,
     report: &Report,
     looks: &[Look],

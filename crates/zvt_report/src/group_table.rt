@@ -2,7 +2,8 @@
 ghost use Rattle.std.specs.Prelude.{◌≡◌, ◌++◌, OnOk};
 ghost use Rattle.std.specs.List.{list_any};
 ghost use Rattle.zvt_report.specs.CardTotals.{is_used};
-ghost use Rattle.zvt_report.specs.GroupTable.{group_line, group_lines, groups_part, groups_table, line_if_used};
+ghost use Rattle.zvt_report.specs.GroupTable.{group_line, group_lines, groups_part, groups_table, headed_lines};
+ghost use Rattle.zvt_report.specs.GroupTable.{line_if_used};
 
 use crate::amounts::amount_column;
 use crate::card_totals::{CardGroup, CardTotals, is_used};
@@ -57,6 +58,15 @@ pub(crate) fn any_used(groups: &[CardGroup]) -> bool
     groups.iter().any(|group| is_used(group))
 }
 
+/// Writes the heading and the lines.
+#[tactic(auto, unfolding(crate::specs::GroupTable::headed_lines))]
+fn headed_lines(text: &mut Text, decimals: Decimals, groups: &[CardGroup]) -> Result<(), AllocError>
+    ensures { OnOk result (text.new ≡ text.old ++ headed_lines decimals groups.now) }
+{
+    text.word(b"\n  Terminal by card  Count         Amount\n")?;
+    group_lines(text, decimals, groups)
+}
+
 /// Writes the table, if a group has a payment or a sum.
 fn groups_table(text: &mut Text, decimals: Decimals, groups: &[CardGroup]) -> Result<(), AllocError>
     ensures { OnOk result (text.new ≡ text.old ++ groups_table decimals groups.now) }
@@ -64,8 +74,7 @@ fn groups_table(text: &mut Text, decimals: Decimals, groups: &[CardGroup]) -> Re
     if !any_used(groups) {
         return Ok(());
     }
-    text.word(b"\n  Terminal by card  Count         Amount\n")?;
-    group_lines(text, decimals, groups)
+    headed_lines(text, decimals, groups)
 }
 
 /// Writes the table of these totals, if there are any.

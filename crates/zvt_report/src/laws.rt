@@ -8,6 +8,7 @@ ghost use Rattle.zvt_report.specs.Reported.{EachOrderHasAMessage, EachReversalNa
 ghost use Rattle.zvt_report.specs.Page.{ReportsAreDocuments};
 ghost use Rattle.zvt_report.specs.Places.{PlacesNameEntries};
 ghost use Rattle.zvt_report.specs.Reading.{ObjectsReadBack};
+ghost use Rattle.zvt_report.specs.SlipObjects.{SlipsReadBack};
 ghost use Rattle.zvt_report.specs.Wrapping.{BreaksOnlyAtBlanks, LinesFit};
 
 /// A day has the same payments, booked and unclear, as the books of its log.
@@ -85,6 +86,12 @@ pub fn each_reversal_names_an_entry()
 /// from its text: its members are in the order of their names, and each is there once.
 pub fn objects_read_back()
     ensures { ObjectsReadBack }
+{}
+
+/// If the numbers of the object of a slip fit into 64 bits, the reader of the crate `serde_json` gives the object back
+/// from its text.
+pub fn slips_read_back()
+    ensures { SlipsReadBack }
 {}
 
 /// The payments that a day booked have the entries of its book, each one once, in the same order.

@@ -1,23 +1,31 @@
 //! Writes the totals by card.
 ghost use Rattle.std.specs.Prelude.{◌≡◌, ◌++◌, false, OnOk};
 ghost use Rattle.serde_json.specs.Written.{comma_if, compact_text, items_text};
-ghost use Rattle.zvt_report.specs.GroupObjects.{group_items, group_value, group_words, groups_value};
+ghost use Rattle.zvt_report.specs.GroupObjects.{group_items, group_value, group_words, groups_value, named_words};
 
-use crate::card_totals::{CardGroup, is_used};
+use crate::card_totals::{CardBrand, CardGroup, is_used};
 use crate::members::write_comma;
 use std::alloc::AllocError;
 use zvt_text::Text;
+
+/// Writes what comes before the count of a group.
+#[tactic(auto, unfolding(crate::specs::GroupObjects::named_words))]
+fn named_words(text: &mut Text, brand: CardBrand) -> Result<(), AllocError>
+    ensures { OnOk result (text.new ≡ text.old ++ named_words brand) }
+{
+    text.word(b"{\"card\":\"")?;
+    text.word(brand.name().as_bytes())?;
+    text.word(b"\",\"count\":")
+}
 
 /// Writes the words of a group.
 fn group_words(text: &mut Text, group: &CardGroup) -> Result<(), AllocError>
     ensures { OnOk result (text.new ≡ text.old ++ group_words group.now) }
 {
-    text.word(b"{\"card\":\"")?;
-    text.word(group.brand.name().as_bytes())?;
-    text.word(b"\",\"count\":")?;
-    text.number(u128::from(group.count))?;
+    named_words(text, group.brand)?;
+    text.number(group.count)?;
     text.word(b",\"sum\":")?;
-    text.number(u128::from(group.sum))?;
+    text.number(group.sum)?;
     text.word(b"}")
 }
 

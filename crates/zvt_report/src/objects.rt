@@ -29,8 +29,8 @@ use zvt_text::Text;
 use zvt_till::Sent;
 use zvt_trace::Tally;
 
-/// Writes an object for the whole trace, then one per order that a person should look at, and then one per order.
-/// `messages` has the message of each order.
+/// Writes an object for the whole trace, then one per order that a person should look at, then one per order, and then
+/// the objects of slips. `messages` has the message of each order.
 pub(crate) fn write(
     text: &mut Text,
     note: &mut Text,
@@ -42,15 +42,17 @@ pub(crate) fn write(
     messages: &[OrderMessage],
     closings: &[Option<Closing>],
     looks: &[Look],
+    slips: &[u8],
 ) -> Result<(), AllocError>
     ensures { OnOk result (text.new ≡ text.old
-        ++ report_json tally currency.now terminal times.now books.now messages.now closings.now looks.now) }
+        ++ report_json tally currency.now terminal times.now books.now messages.now closings.now looks.now slips.now) }
 {
     summary(
         text, tally, *currency, terminal, times, books, messages, looks,
     )?;
     look_lines(text, note, *currency, books, messages, closings, looks)?;
-    order_rows(text, books, messages, closings)
+    order_rows(text, books, messages, closings)?;
+    text.word(slips)
 }
 
 /// Writes one object per look.

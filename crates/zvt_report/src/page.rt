@@ -163,7 +163,8 @@ fn page_with(
     dialogue: &[u8],
 ) -> Result<(), AllocError>
     ensures { OnOk result (page.new ≡ page.old
-        ++ page_with name.now money.now tally terminal times.now books.now messages.now closings.now looks.now dialogue.now) }
+        ++ page_with name.now money.now tally terminal times.now books.now messages.now closings.now looks.now
+        dialogue.now) }
 {
     skip_link(page)?;
     start(page, Element::Main, b"page", None)?;
@@ -192,7 +193,8 @@ pub(crate) fn write(
     dialogue: &[u8],
 ) -> Result<(), AllocError>
     ensures { OnOk result (page.new ≡ page.old
-        ++ report_page name.now tally currency terminal times.now books.now messages.now closings.now looks.now dialogue.now) }
+        ++ report_page name.now tally currency terminal times.now books.now messages.now closings.now looks.now
+        dialogue.now) }
 {
     let mut note = Text::new(alloc);
     let money = money_of(currency);

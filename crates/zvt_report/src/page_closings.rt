@@ -3,7 +3,7 @@ ghost use Rattle.std.specs.Prelude.{◌≡◌, ◌++◌, is_some, OnOk};
 ghost use Rattle.std.specs.List.{list_any};
 ghost use Rattle.zvt_page.specs.Html.{render};
 ghost use Rattle.zvt_report.specs.PageClosings.{close_columns, closing_of, closing_row, closing_rows, closings_section};
-ghost use Rattle.zvt_report.specs.PageClosings.{closings_table, gap_text, less_text};
+ghost use Rattle.zvt_report.specs.PageClosings.{closings_table, gap_text, less_text, titled_closings};
 ghost use Rattle.zvt_report.specs.PageParts.{amount_or_nothing};
 
 use crate::amounts::amount;
@@ -155,6 +155,21 @@ fn has_closing(closings: &[Option<Closing>]) -> bool
     closings.iter().any(|closing| closing.is_some())
 }
 
+/// Writes the table under its heading, and the totals by card.
+fn titled_closings(
+    page: &mut Text,
+    note: &mut Text,
+    decimals: Decimals,
+    closings: &[Option<Closing>],
+    rows: &[OrderRow],
+) -> Result<(), AllocError>
+    ensures { OnOk result (page.new ≡ page.old ++ render (titled_closings decimals closings.now rows.now)) }
+{
+    leaf(page, Element::H2, b"", b"End of day")?;
+    closings_table(page, note, decimals, closings, rows)?;
+    group_tables(page, note, decimals, closings, rows)
+}
+
 /// Writes the table under its heading, and the totals by card, if an order closed a day.
 #[tactic(auto, unfolding(crate::specs::PageClosings::closings_section))]
 pub(crate) fn closings_section(
@@ -169,7 +184,5 @@ pub(crate) fn closings_section(
     if !has_closing(closings) {
         return Ok(());
     }
-    leaf(page, Element::H2, b"", b"End of day")?;
-    closings_table(page, note, decimals, closings, rows)?;
-    group_tables(page, note, decimals, closings, rows)
+    titled_closings(page, note, decimals, closings, rows)
 }

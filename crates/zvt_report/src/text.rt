@@ -117,8 +117,8 @@ fn report_in(
     clock_notes(text, times)
 }
 
-/// Writes the report of a trace: the day, its hours and the terminal, what it comes to, the orders that a person should look at, the
-/// tables of orders, the ends of day, and how much of the trace was read. Fails only if memory runs out.
+/// Writes the report of a trace: its head, what the day comes to, the orders that a person should look at, the tables
+/// of orders, the ends of day, and how much of the trace was read. Fails only if memory runs out.
 pub(crate) fn write(
     alloc: Global,
     text: &mut Text,

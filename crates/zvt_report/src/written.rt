@@ -3,7 +3,7 @@ ghost use Rattle.std.specs.Prelude.{◌≡◌, ◌+◌, ◌++◌, ◌<◌, ◌�
 ghost use Rattle.std.specs.Io.KnownBytes.{Consumes};
 ghost use Rattle.zvt_grammar.specs.Lengths.{reading_of};
 ghost use Rattle.zvt_trace.specs.Written.{limit};
-ghost use Rattle.zvt_report.specs.Written.{AnswersFound, AnswersReadWritten, AnswersWritten};
+ghost use Rattle.zvt_report.specs.Written.{AnswersDrawn, AnswersFound, AnswersReadWritten, AnswersWritten};
 ghost use Rattle.zvt_report.specs.Written.{looks_of, report_in, summed_up, zone_for};
 
 use crate::cases::{Look, looks};
@@ -11,6 +11,7 @@ use crate::dialogue::dialogue_in;
 use crate::form::ReportForm;
 use crate::look_list::urgent_count;
 use crate::report::{Report, report_trace};
+use crate::slips::slips_in;
 use crate::zones::Zone;
 use crate::{objects, page, text};
 use std::alloc::{AllocError, Global};
@@ -30,7 +31,8 @@ pub struct ReportSummary {
 }
 
 /// Writes the report of the trace in this form. Text and pages show times on the clock of `zone`; objects have them in
-/// UTC. Only a page has the `name` of the file, which is empty if there is none, and the dialogue of the trace.
+/// UTC. Only a page has the `name` of the file, which is empty if there is none, and the dialogue of the trace. Objects
+/// and pages have its slips.
 /// `lengths` selects the accepted forms of length, and `scope` says how much is not read after a refused message, as
 /// for [`report_trace`].
 ///
@@ -52,7 +54,7 @@ pub fn write_report<W: Sink>(
 {
     let report = report_trace(alloc, zone_for(form, zone), scope, lengths, trace)?;
     let looks = looks_of(alloc, &report)?;
-    let dialogue = dialogue_in(
+    let drawn = drawn_in(
         alloc,
         form,
         scope,
@@ -67,7 +69,7 @@ pub fn write_report<W: Sink>(
         name,
         &report,
         looks.as_slice(),
-        dialogue.bytes(),
+        drawn.bytes(),
         writer,
     )
 }
@@ -103,6 +105,25 @@ pub fn read_report<R: Source, W: Sink>(
     )
 }
 
+/// Returns the slips of a trace and then its dialogue, as far as a report of this form has them.
+fn drawn_in(
+    alloc: Global,
+    form: ReportForm,
+    scope: Scope,
+    lengths: Lengths,
+    report: &Report,
+    looks: &[Look],
+    trace: &[u8],
+) -> Result<Text, TraceFault>
+    requires { length trace.now ≤ limit }
+    ensures { AnswersDrawn (reading_of lengths) scope trace.now form report.now looks.now result }
+{
+    let mut drawn = slips_in(alloc, form, scope, lengths, report, looks, trace)?;
+    let dialogue = dialogue_in(alloc, form, scope, lengths, report, looks, trace)?;
+    drawn.word(dialogue.bytes())?;
+    Ok(drawn)
+}
+
 /// Returns the zone in which a report of this form has its times.
 fn zone_for(form: ReportForm, zone: Zone) -> Zone
     ensures { result ≡ zone_for form zone }
@@ -128,22 +149,22 @@ pub(crate) fn looks_of(alloc: Global, report: &Report) -> Result<Vec<Look>, Allo
     )
 }
 
-/// Writes a report in this form with its looks and its dialogue, and returns its findings.
+/// Writes a report in this form with its looks, its slips and its dialogue, and returns its findings.
 fn write_found<W: Sink>(
     alloc: Global,
     form: ReportForm,
     name: &[u8],
     report: &Report,
     looks: &[Look],
-    dialogue: &[u8],
+    drawn: &[u8],
     writer: &mut W,
 ) -> Result<ReportSummary, TraceFault>
     requires { looks.now ≡ looks_of report.now }
-    ensures writes { AnswersFound form name.now report.now dialogue.now (W.written writer.old) (W.written writer.new)
+    ensures writes { AnswersFound form name.now report.now drawn.now (W.written writer.old) (W.written writer.new)
         result }
     ensures write { result ≡ Err TraceFault.Write → W.failures writer.old < W.failures writer.new }
 {
-    let text = text_of(alloc, form, name, report, looks, dialogue)?;
+    let text = text_of(alloc, form, name, report, looks, drawn)?;
     writer.write_all(text.bytes())?;
     Ok(summed_up(report, looks))
 }
@@ -160,17 +181,17 @@ pub(crate) fn summed_up(report: &Report, looks: &[Look]) -> ReportSummary
     }
 }
 
-/// Writes the page of a report with these looks and this dialogue.
+/// Writes the page of a report with these looks, slips and dialogue.
 fn write_page(
     alloc: Global,
     text: &mut Text,
     name: &[u8],
     report: &Report,
     looks: &[Look],
-    dialogue: &[u8],
+    drawn: &[u8],
 ) -> Result<(), AllocError>
     ensures { OnOk result (text.new ≡ text.old
-        ++ report_in ReportForm.Page name.now report.now looks.now dialogue.now) }
+        ++ report_in ReportForm.Page name.now report.now looks.now drawn.now) }
 {
     page::write(
         alloc,
@@ -184,7 +205,7 @@ fn write_page(
         report.messages.as_slice(),
         report.closings.as_slice(),
         looks,
-        dialogue,
+        drawn,
     )
 }
 
@@ -195,9 +216,9 @@ fn text_of(
     name: &[u8],
     report: &Report,
     looks: &[Look],
-    dialogue: &[u8],
+    drawn: &[u8],
 ) -> Result<Text, AllocError>
-    ensures { IfOk result (λ text. text ≡ report_in form name.now report.now looks.now dialogue.now) }
+    ensures { IfOk result (λ text. text ≡ report_in form name.now report.now looks.now drawn.now) }
 {
     let books = &report.books;
     let messages = report.messages.as_slice();
@@ -227,8 +248,9 @@ fn text_of(
             messages,
             closings,
             looks,
+            drawn,
         )?,
-        ReportForm::Page => write_page(alloc, &mut text, name, report, looks, dialogue)?,
+        ReportForm::Page => write_page(alloc, &mut text, name, report, looks, drawn)?,
     }
     Ok(text)
 }

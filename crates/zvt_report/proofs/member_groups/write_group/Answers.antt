@@ -1,4 +1,4 @@
-use Rattle.std.proofs.Common.{◌≡◌, ◌∙◌, ◌++◌, ap, sym, List, ℕ, append_assoc}
+use Rattle.std.proofs.Common.{◌∙◌, ◌++◌, ap, List, ℕ, append_assoc}
 use Rattle.serde_json.specs.Written.{comma_if}
 use Rattle.zvt_report.proofs.GroupLemmas.{group_said}
 use Rattle.zvt_report.proofs.TextLemmas.{completes}

@@ -1,0 +1,19 @@
+use Rattle.std.proofs.lemmas.Result.{err_from_is_err_and}
+use Rattle.zvt_grammar.specs.Lengths.{reading_of}
+use Rattle.zvt_report.proofs.WrittenLemmas.{drawn_both, no_dialogue, no_slips}
+use Rattle.zvt_report.proofs.written.drawn_in.Goals as goal
+
+pub returns-in_err-drawn : goal.returns-in_err-drawn
+returns-in_err-drawn c =
+    let p = err_from_is_err_and c.from_residual.result c.from_residual.ensures.1 in
+    rw (p.1, p.2) (no_slips (reading_of c.args.lengths) c.args.scope c.args.form c.args.trace.now c.args.report.now c.args.looks.now c.in_err-drawn.field-0.0 c.in_err-drawn.ensures)
+
+pub returns-in_err-dialogue : goal.returns-in_err-dialogue
+returns-in_err-dialogue c =
+    let p = err_from_is_err_and c.from_residual-in_err-dialogue.result c.from_residual-in_err-dialogue.ensures.1 in
+    rw (p.1, p.2) (no_dialogue (reading_of c.args.lengths) c.args.scope c.args.form c.args.trace.now c.args.report.now c.args.looks.now c.in_err-dialogue.field-0.0 c.in_err-dialogue.ensures)
+
+pub returns : goal.returns
+returns c =
+    drawn_both (reading_of c.args.lengths) c.args.scope c.args.form c.args.trace.now c.args.report.now c.args.looks.now c.in_ok-drawn.drawn c.in_ok-dialogue.dialogue c.bytes.result.now _
+    c.in_ok-drawn.ensures c.in_ok-dialogue.ensures c.bytes.ensures c.in_ok-word.ensures
