@@ -29,7 +29,7 @@ POLICY = "default-src 'none'; style-src 'unsafe-inline'; base-uri 'none'; form-a
 VOID = {"meta"}
 SPEAKERS = {"till", "terminal", "bad", "lost"}
 MOST = 2000  # messages of a trace whose dialogue is shown whole, and events on a page
-ELEMENTS = {"html", "head", "meta", "title", "style", "body", "a", "main", "header", "h1", "h2", "h3", "p", "dl", "div", "dt", "dd", "ol", "li", "pre", "span", "table", "thead", "tbody", "tr", "th", "td", "footer"}
+ELEMENTS = {"html", "head", "meta", "title", "style", "body", "a", "main", "header", "h1", "h2", "h3", "p", "dl", "div", "dt", "dd", "ol", "li", "pre", "span", "table", "thead", "tbody", "tr", "th", "td", "footer", "section"}
 ATTRIBUTES = {"lang", "charset", "name", "content", "http-equiv", "class", "href", "id", "scope"}
 check = Checks()
 
@@ -80,7 +80,7 @@ class Page(HTMLParser):
         return [one["attributes"][attribute] for one in self.elements if attribute in one["attributes"]]
 
 
-def well_formed(name, page):
+def well_formed(name, page, titles=1):
     """Whatever the report says, the page is one."""
     check(f"the markup of {name}", page.faults, [])
     check(f"the document type of {name}", page.doctype, "DOCTYPE html")
@@ -90,7 +90,7 @@ def well_formed(name, page):
     check(f"the language of {name}", page.values("lang"), ["en"])
     check(f"the columns of {name}", [one for one in page.elements if one["tag"] == "th" and one["attributes"].get("scope") != "col"], [])
     levels = [int(one["tag"][1]) for one in page.elements if re.fullmatch("h[1-6]", one["tag"])]
-    check(f"the headings of {name}", levels[:1] == [1] and all(b <= a + 1 for a, b in zip(levels, levels[1:])) and levels.count(1) == 1, True)
+    check(f"the headings of {name}", levels[:1] == [1] and all(b <= a + 1 for a, b in zip(levels, levels[1:])) and levels.count(1) == titles, True)
     style, = page.texts("style")
     check(f"the style of {name}", re.findall(r"<|@import|url\(|expression", style), [])
     check(f"the characters of {name}", [letter for one in page.elements[:1] for letter in one["text"] if ord(letter) < 32 and letter != "\n"], [])
@@ -325,11 +325,37 @@ def marked_up():
     check("markup in a print line", [words.decode().replace('"', "\\x22") in one["text"] for one in events(page)], [True])
 
 
+def several():
+    """One page about several files has an index with their figures, and each report without its dialogue."""
+    names = ["twice.trace", "none.trace", "refusals.trace", "twice.trace"]
+    status, text, reported = run(["report", "--html", *names], folder=STORED)
+    page, wanted = Page(text), []
+    check("several files", (status, reported), (4, "zvt: 'none.trace': cannot open the trace: No such file or directory (os error 2)\n"))
+    well_formed("several files", page, titles=4)
+    for name in names:
+        if name == "none.trace":
+            wanted.append([name, "not read"])
+            continue
+        objects = [json.loads(line) for line in run(["report", "--json", name], folder=STORED)[1].splitlines()]
+        said = objects[0]["summary"]
+        acts = sum(one["look"]["weight"] == "act" for one in objects if "look" in one)
+        wanted.append([name, f"{said['net'] // 100}.{said['net'] % 100:02d} EUR", str(said["unclear"] + said["reversals_unclear"]), str(acts)])
+    index = text[text.index("<tbody>"):text.index("</tbody>")]
+    check("the index", [re.findall("<td[^>]*>(?:<a [^>]*>)?([^<]*)", row) for row in index.split("</tr>")[:-1]], wanted)
+    check("where the index leads", [link for link in page.values("href") if link.startswith("#f")], ["#f1", "#f3", "#f4"])
+    sections = re.findall('<section id="f([0-9]+)">(.*?)</section>', text, re.DOTALL)
+    check("the sections", [number for number, _ in sections], ["1", "3", "4"])
+    for (number, section), name in zip(sections, ["twice.trace", "refusals.trace", "twice.trace"]):
+        alone = (STORED / name).with_suffix(".html").read_text()
+        whole = alone[alone.index("<header>"):alone.index("<footer>")].replace('id="look"', f'id="f{number}-look"')
+        check(f"the report {number}", whole.startswith(section[:section.index("<footer>")]), True)
+    check("no stranger's trace", run(["report", "--html", "twice.trace", "/dev/null"], folder=STORED)[0], 0)
+
+
 def refused():
     """What cannot be written is refused."""
-    both, several = "zvt: '--html' does not go with '--json': leave one of them out\n", "zvt: '--html' takes one FILE: write a page for each\n"
+    both = "zvt: '--html' does not go with '--json': leave one of them out\n"
     check("a page and JSON", run(["report", "--html", "--json", "tests/data/report/twice.trace"]), (2, "", both))
-    check("a page of two files", run(["report", "--html", "tests/data/report/twice.trace", "tests/data/report/refusals.trace"]), (2, "", several))
     check("a page of a file that is not there", run(["report", "--html", "none.trace"])[:2], (run(["report", "none.trace"])[0], ""))
 
 
@@ -343,6 +369,7 @@ def main():
     stored()
     hostile()
     marked_up()
+    several()
     refused()
     print(f"{check.verdict}: {len(pages)} pages, {check.count} comparisons")
     return check.status

@@ -2,6 +2,7 @@
 use crate::finish::finish_trace;
 use crate::notes::{faulty_line, report_counts, report_hint, report_notes};
 use crate::output::Output;
+use crate::pages::write_page;
 use crate::progress::Progress;
 use crate::reports::{NO_TRACE, report, report_failed, report_invalid};
 use crate::text_blocks::report_text_blocks;
@@ -32,7 +33,7 @@ impl<'a> Input<'a> {
     }
 
     /// Returns the name of the file, if the trace is in one.
-    fn path(&self) -> Option<&'a str> {
+    pub fn path(&self) -> Option<&'a str> {
         if self.file == "-" {
             None
         } else {
@@ -117,6 +118,7 @@ pub fn work_on(rt: &HostRuntime, command: &TraceCommand<'_>) -> io::Result<u8> {
             )?;
             Ok(WORDS)
         }
+        files if command.html => write_page(rt, command, files),
         files => work_on_all(rt, command, files),
     }
 }
@@ -155,10 +157,6 @@ fn takes_page(rt: &HostRuntime, command: &TraceCommand<'_>) -> io::Result<bool> 
             rt,
             "'--html' does not go with '--json': leave one of them out",
         )?;
-        return Ok(false);
-    }
-    if command.files.len() > 1 {
-        report(rt, "'--html' takes one FILE: write a page for each")?;
         return Ok(false);
     }
     Ok(true)

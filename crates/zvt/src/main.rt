@@ -15,6 +15,7 @@ mod inputs;
 mod notes;
 mod one_file;
 mod output;
+mod pages;
 mod play;
 mod progress;
 mod reports;

@@ -1,6 +1,9 @@
 //! The commands on a trace.
 ghost use Rattle.std.specs.Prelude.{◌≡◌, ◌<◌, ◌≤◌, false, length, map, [], Err, IfOk};
+ghost use Rattle.zvt_grammar.specs.Lengths.{reading_of};
 ghost use Rattle.zvt_trace.specs.Written.{limit};
+ghost use Rattle.zvt_report.specs.Files.{AnswersAdded};
+ghost use Rattle.zvt_tool.specs.TraceCommands.{work_scope};
 ghost use Rattle.zvt_tool.specs.OnTrace.{AnswersOnTrace, FollowsTrace, file_name, report_of, tally_of};
 
 use crate::trace_command::{TraceCommand, TraceWork};
@@ -8,7 +11,7 @@ use crate::vector_check::vectors;
 use std::alloc::Global;
 use zvt_audit::{AuditSummary, audit_trace, follow_audit};
 use zvt_io::{Over, Sink, Source};
-use zvt_report::{ReportSummary, read_report, write_report};
+use zvt_report::{FilesPage, ReportSummary, Zone, read_report, write_report};
 use zvt_show::{follow_trace, render_trace};
 use zvt_trace::{Tally, TraceFault};
 
@@ -81,6 +84,31 @@ pub fn follow_work<R: Source, W: Sink>(
         }
         TraceWork::Vectors(form) => found(alloc, vectors(alloc, form, reader, writer)),
     }
+}
+
+/// Adds the report on a trace to a page, as the file with this name at this place, counted from 1. The command says how
+/// the trace is read.
+///
+/// Returns the same as [`work_on_trace`]. Fails as [`FilesPage::add`] does.
+pub fn add_to_page(
+    alloc: Global,
+    command: &TraceCommand<'_>,
+    zone: Zone,
+    page: &mut FilesPage,
+    place: usize,
+    name: &str,
+    trace: &[u8],
+) -> Result<AuditSummary, TraceFault>
+    requires { length trace.now ≤ limit }
+    ensures { AnswersAdded (reading_of command.now.lengths) (work_scope command.now.work command.now.reads_on) zone
+        place name.now trace.now page.old page.new (report_of result) }
+{
+    let scope = command.scope();
+    let lengths = command.lengths;
+    reported(
+        alloc,
+        page.add(zone, place, name.as_bytes(), scope, lengths, trace),
+    )
 }
 
 /// Returns the name of the command's first file. Standard input has none.

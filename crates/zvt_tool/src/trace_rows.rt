@@ -112,7 +112,7 @@ Example:
                 "Exit with 1 if there is a case that someone must act on",
             ),
             CommandOption::Flag("json", help::JSON),
-            CommandOption::Flag("html", "Write a page for a browser, about one FILE"),
+            CommandOption::Flag("html", "Write a page for a browser, with an index of several FILEs"),
             CommandOption::Value(
                 "zone",
                 "+HH:MM",
