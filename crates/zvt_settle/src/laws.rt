@@ -1,6 +1,7 @@
 //! Laws of every till that settles, each stated as the contract of an empty function.
 ghost use Rattle.zvt_settle.specs.Ledgers.{SameLedgerDecides, OnePaymentDecides, OneReversalDecides};
 ghost use Rattle.zvt_settle.specs.Rows.{RowsHold};
+ghost use Rattle.zvt_settle.specs.Story.{SettlingMeetsLog};
 ghost use Rattle.zvt_settle.specs.StoryRows.{StoriesHold, GivenAgain};
 ghost use Rattle.zvt_settle.specs.AskedWorld.{WorldsCountOnce};
 ghost use Rattle.zvt_settle.specs.Laws.{CountsOnce, OnlyTheSame, PaidIsEarned};
@@ -32,6 +33,12 @@ pub fn rows_hold()
 /// Twelve logs, and what they settle: by the steps of the till, and by their whole orders and asks.
 pub fn stories_hold()
     ensures { StoriesHold }
+{}
+
+/// Whatever log a till can have whose reversals must be named, its steps settle what the whole orders and asks of the
+/// log settle.
+pub fn settling_meets_log()
+    ensures { SettlingMeetsLog }
 {}
 
 /// With the simulated terminal, and whatever arrives late, repeatedly or never, no trace number counts twice.
