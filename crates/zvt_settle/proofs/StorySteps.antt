@@ -318,12 +318,11 @@ idle-after settings past r e =
     asks-open w b b.till.settings b.till.running b.settling.asking r.inv.tie closed
 
 can-take : (settings : Settings) (past : List Note) (n : Note) → Reached settings past → CanNote settings past n → CanTake (both_after settings past) n
-can-take settings past (Line h) r k =
-    (
-      subst (λ (f : Facts). CanFollow (both_after settings past).till.settings f h) (sym (facts-after settings past r.allowed))
+can-take settings past (Line h) r k = (
+  subst (λ (f : Facts). CanFollow (both_after settings past).till.settings f h) (sym (facts-after settings past r.allowed))
       (subst (λ (x : Settings). CanFollow x (facts_in settings.rules (lines past)) h) (sym (settings-after settings past)) k.0),
-      free-note settings past (both_after settings past) h (idle-after settings past r) k.1,
-    )
+  free-note settings past (both_after settings past) h (idle-after settings past r) k.1,
+)
 can-take settings past Asked r k = (ap (λ f. line_refusal f CloseDayOrder) (facts-after settings past r.allowed) ∙ k.0, idle-after settings past r k.1)
 
 still-allowed : (settings : Settings) (past : List Note) (n : Note) → IsLog settings (lines past) → CanNote settings past n → IsLog settings (lines (past ++ n ∷ []))
