@@ -100,6 +100,9 @@ left-asking s order AsBefore place = refl
 pub ended-asking : (s : Settling) (order : Order) (out : Outcome) (place : ℕ) → (ended s order out place).asking ≡ s.asking
 ended-asking s order out place = ap (λ x. x.asking) (by-left s order out place) ∙ left-asking s order (left_of out) place
 
+pub ended-settled : (s : Settling) (order : Order) (out : Outcome) (place : ℕ) → (ended s order out place).settled ≡ s.settled
+ended-settled s order out place = ap (λ x. x.settled) (by-left s order out place) ∙ left-settled s order (left_of out) place
+
 -- what the till knows as its order ends, and the chapter up to then
 pub record Before (o : Sent) (sum : Sum) (book : List Entry) (loose : List (ℕ × Cause)) (s : Settling) (hs : List Happening) : Type 0 where
   pub rows : map row_of book ≡ sum.books.booked
@@ -282,10 +285,10 @@ closing-known h (UnclearOutcome cause) p e = cc
 closing-known h Reversed p e = p.0
 closing-known h DayClosed p e = cc
 
-plain-register : Plain RegisterOrder
+pub plain-register : Plain RegisterOrder
 plain-register = ((λ place. refl), register-known)
 
-plain-closing : Plain CloseDayOrder
+pub plain-closing : Plain CloseDayOrder
 plain-closing = ((λ place. refl), closing-known)
 
 pub register-ends : (own : ℕ) (force : Option ℕ) (sum : Sum) (book : List Entry) (unclear : List (ℕ × Cause)) (s : Settling) (hs : List Happening) (h : Happening) (out : Outcome)
