@@ -65,7 +65,7 @@ connect-stage own before now asked t s k =
     (subst (λ a. Stage own (map row_of t.book) t.unclear before now [] s None a []) (sym k.asking)
     (record { known = connected own before now asked t s k; no_request = refl; no_word = refl }))
 
-down-of : (down : Bool) (own : ℕ) (before now : List Row) (asked : List Word) (t : TillState) (s : Settling) (rest : List Heard) → down ≡ true → Stands down own before now asked t s rest → Down own before now asked t s
+pub down-of : (down : Bool) (own : ℕ) (before now : List Row) (asked : List Word) (t : TillState) (s : Settling) (rest : List Heard) → down ≡ true → Stands down own before now asked t s rest → Down own before now asked t s
 down-of true own before now asked t s rest e k = k
 down-of false own before now asked t s rest e k = absurd cc
 
@@ -135,7 +135,7 @@ terminal-reached own w c v lt up i =
     } in
     subst (λ o. Acts own w (terminal_meant w v o) (record c { to_terminal = c.to_terminal + 1 })) (sym next.is_next) here
 
-up-of : (down : Bool) (own : ℕ) (before now : List Row) (asked : List Word) (t : TillState) (s : Settling) (rest : List Heard) → down ≡ false → Stands down own before now asked t s rest
+pub up-of : (down : Bool) (own : ℕ) (before now : List Row) (asked : List Word) (t : TillState) (s : Settling) (rest : List Heard) → down ≡ false → Stands down own before now asked t s rest
     → (t.line_up ≡ true) × StageAt own before now asked t s rest
 up-of true own before now asked t s rest e k = absurd cc
 up-of false own before now asked t s rest e k = k
@@ -247,10 +247,10 @@ accept-book t Cancel = refl
 accept-settings : (t : TillState) (o : Order) → (accept t o).settings ≡ t.settings
 accept-settings t o = settings-accepted t (Some o)
 
-abbrev refuses_by : Facts → Option Bool → Order → Option OrderRefusal
+abbrev pub refuses_by : Facts → Option Bool → Order → Option OrderRefusal
 refuses_by f asking o = elim asking [ None ↦ refusal f o | Some positive ↦ Some Busy ]
 
-no-refusal : (f : Facts) (asking : Option Bool) (o : Order) → refuses_by f asking o ≡ None → (asking ≡ None) × (refusal f o ≡ None)
+pub no-refusal : (f : Facts) (asking : Option Bool) (o : Order) → refuses_by f asking o ≡ None → (asking ≡ None) × (refusal f o ≡ None)
 no-refusal f None o e = (refl, e)
 no-refusal f (Some positive) o e = absurd cc
 
@@ -288,11 +288,11 @@ orders-hold own w c o None e i =
       settles = inl (sent-settled w.settling o);
     }
 
-no-ask-refusal : (f : Facts) (asking : Option Bool) → ask_refusal f asking ≡ None → (asking ≡ None) × (line_refusal f CloseDay ≡ None)
+pub no-ask-refusal : (f : Facts) (asking : Option Bool) → ask_refusal f asking ≡ None → (asking ≡ None) × (line_refusal f CloseDay ≡ None)
 no-ask-refusal f None e = (refl, e)
 no-ask-refusal f (Some positive) e = absurd cc
 
-off-line : (f : Facts) → f.line_up ≡ false → line_refusal f CloseDay ≡ None → ⊥
+pub off-line : (f : Facts) → f.line_up ≡ false → line_refusal f CloseDay ≡ None → ⊥
 off-line f e r = by_line f.line_up e r
   where
     by_line : (b : Bool) → b ≡ false → cond b (session_refusal f CloseDay) (Some Offline) ≡ None → ⊥

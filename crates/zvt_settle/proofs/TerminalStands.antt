@@ -44,13 +44,13 @@ speech s said = words (map heard_of said) ++ words (script_of s.phase)
 
 -- ---- a message that asks for nothing
 
-record Unheeded (s t : TerminalState) (said : List Report) : Type 0 where
-  ledger : t.ledger ≡ s.ledger
-  registered : t.registered ≡ s.registered
-  currency : t.currency ≡ s.currency
-  says : speech t said ≡ words (script_of s.phase)
+pub record Unheeded (s t : TerminalState) (said : List Report) : Type 0 where
+  pub ledger : t.ledger ≡ s.ledger
+  pub registered : t.registered ≡ s.registered
+  pub currency : t.currency ≡ s.currency
+  pub says : speech t said ≡ words (script_of s.phase)
 
-abort-unheeded : (s : TerminalState) (v : Verdict) → Unheeded s (after_on s (Plain AbortOrder) v) (said_on s (Plain AbortOrder) v)
+pub abort-unheeded : (s : TerminalState) (v : Verdict) → Unheeded s (after_on s (Plain AbortOrder) v) (said_on s (Plain AbortOrder) v)
 abort-unheeded s v = record { ledger = append-nil s.ledger; registered = refl; currency = refl; says = refl }
 
 record Moved (s t : TerminalState) : Type 0 where
@@ -65,7 +65,7 @@ answer-moves s Completing = record { ledger = append-nil s.ledger; registered = 
 answer-moves s (Aborting code) = record { ledger = append-nil s.ledger; registered = refl; currency = refl }
 answer-moves s Ending = record { ledger = append-nil s.ledger; registered = refl; currency = refl }
 
-answer-unheeded : (s : TerminalState) (v : Verdict) → Unheeded s (after_on s (Plain Answer) v) (said_on s (Plain Answer) v)
+pub answer-unheeded : (s : TerminalState) (v : Verdict) → Unheeded s (after_on s (Plain Answer) v) (said_on s (Plain Answer) v)
 answer-unheeded s v =
     let k = answer-moves s s.phase in record { ledger = k.ledger; registered = k.registered; currency = k.currency; says = answer-says s v }
 
@@ -156,7 +156,7 @@ closing-spoken own s v keeps =
     (record { ledger = append-nil s.ledger; keeps = keeps; says = λ quiet. quiet })
     (record { ledger = append-nil s.ledger; keeps = keeps; says = λ quiet. refl })
 
-report-heard : (row : Row) → heard_of (report_of_row row) ≡ Status (status_of_row row)
+pub report-heard : (row : Row) → heard_of (report_of_row row) ≡ Status (status_of_row row)
 report-heard row = by_kind row.reverses row.currency
   where
     by_kind : (o c : Option ℕ)
@@ -198,13 +198,13 @@ taking-hears own rows o before s t said st m q x quiet alone same none nothing t
     by_result (inr k) = Unsaid k.0 alone (k.1 ∙ ap (λ l. l ++ k.0 ∷ []) same) k.2 none nothing k.3
 
 -- the message of the order that runs was the only one, and nothing was to be said
-record Alone (m n : Word) (q : List Word) (said : List Heard) (s : TerminalState) : Type 0 where
-  word : m ≡ n
-  last : q ≡ []
-  heard : said ≡ []
-  quiet : words (script_of s.phase) ≡ []
+pub record Alone (m n : Word) (q : List Word) (said : List Heard) (s : TerminalState) : Type 0 where
+  pub word : m ≡ n
+  pub last : q ≡ []
+  pub heard : said ≡ []
+  pub quiet : words (script_of s.phase) ≡ []
 
-alone : (m n : Word) (q : List Word) (said : List Heard) (s : TerminalState) → m ∷ q ≡ n ∷ [] → said ++ words (script_of s.phase) ≡ [] → Alone m n q said s
+pub alone : (m n : Word) (q : List Word) (said : List Heard) (s : TerminalState) → m ∷ q ≡ n ∷ [] → said ++ words (script_of s.phase) ≡ [] → Alone m n q said s
 alone m n q said s e p = record { word = cc; last = cc; heard = nothing-first said (words (script_of s.phase)) p; quiet = nothing-last said (words (script_of s.phase)) p }
 
 abbrev TurnOfOrder : (own : ℕ) → List Booked → TerminalState → Word → Verdict → Order → Type 0

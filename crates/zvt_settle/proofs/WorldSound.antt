@@ -59,7 +59,7 @@ act-holds own w c (Does TerminalLost) e i = terminal-lost own w c i
 act-holds own w c Asks e i = asks-hold own w c (ask_refusal (facts_of w.till) w.settling.asking) refl i
 
 -- by the messages themselves
-act-means-so : (own : ℕ) (w : Ends) (c : Line) (x : Act) → FitAct x → Fit w → act_orderly (length w.from_till) (length w.from_terminal) c x ≡ true → Holds own (meaning w) c
+pub act-means-so : (own : ℕ) (w : Ends) (c : Line) (x : Act) → FitAct x → Fit w → act_orderly (length w.from_till) (length w.from_terminal) c x ≡ true → Holds own (meaning w) c
     → Acts own (meaning w) (meaning (act w x)) (cable_after (length w.from_till) (length w.from_terminal) c x)
 act-means-so own w c x f k e i =
     let m : length (map word_of w.from_till) ≡ length w.from_till = length-map w.from_till word_of in
@@ -87,7 +87,7 @@ reach-all own w c (x ∷ acts) more f k i e =
     let later = orderly_from (act w x) next (acts ++ more) in
     reach-all own (act w x) next acts more f.1 (act-fit w x f.0 k) (act-means-so own w c x f.0 k (and-left now later e) i).holds (and-right now later e)
 
-at-first : Holds run_settings.currency (meaning new_ends) no_line
+pub at-first : Holds run_settings.currency (meaning new_ends) no_line
 at-first =
     record {
       till_sent = omega arith;
@@ -101,7 +101,7 @@ at-first =
       stands = record { line = refl; running = refl; asking = refl; lost = Settled (record { last = λ f e. absurd cc; waits = λ p e. absurd cc }) (inl refl) };
     }
 
-fit-last : (acts : List Act) (x : Act) → FitActs (acts ++ x ∷ []) → FitAct x
+pub fit-last : (acts : List Act) (x : Act) → FitActs (acts ++ x ∷ []) → FitAct x
 fit-last [] x f = f.0
 fit-last (y ∷ acts) x f = fit-last acts x f.1
 

@@ -3,7 +3,7 @@ ghost use Rattle.zvt_settle.specs.Ledgers.{SameLedgerDecides, OnePaymentDecides,
 ghost use Rattle.zvt_settle.specs.Rows.{RowsHold};
 ghost use Rattle.zvt_settle.specs.Story.{SettlingMeetsLog};
 ghost use Rattle.zvt_settle.specs.StoryRows.{StoriesHold, GivenAgain};
-ghost use Rattle.zvt_settle.specs.AskedWorld.{Sound, WorldsCountOnce};
+ghost use Rattle.zvt_settle.specs.AskedWorld.{Complete, Sound, WorldsCountOnce};
 ghost use Rattle.zvt_settle.specs.Laws.{CountsOnce, OnlyTheSame, PaidIsEarned};
 
 /// Whatever the terminal says, no trace number counts twice, neither in the book nor among the payments that were
@@ -52,6 +52,12 @@ pub fn worlds_count_once()
 /// payment was settled as paid, or a reversal as having happened, only if its row is the one that the ledger grew by.
 pub fn settlements_are_sound()
     ensures { Sound }
+{}
+
+/// With the simulated terminal, and over lines that keep the order of messages, an ask that ends by a message while an
+/// order is pending settles that order.
+pub fn settlements_are_complete()
+    ensures { Complete }
 {}
 
 /// If the ledger of the simulated terminal did not grow, its answer settles the order as not having happened.
