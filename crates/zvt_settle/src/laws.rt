@@ -48,8 +48,8 @@ pub fn worlds_count_once()
     zvt_till::laws::traces_stay_distinct();
 }
 
-/// With the simulated terminal, and over lines that keep the order of messages, every settlement agrees with the ledger: a
-/// payment was settled as paid, or a reversal as having happened, only if its row is the one that the ledger grew by.
+/// With the simulated terminal, and over lines that keep the order of messages, the ledger agrees with every settlement: it
+/// grew by the row of the order and no other, or by none if the order did not happen.
 pub fn settlements_are_sound()
     ensures { Sound }
 {}
