@@ -42,7 +42,7 @@ use Rattle.zvt_settle.proofs.TalkStands.{on-fresh, on-keeps, own-at, own-more, o
 -- what an act does
 pub record Acts (own : ℕ) (w v : Meant) (c : Line) : Type 0 where
   pub holds : Holds own v c
-  pub settles : Settles v.till v.before v.terminal.ledger w.settling.settled v.settling.settled
+  pub settles : Settles v.till v.before v.terminal.ledger w.settling.settled v.settling.settled w.settling.pending
 
 -- ---- connections
 

@@ -31,7 +31,7 @@ use Rattle.zvt_settle.proofs.StatusStands.{found-entry}
 
 -- ---- what a settlement says of the ledger
 
-abbrev PaidIn : TillState → (before now : List Row) → (trace : ℕ) → Option (ℕ × Cause) → Type 0
+abbrev pub PaidIn : TillState → (before now : List Row) → (trace : ℕ) → Option (ℕ × Cause) → Type 0
 PaidIn t before now trace None = ⊥
 PaidIn t before now trace (Some row) = now ≡ before ++ payment_row trace row.0 t.settings.currency ∷ []
 
@@ -45,6 +45,14 @@ SoIn t before now (Paid place trace receipt) = PaidIn t before now trace (slice_
 SoIn t before now (NotPaid place) = now ≡ before
 SoIn t before now (Reversed entry) = ReversedIn t before now (slice_get t.book entry)
 SoIn t before now (NotReversed entry) = now ≡ before
+
+-- the settlement is of what is pending
+abbrev pub IsFor : What → Settlement → Type 0
+IsFor (Payment place a) (Paid settled t r) = settled ≡ place
+IsFor (Payment place a) (NotPaid settled) = settled ≡ place
+IsFor (Reversal e) (Reversed settled) = Unit {0}
+IsFor (Reversal e) (NotReversed settled) = Unit {0}
+IsFor w s = ⊥
 
 -- ---- numbers
 
@@ -85,10 +93,15 @@ pub record Decides (t : TillState) (s : Settling) (before now : List Row) (p : P
   pub is : decision t.settings.currency t.book (used_traces t.book s.settled) p f ≡ Some settlement
   pub so : SoIn t before now settlement
   pub paid : AreOfRows (counted settlement) now
+  pub of_what : IsFor p.what settlement
 
 did-not-so : (t : TillState) (before now : List Row) (w : What) → now ≡ before → SoIn t before now (did_not w)
 did-not-so t before now (Payment place a) e = e
 did-not-so t before now (Reversal i) e = e
+
+did-not-for : (w : What) → IsFor w (did_not w)
+did-not-for (Payment place a) = refl
+did-not-for (Reversal i) = tt
 
 did-not-paid : (now : List Row) (w : What) → AreOfRows (counted (did_not w)) now
 did-not-paid now (Payment place a) = λ t e. absurd cc
@@ -107,6 +120,7 @@ same-decides t s before now p f old new same =
           ∙ same_ledger_decides currency t.book used old.row p.what;
       so = did-not-so t before now p.what same;
       paid = did-not-paid now p.what;
+      of_what = did-not-for p.what;
     }
 
 row-number : (before now : List Row) (row : Row) → NumberedFrom 1 now → now ≡ before ++ row ∷ [] → row.number ≡ length before + 1
@@ -140,6 +154,7 @@ payment-decides t s before now p f place a row what old new unclear numbered fir
           (subst (λ l. NumberedFrom 1 l) old.is first) (subst (λ l. AreOfRows traces l) old.is used) (subst (λ (l : List Row). next ≡ length l + 1) old.is number);
       so = subst (λ o. PaidIn t before now next o) (sym unclear.1) (grew ∙ ap (λ (r : Row). before ++ r ∷ []) is);
       paid = λ n e. let eq = one-number next n e in let size : length now ≡ length before + 1 = ap length grew ∙ length-append before (row ∷ []) in omega arith;
+      of_what = subst (λ w. IsFor w (Paid place next (Some (digits 2 next)))) (sym what) refl;
     }
 
 reversal-decides : (t : TillState) (s : Settling) (before now : List Row) (p : Pending) (f : StatusFacts) (place : ℕ) (row : Row) (x : Entry) → p.what ≡ Reversal place
@@ -161,6 +176,7 @@ reversal-decides t s before now p f place row x what old new numbered first foun
           (subst (λ l. NumberedFrom 1 l) old.is first) (subst (λ (l : List Row). next ≡ length l + 1) old.is number) found few;
       so = subst (λ o. ReversedIn t before now o) (sym found) (next, grew ∙ ap (λ (r : Row). before ++ r ∷ []) is);
       paid = λ n e. absurd cc;
+      of_what = subst (λ w. IsFor w (Reversed place)) (sym what) tt;
     }
 
 -- the status of the last row settles what is pending

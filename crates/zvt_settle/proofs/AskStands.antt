@@ -22,21 +22,23 @@ use Rattle.zvt_settle.specs.declared.deciding.StatusSoFar.TheVariants.{Nothing, 
 use Rattle.zvt_settle.specs.Deciding.{status_after, one_status}
 use Rattle.zvt_settle.specs.Ledgers.{AreOfRows}
 use Rattle.zvt_settle.specs.Settling.{Settling, counted, paid_traces, answer_by, decided, answered, asked, met}
-use Rattle.zvt_settle.proofs.AnswerDecides.{SoIn, answer-decides}
+use Rattle.zvt_settle.proofs.AnswerDecides.{SoIn, IsFor, answer-decides}
 use Rattle.zvt_settle.proofs.AskedMeans.{Word, Beyond}
 use Rattle.zvt_settle.proofs.HearingStands.{Met}
 use Rattle.zvt_settle.proofs.OrderEnds.{with_status}
 use Rattle.zvt_settle.proofs.Standing.{IsLast, Waits, KnownBy, Goes, Repeats, Answers, Asking, Stage, AllIn}
 
 -- what an answer settled, if it settled anything
-abbrev pub Settles : TillState → (before now : List Row) → (old new : List Settlement) → Type 0
-Settles t before now old new = (new ≡ old) ⊎ ((x : Settlement) × (new ≡ old ++ x ∷ []) × SoIn t before now x)
+abbrev pub Settles : TillState → (before now : List Row) → (old new : List Settlement) → Option Pending → Type 0
+Settles t before now old new pending = (new ≡ old) ⊎ ((x : Settlement) × (new ≡ old ++ x ∷ []) × SoIn t before now x × (p : Pending) × (pending ≡ Some p) × IsFor p.what x)
 
 -- after a message
 pub record Told (own : ℕ) (before now : List Row) (requests : List Word) (rest : List Heard) (t u : TillState) (s v : Settling) : Type 0 where
   pub met : Met own before now requests rest u v
   pub paid : AreOfRows (paid_traces v.settled) now
-  pub settles : Settles u before now s.settled v.settled
+  pub settles : Settles u before now s.settled v.settled s.pending
+  -- what is pending then, if no order ran
+  pub pends : t.running ≡ None → ((v.pending ≡ s.pending) × (v.settled ≡ s.settled)) ⊎ (v.pending ≡ None)
 
 -- ---- the answer
 
@@ -54,13 +56,13 @@ both-rows xs ys ledger h k t e = by_part (list_any (λ x. nat_eq x t) xs) refl (
     by_part true is q = h t is
     by_part false is q = k t q
 
-record Decided (t : TillState) (before now : List Row) (old new : List Settlement) : Type 0 where
+record Decided (t : TillState) (before now : List Row) (old new : List Settlement) (pending : Option Pending) : Type 0 where
   paid : AreOfRows (paid_traces new) now
-  settles : Settles t before now old new
+  settles : Settles t before now old new pending
 
 decided-by : (t : TillState) (before now : List Row) (s : Settling) (f : StatusFacts) (pending : Option Pending) → NumberedFrom 1 now → length now ≤ 9999
     → ((p : Pending) → pending ≡ Some p → Waits t.settings.currency (map row_of t.book) t.unclear (paid_traces s.settled) before now p) → IsLast now f → AreOfRows (paid_traces s.settled) now
-    → Decided t before now s.settled (Deciding t s f pending)
+    → Decided t before now s.settled (Deciding t s f pending) pending
 decided-by t before now s f None numbered few waits last paid =
     let same : s.settled ++ [] ≡ s.settled = append-nil s.settled in
     record { paid = subst (λ xs. AreOfRows (paid_traces xs) now) (sym same) paid; settles = inl same }
@@ -73,7 +75,7 @@ decided-by t before now s f (Some p) numbered few waits last paid =
       paid =
           subst (λ xs. AreOfRows (paid_traces xs) now) (sym grew)
           (subst (λ ts. AreOfRows ts now) (sym counts) (both-rows (paid_traces s.settled) (counted d.settlement) now paid d.paid));
-      settles = inr (d.settlement, grew, d.so);
+      settles = inr (d.settlement, grew, d.so, p, refl, d.of_what);
     }
 
 -- ---- while an ask runs
@@ -99,6 +101,7 @@ ask-on own before now requests rest t s accepted h idle e all paid known stage =
       };
       paid = paid;
       settles = inl refl;
+      pends = λ r. inl (refl, refl);
     })
 
 -- the ask ends
@@ -123,6 +126,7 @@ unanswered own before now t s h requests rest idle none empty all paid known =
       };
       paid = paid;
       settles = inl refl;
+      pends = λ r. inl (refl, refl);
     }
 
 -- the status of the last row
@@ -150,6 +154,7 @@ answers own before now t s h requests rest f currency idle none empty numbered f
       };
       paid = d.paid;
       settles = d.settles;
+      pends = λ r. inr refl;
     }
 
 -- what the ask that runs needs

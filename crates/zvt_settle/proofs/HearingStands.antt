@@ -36,7 +36,7 @@ pub record Met (own : ℕ) (before now : List Row) (asked : List Word) (rest : L
   pub books : AllIn own now (map row_of t.book)
 
 -- the order goes on, or ends
-abbrev running_till : TillState → Running → Happening → Bool → TillState
+abbrev pub running_till : TillState → Running → Happening → Bool → TillState
 running_till t r h b = cond b (finish t r.order (outcome_by t.book r.order r.statuses h)) (record t { running = Some (listened (demand_of t.settings.rules (Some t.settings.currency) t.book t.unclear r.order) r h) })
 
 abbrev pub running_settling : TillState → Running → Settling → Happening → Bool → Settling

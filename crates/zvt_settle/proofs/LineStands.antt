@@ -56,6 +56,7 @@ rest-hears own before now requests t s Positive q coming r idle silent k =
       };
       paid = r.paid;
       settles = inl refl;
+      pends = λ r. inl (refl, refl);
     }
 rest-hears own before now requests t s m q coming r idle silent k = let gone = k.no_word in absurd cc
 
@@ -63,10 +64,10 @@ running-settled : (t : TillState) (r : Running) (s : Settling) (h : Happening) (
 running-settled t r s h true = ended-settled (with_status s h) r.order (outcome_by t.book r.order r.statuses h) (length t.unclear)
 running-settled t r s h false = refl
 
-abbrev settling : Option Bool → StatusSoFar → Option StatusFacts → Option Pending → List Settlement → Settling
+abbrev pub settling : Option Bool → StatusSoFar → Option StatusFacts → Option Pending → List Settlement → Settling
 settling asking so_far last pending done = record { asking = asking; so_far = so_far; last = last; pending = pending; settled = done }
 
-hears-by : (own : ℕ) (before now : List Row) (requests : List Word) (k : Settings) (up g : Bool) (run : Option Running) (es : List Entry) (u : List (ℕ × Cause)) (lo : Option Outcome)
+pub hears-by : (own : ℕ) (before now : List Row) (requests : List Word) (k : Settings) (up g : Bool) (run : Option Running) (es : List Entry) (u : List (ℕ × Cause)) (lo : Option Outcome)
     (asking : Option Bool) (so_far : StatusSoFar) (last : Option StatusFacts) (pending : Option Pending) (done : List Settlement) (m : Heard) (q coming : List Heard)
     → let t : TillState = state k up g run es u lo in
     let s : Settling = settling asking so_far last pending done in
@@ -84,6 +85,7 @@ hears-by own before now requests k up g (Some r) es u lo None so_far last pendin
       met = run-hears own before now requests t r s m q coming refl ready.all stage;
       paid = subst (λ xs. AreOfRows (paid_traces xs) now) (sym same) ready.paid;
       settles = inl same;
+      pends = λ e. absurd cc;
     }
 hears-by own before now requests k up g (Some r) es u lo (Some accepted) so_far last pending done m q coming ready stage = absurd stage
 

@@ -71,10 +71,10 @@ answer-unheeded s v =
 
 -- ---- a payment or a reversal
 
-record Turned (own : ℕ) (rows : List Booked) (o : Order) (s t : TerminalState) (said : List Report) : Type 0 where
-  registered : t.registered ≡ s.registered
-  currency : t.currency ≡ s.currency
-  result : ((t.ledger ≡ s.ledger) × (words (script_of s.phase) ≡ [] → Denies (speech t said)))
+pub record Turned (own : ℕ) (rows : List Booked) (o : Order) (s t : TerminalState) (said : List Report) : Type 0 where
+  pub registered : t.registered ≡ s.registered
+  pub currency : t.currency ≡ s.currency
+  pub result : ((t.ledger ≡ s.ledger) × (words (script_of s.phase) ≡ [] → Denies (speech t said)))
       ⊎ ((row : Row) × (t.ledger ≡ s.ledger ++ row ∷ []) × RowFor own rows o row × Tells (status_of_row row) (speech t said))
 
 refusal-denies : (s : TerminalState) (code : ℕ) → (code == 0) ≡ false → words (script_of s.phase) ≡ [] → Denies (words (cond (code == 0) Positive (Negative code) ∷ []) ++ words (script_of s.phase))
@@ -207,7 +207,7 @@ pub record Alone (m n : Word) (q : List Word) (said : List Heard) (s : TerminalS
 pub alone : (m n : Word) (q : List Word) (said : List Heard) (s : TerminalState) → m ∷ q ≡ n ∷ [] → said ++ words (script_of s.phase) ≡ [] → Alone m n q said s
 alone m n q said s e p = record { word = cc; last = cc; heard = nothing-first said (words (script_of s.phase)) p; quiet = nothing-last said (words (script_of s.phase)) p }
 
-abbrev TurnOfOrder : (own : ℕ) → List Booked → TerminalState → Word → Verdict → Order → Type 0
+abbrev pub TurnOfOrder : (own : ℕ) → List Booked → TerminalState → Word → Verdict → Order → Type 0
 TurnOfOrder own rows s m v o = Turned own rows o s (after_on s m v) (said_on s m v)
 
 pay-turned : (own : ℕ) (rows : List Booked) (s : TerminalState) (m : Word) (v : Verdict) (a : ℕ) → (s.registered ≡ true → s.currency ≡ Some own) → FitsOrder own rows (Pay a) m → TurnOfOrder own rows s m v (Pay a)
@@ -306,16 +306,16 @@ stage-hears own rows loose before s m v q x (Some r) (Some accepted) said able k
 
 -- ---- after the till lost its line
 
-harmless-ledger : (own : ℕ) (rows : List Booked) (s : TerminalState) (m : Word) (v : Verdict) → (s.registered ≡ true → s.currency ≡ Some own) → Harmless own rows m → (after_on s m v).ledger ≡ s.ledger
+pub harmless-ledger : (own : ℕ) (rows : List Booked) (s : TerminalState) (m : Word) (v : Verdict) → (s.registered ≡ true → s.currency ≡ Some own) → Harmless own rows m → (after_on s m v).ledger ≡ s.ledger
 harmless-ledger own rows s m v keeps (inl f) = subst (λ y. (after_on s y v).ledger ≡ s.ledger) (sym f) (registration-spoken own s v keeps).ledger
 harmless-ledger own rows s m v keeps (inr (inl f)) = subst (λ y. (after_on s y v).ledger ≡ s.ledger) (sym f) (closing-spoken own s v keeps).ledger
 harmless-ledger own rows s m v keeps (inr (inr f)) = subst (λ y. (after_on s y v).ledger ≡ s.ledger) (sym f) (repeat-spoken own s v keeps).ledger
 
-what-turned : (own : ℕ) (rows : List Booked) (s : TerminalState) (m : Word) (v : Verdict) (w : What) → Able own rows s → FitsOrder own rows (order_of w) m → TurnOfOrder own rows s m v (order_of w)
+pub what-turned : (own : ℕ) (rows : List Booked) (s : TerminalState) (m : Word) (v : Verdict) (w : What) → Able own rows s → FitsOrder own rows (order_of w) m → TurnOfOrder own rows s m v (order_of w)
 what-turned own rows s m v (Payment place a) able f = pay-turned own rows s m v a able.keeps f
 what-turned own rows s m v (Reversal e) able f = reverse-turned own rows s m v e able.keeps able.named f
 
-grew-of : (own : ℕ) (rows : List Booked) (o : Order) (before : List Row) (s t : TerminalState) (said : List Report) → s.ledger ≡ before → Turned own rows o s t said → GrewFor own rows before t.ledger o
+pub grew-of : (own : ℕ) (rows : List Booked) (o : Order) (before : List Row) (s t : TerminalState) (said : List Report) → s.ledger ≡ before → Turned own rows o s t said → GrewFor own rows before t.ledger o
 grew-of own rows o before s t said same turned = by_result turned.result
   where
     by_result : ((t.ledger ≡ s.ledger) × (words (script_of s.phase) ≡ [] → Denies (speech t said)))

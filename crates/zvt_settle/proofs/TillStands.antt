@@ -127,7 +127,7 @@ stays-known : (own : ℕ) (rows : List Booked) (loose : List (ℕ × Cause)) (be
 stays-known own rows loose before now s last none = record { last = last; waits = λ p e. let n : None ≡ Some p = sym none ∙ e in absurd cc }
 
 -- only a payment that was paid adds a row
-same-rows : (book : List Entry) (o : Order) (out : Outcome) → (left_of out ≡ KnownLeft → ⊥) → map row_of (book_after book o out) ≡ map row_of book
+pub same-rows : (book : List Entry) (o : Order) (out : Outcome) → (left_of out ≡ KnownLeft → ⊥) → map row_of (book_after book o out) ≡ map row_of book
 same-rows book (Pay a) Registered n = refl
 same-rows book (Pay a) (Paid t r) n = absurd (n refl)
 same-rows book (Pay a) (Declined c) n = refl

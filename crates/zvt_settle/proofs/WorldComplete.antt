@@ -42,7 +42,7 @@ use Rattle.zvt_settle.proofs.WorldSound.{act-means-so, at-first}
 
 -- ---- each act
 
-terminal-next : (w : Meant) (c : Line) (k : ℕ) (v : Verdict) → is_orderly (length w.from_till) (length w.from_terminal) c (ToTerminal k v) ≡ true
+pub terminal-next : (w : Meant) (c : Line) (k : ℕ) (v : Verdict) → is_orderly (length w.from_till) (length w.from_terminal) c (ToTerminal k v) ≡ true
     → (k ≡ c.to_terminal) × (c.to_terminal < length w.from_till) × (c.terminal_lost ≡ false)
 terminal-next w c k v e =
     let named = k == c.to_terminal in
@@ -52,7 +52,7 @@ terminal-next w c k v e =
     let within : k < length w.from_till = ltb-true k (length w.from_till) (and-right named sent first) in
     (same, subst (λ n. n < length w.from_till) same within, not-true c.terminal_lost (and-right (named && sent) (not c.terminal_lost) e))
 
-till-next : (w : Meant) (c : Line) (k : ℕ) → is_orderly (length w.from_till) (length w.from_terminal) c (ToTill k) ≡ true → (k ≡ c.to_till) × (c.to_till < length w.from_terminal) × (c.till_lost ≡ false)
+pub till-next : (w : Meant) (c : Line) (k : ℕ) → is_orderly (length w.from_till) (length w.from_terminal) c (ToTill k) ≡ true → (k ≡ c.to_till) × (c.to_till < length w.from_terminal) × (c.till_lost ≡ false)
 till-next w c k e =
     let named = k == c.to_till in
     let sent = nat_lt k (length w.from_terminal) in

@@ -132,7 +132,7 @@ last-of (z ∷ xs) x y e = last-of xs x y cc
 one-more : (xs : List Settlement) (x : Settlement) → xs ≡ xs ++ x ∷ [] → ⊥
 one-more xs x e = let n : length xs ≡ length (xs ++ x ∷ []) = ap length e in absurd (omega (arith, n, length-append xs (x ∷ [])))
 
-settled-so : (w v : Ends) (s : Settlement) → Settles v.till v.ledger_before v.terminal.ledger w.settling.settled v.settling.settled → v.settling.settled ≡ w.settling.settled ++ s ∷ [] → IsSo v s
+settled-so : (w v : Ends) (s : Settlement) → Settles v.till v.ledger_before v.terminal.ledger w.settling.settled v.settling.settled w.settling.pending → v.settling.settled ≡ w.settling.settled ++ s ∷ [] → IsSo v s
 settled-so w v s (inl same) e = absurd (one-more w.settling.settled s (sym same ∙ e))
 settled-so w v s (inr k) e =
     let one : k.0 ≡ s = last-of w.settling.settled k.0 s (sym k.1 ∙ e) in so-is v s (subst (SoIn v.till v.ledger_before v.terminal.ledger) one k.2)

@@ -3,7 +3,7 @@ ghost use Rattle.zvt_settle.specs.Ledgers.{SameLedgerDecides, OnePaymentDecides,
 ghost use Rattle.zvt_settle.specs.Rows.{RowsHold};
 ghost use Rattle.zvt_settle.specs.Story.{SettlingMeetsLog};
 ghost use Rattle.zvt_settle.specs.StoryRows.{StoriesHold, GivenAgain};
-ghost use Rattle.zvt_settle.specs.AskedWorld.{Complete, Sound, WorldsCountOnce};
+ghost use Rattle.zvt_settle.specs.AskedWorld.{Complete, Exact, Sound, WorldsCountOnce};
 ghost use Rattle.zvt_settle.specs.Laws.{CountsOnce, OnlyTheSame, PaidIsEarned};
 
 /// Whatever the terminal says, no trace number counts twice, neither in the book nor among the payments that were
@@ -58,6 +58,12 @@ pub fn settlements_are_sound()
 /// order is pending settles that order.
 pub fn settlements_are_complete()
     ensures { Complete }
+{}
+
+/// With the simulated terminal, and over lines that keep the order of messages, the ledger has exactly the approvals that
+/// the entries and the payments settled as paid account for, once each unclear payment was settled.
+pub fn settlements_are_exact()
+    ensures { Exact }
 {}
 
 /// If the ledger of the simulated terminal did not grow, its answer settles the order as not having happened.
