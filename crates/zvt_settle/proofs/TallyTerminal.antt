@@ -34,10 +34,6 @@ order-as : (own : ℕ) (before now later : List Row) (rows : List Booked) (loose
     → OrderTally o own before now rows loose settled pending → OrderTally o own before later rows loose settled pending
 order-as own before now later rows loose settled pending o e k = subst (λ l. OrderTally o own before l rows loose settled pending) (sym e) k
 
-run-as : (own : ℕ) (before now later : List Row) (rows : List Booked) (loose : List (ℕ × Cause)) (settled : List Settlement) (pending : Option Pending) (run : Option Running) → later ≡ now
-    → RunTally run own before now rows loose settled pending → RunTally run own before later rows loose settled pending
-run-as own before now later rows loose settled pending run e k = subst (λ l. RunTally run own before l rows loose settled pending) (sym e) k
-
 -- what is tallied of the till
 abbrev pub TallyAt : (own : ℕ) → (before now : List Row) → TillState → Settling → Type 0
 TallyAt own before now t x = RunTally t.running own before now (map row_of t.book) t.unclear x.settled x.pending

@@ -50,9 +50,6 @@ Pays (Reverse e) = Unit {0}
 Pays CloseDay = ⊥
 Pays Cancel = ⊥
 
-row-as : (own : ℕ) (rows more : List Booked) (o : Order) (row : Row) → more ≡ rows → RowFor own rows o row → RowFor own more o row
-row-as own rows more o row e k = subst (λ x. RowFor own x o row) (sym e) k
-
 -- the rows of the book do not change as a payment or a reversal ends unclearly
 pub unclear-rows : (book : List Entry) (o : Order) (cause : Cause) → map row_of (book_after book o (UnclearOutcome cause)) ≡ map row_of book
 unclear-rows book Register cause = refl

@@ -48,8 +48,8 @@ pub fn worlds_count_once()
     zvt_till::laws::traces_stay_distinct();
 }
 
-/// With the simulated terminal, and over lines that keep the order of messages, the ledger agrees with every settlement: it
-/// grew by the row of the order and no other, or by none if the order did not happen.
+/// With the simulated terminal, and over lines that keep the order of messages, the ledger agrees with every
+/// settlement: it grew by the row of the order and no other, or by none if the order did not happen.
 pub fn settlements_are_sound()
     ensures { Sound }
 {}
@@ -60,8 +60,8 @@ pub fn settlements_are_complete()
     ensures { Complete }
 {}
 
-/// With the simulated terminal, and over lines that keep the order of messages, the ledger has exactly the approvals that
-/// the entries and the payments settled as paid account for, once each unclear payment was settled.
+/// With the simulated terminal, and over lines that keep the order of messages, and once each unclear payment was
+/// settled: the ledger has an approval for each entry and each payment settled as paid, and no other.
 pub fn settlements_are_exact()
     ensures { Exact }
 {}
