@@ -19,6 +19,8 @@ CAUSES = {
 DECIMALS = {"0352": 0, "0392": 0, "0414": 3, "0788": 3, **dict.fromkeys(
     ("0036", "0124", "0203", "0208", "0348", "0578", "0752", "0756", "0826", "0840", "0941", "0946", "0949", "0975", "0978", "0985"), 2)}
 DAY = 24 * 60 * 60
+# The result codes whose words a text has.
+PRINTED = ("00", "64", "6C", "6F", "83", "B4", "B5", "FF")
 NOT_BOOKED = ". The payment is not booked in this trace, so the net total does not change."
 REVERSAL_ADVICE = ("Look for the reversal in the terminal's journal before you give money back. You can also reverse the payment again: if the "
                    "terminal then answers B4, it had already taken the payment back.")
@@ -52,7 +54,7 @@ class Sentences:
         word, why = order.outcome
         if word == "unclear":
             return CAUSES[why]
-        return f"{why} {json_model.MEANINGS[why]}" if why in json_model.MEANINGS else f"code {why}"
+        return f"{why} {json_model.MEANINGS[why]}" if why in PRINTED else f"code {why}"
 
     def approved(self, order):
         return numbers(order.approval["line"], order.approval["trace"], order.approval["receipt"])

@@ -209,7 +209,7 @@ read_named o ms ns named order = λ fit.
 -- the member has this name, and a value without objects
 abbrev IsTold : Told → Name → Type 0
 IsTold None n = Unit {0}
-IsTold (Some t) n = (t.0 ≡ n) × ((ordered t.1 ≡ true) × (depth t.1 ≤ 1))
+IsTold (Some t) n = (t.0 ≡ n) × ((ordered t.1 ≡ true) × (depth t.1 ≤ 2))
 
 abbrev AreTold : List Told → List Name → Type 0
 AreTold [] ns = Unit {0}
@@ -235,7 +235,7 @@ told_ordered (Some t ∷ ts) (n ∷ ns) before found named order covers =
     (told_ordered ts ns (before ++ n ∷ []) (and_then found (member (name_text n) d no_members)) named.1 p.1 (covers_more before n d found covers))) in
     ap (λ (k : Name). members_ordered (member (name_text k) d (told ts)) found) named.0.0 ∙ all
 
-told_shallow : (ts : List Told) (ns : List Name) → AreTold ts ns → members_depth (told ts) ≤ 1
+told_shallow : (ts : List Told) (ns : List Name) → AreTold ts ns → members_depth (told ts) ≤ 2
 told_shallow [] ns named = omega arith
 told_shallow (t ∷ ts) [] named = absurd named
 told_shallow (None ∷ ts) (n ∷ ns) named = told_shallow ts ns named.1
