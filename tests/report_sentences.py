@@ -122,7 +122,7 @@ class Sentences:
     def ApprovedThenUndone(self, order, again, _):
         trace = order.undoing[1]
         return (f"{self.money(order.amount)} approved, then taken back",
-                f"The terminal approved {self.money(order.approval['amount'])}{self.approved(order)}, and then took it back{f', trace {trace}' if trace else ''}. "
+                f"The terminal approved {self.money(order.approval['amount'])}{self.approved(order)}, and then took it back{f' under trace {trace}' if trace else ''}. "
                 f"The payment is unclear: {self.reason(order)}.{self.later(order, again)}", None)
 
     def OtherAmount(self, order, again, _):
@@ -166,7 +166,7 @@ class Sentences:
     def ReversalElsewhere(self, order, _again, _):
         title, name = "Reversal of a payment that is not in this trace", f"receipt {order.receipt}" if order.receipt else "a payment"
         if order.outcome[0] == "unclear":
-            return title + " unclear", f"The reversal of {name} is unclear: {self.reason(order)}{NOT_BOOKED}", REVERSAL_ADVICE
+            return "Unclear r" + title[1:], f"The reversal of {name} is unclear: {self.reason(order)}{NOT_BOOKED}", REVERSAL_ADVICE
         return title, f"The terminal took back {name}{NOT_BOOKED}", "Look for the payment in an earlier trace."
 
     def OtherUnclear(self, order, _again, _):

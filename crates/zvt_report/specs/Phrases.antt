@@ -141,6 +141,11 @@ abbrev pub unless_earlier : Option (List ℕ) → List ℕ
 unless_earlier None = codes "If the receipt is not that of an earlier payment"
 unless_earlier (Some receipt) = codes "If no earlier payment has receipt " ++ encode_upper receipt
 
+-- the trace number of what took an approval back
+abbrev pub under_trace : Option ℕ → List ℕ
+under_trace None = []
+under_trace (Some trace) = codes " under trace " ++ zero_padded 6 trace
+
 -- ---- an order beside the book
 
 abbrev pub of_amount : Decimals → Option ℕ → List ℕ

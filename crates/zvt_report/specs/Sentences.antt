@@ -15,7 +15,7 @@ use Rattle.zvt_report.specs.CardTexts.{card_or_dash}
 use Rattle.zvt_report.specs.Differences.{distance_part, shares_part, totals_part}
 use Rattle.zvt_report.specs.Objects.{approved_of}
 use Rattle.zvt_report.specs.OtherTable.{money_name}
-use Rattle.zvt_report.specs.Phrases.{amount_of, amount_or_dash, twice_part, approval_part, entry_part, reason, again_part, likeness, paid_again_by, counted_part, maybe_payment_at, payment_at, payment_name, confirmed_by, confirmed_part, counted_as_paid, of_amount, trace_part}
+use Rattle.zvt_report.specs.Phrases.{amount_of, amount_or_dash, twice_part, approval_part, entry_part, reason, again_part, likeness, paid_again_by, counted_part, maybe_payment_at, payment_at, payment_name, confirmed_by, confirmed_part, counted_as_paid, of_amount, under_trace}
 use Rattle.zvt_report.specs.declared.cases.Case.{Case}
 use Rattle.zvt_report.specs.declared.cases.Case.TheVariants.{ApprovedNotCompleted, ApprovalRepeated, ApprovedThenUndone, OtherAmount, PaymentUnclear, PaidAlike, ReversalUnclear, TakenBackBefore, ReversalRefused, ReversalElsewhere, ElsewhereUnclear, OtherUnclear, CloseUnclear, CloseRefused, CloseDiffers}
 use Rattle.zvt_report.specs.declared.closings.Closing.{Closing}
@@ -61,7 +61,7 @@ title decimals facts ReversalUnclear = codes "Reversal of " ++ amount_or_dash de
 title decimals facts TakenBackBefore = amount_or_dash decimals (asked_of facts) ++ codes " already taken back"
 title decimals facts ReversalRefused = codes "Reversal of " ++ amount_or_dash decimals (asked_of facts) ++ codes " not done"
 title decimals facts ReversalElsewhere = codes "Reversal of a payment that is not in this trace"
-title decimals facts ElsewhereUnclear = codes "Reversal of a payment that is not in this trace unclear"
+title decimals facts ElsewhereUnclear = codes "Unclear reversal of a payment that is not in this trace"
 title decimals facts OtherUnclear = other_title decimals facts.message facts.row
 title decimals facts CloseUnclear = codes "End of day unclear"
 title decimals facts CloseRefused = codes "Day not closed"
@@ -84,7 +84,7 @@ repeated_account decimals asked facts =
     ++ confirmed_part decimals asked facts.asked_again facts.confirmed ++ codes "." ++ later_part decimals asked facts
 
 abbrev pub undone_part : Decimals → Facts → List ℕ
-undone_part decimals facts = amount_or_dash decimals (approved_of facts.row) ++ approval_part facts.row.approval ++ codes ", and then took it back" ++ trace_part facts.undone_by
+undone_part decimals facts = amount_or_dash decimals (approved_of facts.row) ++ approval_part facts.row.approval ++ codes ", and then took it back" ++ under_trace facts.undone_by
 
 abbrev pub undone_account : Decimals → (asked : Option ℕ) → Facts → List ℕ
 undone_account decimals asked facts =
@@ -251,6 +251,6 @@ unfolding encode_with reason
 of_another_trace = refl
 
 undone : account Two (record (about (record a_payment { outcome = Unclear AbortAfterApproval }) None) { undone_by = Some 21 }) ApprovedThenUndone
-    ≡ codes "The terminal approved 34.99 (line 144, trace 000020, receipt 0008), and then took it back, trace 000021. The payment is unclear: it was broken off after the terminal had approved it or contradicted itself."
+    ≡ codes "The terminal approved 34.99 (line 144, trace 000020, receipt 0008), and then took it back under trace 000021. The payment is unclear: it was broken off after the terminal had approved it or contradicted itself."
 unfolding again_part counted_as_paid amount_or_dash amount_text approval_part digits encode_with reason
 undone = refl

@@ -1,14 +1,16 @@
-//! Writes the parts of sentences about an approval that was repeated, and about an end of day that counts a payment.
+//! Writes the parts of sentences about an approval that was repeated or taken back, and about an end of day that
+//! counts a payment.
 ghost use Rattle.std.specs.Prelude.{◌≡◌, ◌++◌, OnOk};
 ghost use Rattle.zvt_report.specs.Phrases.{asking, confirmed_by, confirmed_part, counted_as_paid, of_amount};
-ghost use Rattle.zvt_report.specs.Phrases.{receipt_of, unless_earlier};
+ghost use Rattle.zvt_report.specs.Phrases.{receipt_of, under_trace, unless_earlier};
 
 use crate::amounts::amount;
+use crate::columns::zeros;
 use crate::currencies::Decimals;
 use crate::phrases::{amount_or_dash, approval_part};
 use crate::rows::OrderRow;
 use std::alloc::AllocError;
-use zvt_bcd::Amount;
+use zvt_bcd::{Amount, Trace};
 use zvt_text::{Text, hexadecimal};
 
 /// Writes that the end of day with this line counts a payment, if there is one.
@@ -95,6 +97,19 @@ pub(crate) fn unless_earlier(text: &mut Text, receipt: &Option<[u8; 2]>) -> Resu
             hexadecimal(text, receipt)
         }
         None => text.word(b"If the receipt is not that of an earlier payment"),
+    }
+}
+
+/// Writes the trace number of what took an approval back, if there is one.
+pub(crate) fn under_trace(text: &mut Text, trace: &Option<Trace>) -> Result<(), AllocError>
+    ensures { OnOk result (text.new ≡ text.old ++ under_trace trace.now) }
+{
+    match trace {
+        Some(trace) => {
+            text.word(b" under trace ")?;
+            zeros(text, 6, u128::from(trace.get()))
+        }
+        None => Ok(()),
     }
 }
 

@@ -10,14 +10,14 @@ ghost use Rattle.zvt_report.specs.Sentences.{undone_part};
 use crate::apart::apart_part;
 use crate::card_texts::card_or_dash;
 use crate::cases::Case;
-use crate::confirmations::{confirmed_part, counted_as_paid};
+use crate::confirmations::{confirmed_part, counted_as_paid, under_trace};
 use crate::currencies::Decimals;
 use crate::differences::{shares_part, totals_part};
 use crate::facts::Facts;
 use crate::parts::approved_of;
 use crate::phrases::{
     again_part, amount_of, amount_or_dash, approval_part, counted_part, entry_part,
-    maybe_payment_at, payment_at, payment_name, phrase, reason, trace_part,
+    maybe_payment_at, payment_at, payment_name, phrase, reason,
 };
 use crate::rows::OrderRow;
 use std::alloc::AllocError;
@@ -85,7 +85,7 @@ fn undone_part(text: &mut Text, decimals: Decimals, facts: &Facts) -> Result<(),
     amount_or_dash(text, decimals, &approved_of(&facts.row))?;
     approval_part(text, &facts.row.approval)?;
     text.word(b", and then took it back")?;
-    trace_part(text, &facts.undone_by)
+    under_trace(text, &facts.undone_by)
 }
 
 /// Writes what happened to a payment whose approval was taken back.

@@ -107,7 +107,7 @@ pub(crate) fn title(
         Case::ReversalRefused => phrase(text, decimals, b"Reversal of ", asked, b" not done"),
         Case::ReversalElsewhere => text.word(b"Reversal of a payment that is not in this trace"),
         Case::ElsewhereUnclear => {
-            text.word(b"Reversal of a payment that is not in this trace unclear")
+            text.word(b"Unclear reversal of a payment that is not in this trace")
         }
         Case::OtherUnclear => other_title(text, decimals, &facts.message, &facts.row),
         Case::CloseUnclear => text.word(b"End of day unclear"),
