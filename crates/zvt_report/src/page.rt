@@ -135,7 +135,8 @@ pub(crate) fn sections(
     looks: &[Look],
 ) -> Result<(), AllocError>
     ensures { OnOk result (page.new ≡ page.old
-        ++ render (sections id.now name.now money.now terminal times.now books.now messages.now closings.now looks.now)) }
+        ++ render (sections id.now name.now money.now terminal times.now books.now messages.now closings.now
+        looks.now)) }
 {
     let decimals = decimals_of(money);
     page_head(page, note, name, money, terminal, times)?;

@@ -24,9 +24,9 @@ const BLOCK: usize = 65_536;
 /// Writes the text of a trace: each message, and each refusal, cut and loss. Output goes out in blocks; the last block
 /// is written even if the walk fails. In the styles `Json` and `JsonReceipts` each line of the text is one JSON value.
 ///
-/// `timed` says whether the text of an event begins with the moment of its line, if that line has one. `scope` says what
-/// a refusal leaves unread, `lengths` selects the accepted forms of length. The style `Join` writes each complete message
-/// in its one strict spelling. A stream that is refused or cut off counts as bad.
+/// `timed` says whether the text of an event begins with the moment of its line, if the line has one. `scope` says what
+/// a refusal leaves unread, `lengths` selects the accepted forms of length. The style `Join` writes each complete
+/// message in its one strict spelling. A stream that is refused or cut off counts as bad.
 pub fn render_trace<W: Sink>(
     alloc: Global,
     style: Style,
