@@ -23,6 +23,7 @@ use Rattle.zvt_show.specs.Beside.{AnswersTold, HasReadSome, HasToldBy, PrintsRes
 use Rattle.zvt_show.specs.Followed.{AnswersTurn, HasWritten}
 use Rattle.zvt_show.specs.Printed.{printing_page}
 use Rattle.zvt_show.specs.Shown.{AnswersShown, HasShownBy, Shows}
+use Rattle.zvt_show.specs.Text.{untimed}
 use Rattle.zvt_show.specs.Written.{Page}
 use Rattle.zvt_show.specs.declared.follow.Follower.{Follower}
 use Rattle.zvt_show.specs.declared.pages.Printing.{Printing}
@@ -112,7 +113,7 @@ module _ {W L : Type 0} (written : W → Option (List ℕ)) (failures : W → �
           own = alone_fed (writes View) (fails View) r scope all has.events heard.0 walker answer y.first.fault x.first.listener y.first.listener heard.1
               (heard_alone (writes View) (fails View) heard.0 x.first y.first sound (first_heard (writes View) (fails View) hears fails_there heard.0 x y heard.2))
 
-          said : Said style has.events first (View x.first.listener)
+          said : Said (untimed style) has.events first (View x.first.listener)
           said = turn_said r scope style bytes first (View x.first.listener) before has empty
 
           by : (((z.fault ≡ y.first.fault) × Appends (written y.first.listener.output) (written z.listener.output) y.first.listener.pages.block) ⊎ ((z.fault ≡ Some failure.Write) × AppendsPrefix (written y.first.listener.output) (written z.listener.output) y.first.listener.pages.block))
@@ -120,10 +121,10 @@ module _ {W L : Type 0} (written : W → Option (List ℕ)) (failures : W → �
           by (inl (same, out)) =
               subst (λ (f : Option TraceFault). HasShownBy f r scope style all first (written z.listener.output) after) (fault_in y.first.fault answer ∙ ap (λ (f : Option ListenerError). first_fault f (result_err answer)) (sym same))
               (turn_shown (or_failed y.first.fault answer) r scope style all first (written z.listener.output) after
-              (turn_written r scope View style all has.events first (written z.listener.output) after (or_failed y.first.fault answer) x.first.listener y.first.listener has.in_style said own out rest.0 (same_reading ∙ has.reading) (same_scope ∙ has.by_scope)))
+              (turn_written r scope View style all has.events first (written z.listener.output) after (or_failed y.first.fault answer) x.first.listener y.first.listener (ap untimed has.in_style) said own out rest.0 (same_reading ∙ has.reading) (same_scope ∙ has.by_scope)))
           by (inr (failed, out)) =
               subst (λ (f : Option ListenerError). HasShownBy (first_fault f (result_err answer)) r scope style all first (written z.listener.output) after) (sym failed)
-              (all, ([], sym (append-nil all)), turn_lost r scope View style all has.events first (written z.listener.output) walker (or_failed y.first.fault answer) x.first.listener y.first.listener has.in_style said own out)
+              (all, ([], sym (append-nil all)), turn_lost r scope View style all has.events first (written z.listener.output) walker (or_failed y.first.fault answer) x.first.listener y.first.listener (ap untimed has.in_style) said own out)
 
       pub turn_more : (text : List ℕ) → all ≡ bytes ++ text → (was : Bool) → was ≡ is_some x.first.fault → ((why : ListenerError) → x.first.fault ≡ Some why → (y.first.listener ≡ x.first.listener) × (y.first.fault ≡ Some why)) → (x.first.fault ≡ None → x.first.listener.pages.block ≡ [])
           → walker_reading walker ≡ walker_reading old → walker_scope walker ≡ walker_scope old → Feeds → PrintsRest written was y.first z
@@ -221,7 +222,7 @@ module _ {W L : Type 0} (written : W → Option (List ℕ)) (failures : W → �
           own = alone_ended (writes View) (fails View) r scope (lines bytes) has.events heard.0 answer y.first.fault x.first.listener y.first.listener heard.1
               (heard_alone (writes View) (fails View) heard.0 x.first y.first sound (first_heard (writes View) (fails View) hears fails_there heard.0 x y heard.2))
 
-          said : Said style has.events first (View x.first.listener)
+          said : Said (untimed style) has.events first (View x.first.listener)
           said = turn_said r scope style bytes first (View x.first.listener) there has empty
 
           by : (((z.fault ≡ y.first.fault) × Appends (written y.first.listener.output) (written z.listener.output) y.first.listener.pages.block) ⊎ ((z.fault ≡ Some failure.Write) × AppendsPrefix (written y.first.listener.output) (written z.listener.output) y.first.listener.pages.block))
@@ -229,11 +230,11 @@ module _ {W L : Type 0} (written : W → Option (List ℕ)) (failures : W → �
           by (inl (same, out)) =
               subst (λ (f : Option ListenerError). AnswersShown r scope style bytes first (written z.listener.output) (or_failed f answer)) (sym same)
               (ended_whole (or_failed y.first.fault answer) r scope style bytes first (written z.listener.output)
-              (end_written r scope View style (lines bytes) has.events first (written z.listener.output) (or_failed y.first.fault answer) x.first.listener y.first.listener has.in_style said own out))
+              (end_written r scope View (untimed style) (lines bytes) has.events first (written z.listener.output) (or_failed y.first.fault answer) x.first.listener y.first.listener (ap untimed has.in_style) said own out))
           by (inr (failed, out)) =
               subst (λ (f : Option ListenerError). AnswersShown r scope style bytes first (written z.listener.output) (or_failed f answer)) (sym failed)
               (ended_whole (Err Write) r scope style bytes first (written z.listener.output)
-              (end_lost r scope View style (lines bytes) has.events first (written z.listener.output) (or_failed y.first.fault answer) x.first.listener y.first.listener has.in_style said own out))
+              (end_lost r scope View (untimed style) (lines bytes) has.events first (written z.listener.output) (or_failed y.first.fault answer) x.first.listener y.first.listener (ap untimed has.in_style) said own out))
 
       pub all_shown : (was : Bool) → was ≡ is_some x.first.fault → ((why : ListenerError) → x.first.fault ≡ Some why → (y.first.listener ≡ x.first.listener) × (y.first.fault ≡ Some why)) → (x.first.fault ≡ None → x.first.listener.pages.block ≡ []) → Ends → PrintsRest written was y.first z
           → HasShownBy (first_fault x.first.fault None) r scope style bytes first (written x.first.listener.output) there → AnswersShown r scope style bytes first (written z.listener.output) (or_failed z.fault answer)

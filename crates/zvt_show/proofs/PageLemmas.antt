@@ -1,5 +1,5 @@
 -- The text of what a walk emits.
-use Rattle.std.proofs.Common.{◌≡◌, inl, inr, ℕ, ◌<◌, ◌≤◌, List, [], ◌∷◌, ◌++◌, Result, Option, Some, None, Ok, Err, refl, sym, ◌∙◌, subst, arith, append_assoc, append-nil, length}
+use Rattle.std.proofs.Common.{◌≡◌, inl, inr, Bool, ℕ, ◌<◌, ◌≤◌, List, [], ◌∷◌, ◌++◌, Result, Option, Some, None, Ok, Err, refl, sym, ◌∙◌, subst, arith, append_assoc, append-nil, length}
 use Rattle.std.proofs.KnownBytes.{Appends-kept, Appends-trans}
 use Rattle.std.specs.Io.KnownBytes.{Appends}
 use Rattle.std.specs.Prelude.{IfSome}

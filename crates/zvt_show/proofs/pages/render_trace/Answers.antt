@@ -5,13 +5,18 @@ use Rattle.std.specs.Str.Lines.{lines}
 use Rattle.zvt_trace.specs.Written.{AppendsPrefix}
 use Rattle.zvt_show.specs.Printed.{printed}
 use Rattle.zvt_show.specs.Text.{rendering_of}
-use Rattle.zvt_show.proofs.PageLemmas.{least, not_written, rendered, write_counted, written}
+use Rattle.zvt_show.proofs.PageLemmas.{least, not_written, rendered, unread, write_counted, written}
 use Rattle.zvt_show.proofs.PrinterLemmas.{on_page, walk_ended, walk_written}
 use Rattle.zvt_show.proofs.pages.render_trace.Goals as goal
 
+pub returns-in_err-times-clause-writes : goal.returns-in_err-times-clause-writes
+returns-in_err-times-clause-writes g c =
+    let p = err_from_is_err_and c.from_residual.result c.from_residual.ensures.1 in
+    rw (p.1, p.2) (unread _ _ (rendering_of c.args.style c.args.timed (lines c.args.trace.now)) (lines c.args.trace.now) _)
+
 pub returns-in_err-flush-clause-writes : goal.returns-in_err-flush-clause-writes
 returns-in_err-flush-clause-writes g c =
-    let p = err_from_is_err_and c.from_residual.result c.from_residual.ensures.1 in
+    let p = err_from_is_err_and c.from_residual-in_err-flush.result c.from_residual-in_err-flush.ensures.1 in
     let are = walk_ended g.W.Sink.written g.W.Sink.failures _ c.walk-answer.new.listener _ _ _ _ _ c.walk-answer.result c.pages-2-1.given.1 c.writer-1.given.1 c.walk-answer.ensures in
     rw (p.1, p.2, c.in_err-flush.ensures.fault)
     (not_written _ _ (printed g.W.Sink.written g.W.Sink.failures) (rendering_of c.args.style c.args.timed (lines c.args.trace.now)) (lines c.args.trace.now) c.walk-answer.result _ c.walk-answer.new.listener (g.W.Sink.written c.flush.new.writer)
