@@ -1,5 +1,5 @@
 //! Writes the report of a trace.
-ghost use Rattle.std.specs.Prelude.{◌≡◌, ◌+◌, ◌++◌, ◌<◌, ◌≤◌, ℕ, Err, IfOk, IfSome, List, OnOk, length};
+ghost use Rattle.std.specs.Prelude.{◌≡◌, ◌+◌, ◌++◌, ◌<◌, ◌≤◌, [], ℕ, Err, IfOk, IfSome, List, OnOk, length};
 ghost use Rattle.std.specs.Io.KnownBytes.{Consumes};
 ghost use Rattle.zvt_grammar.specs.Lengths.{reading_of};
 ghost use Rattle.zvt_trace.specs.Written.{limit};
@@ -181,6 +181,31 @@ pub(crate) fn summed_up(report: &Report, looks: &[Look]) -> ReportSummary
     }
 }
 
+/// Writes the objects of a report with these looks and slips.
+fn write_objects(
+    alloc: Global,
+    text: &mut Text,
+    report: &Report,
+    looks: &[Look],
+    drawn: &[u8],
+) -> Result<(), AllocError>
+    ensures { OnOk result (text.new ≡ text.old ++ report_in ReportForm.Json [] report.now looks.now drawn.now) }
+{
+    objects::write(
+        text,
+        &mut Text::new(alloc),
+        report.tally,
+        &report.currency,
+        report.terminal,
+        &report.times,
+        &report.books,
+        report.messages.as_slice(),
+        report.closings.as_slice(),
+        looks,
+        drawn,
+    )
+}
+
 /// Writes the page of a report with these looks, slips and dialogue.
 fn write_page(
     alloc: Global,
@@ -237,19 +262,7 @@ fn text_of(
             closings,
             looks,
         )?,
-        ReportForm::Json => objects::write(
-            &mut text,
-            &mut Text::new(alloc),
-            report.tally,
-            &report.currency,
-            report.terminal,
-            &report.times,
-            books,
-            messages,
-            closings,
-            looks,
-            drawn,
-        )?,
+        ReportForm::Json => write_objects(alloc, &mut text, report, looks, drawn)?,
         ReportForm::Page => write_page(alloc, &mut text, name, report, looks, drawn)?,
     }
     Ok(text)
