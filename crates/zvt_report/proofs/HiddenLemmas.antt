@@ -52,7 +52,7 @@ use Rattle.zvt_report.specs.Reported.{beginning, beginning_from, beginning_in, b
 use Rattle.zvt_report.specs.Reports.{IsReportOf}
 use Rattle.zvt_report.specs.Said.{AreListedIf, AreSaidBy, IsSaidBy, listed_in, moves_money, said_with}
 use Rattle.zvt_report.specs.Settling.{settled}
-use Rattle.zvt_report.specs.Statements.{accepts, answered, begins, card_by, card_if, declines_by, ends_by, first_card, heard_statuses, latest, stated_by, statements_of, stating, statuses_in, total_by, totals_of}
+use Rattle.zvt_report.specs.Statements.{accepts, answered, begins, card_by, card_if, declines_by, ends_by, first_card, first_undoing, heard_statuses, latest, stated_by, statements_of, stating, statuses_in, total_by, totals_of, undoing_by}
 use Rattle.zvt_report.specs.TerminalIds.{first_terminal, id_in, id_of, terminal_by, terminal_in}
 use Rattle.zvt_report.specs.Times.{timed_day}
 use Rattle.zvt_report.specs.declared.cards.Card.{Card}
@@ -61,6 +61,7 @@ use Rattle.zvt_report.specs.declared.ordering.TillOrder.TheVariants.{Reversal, P
 use Rattle.zvt_report.specs.declared.report.Report.{Report}
 use Rattle.zvt_report.specs.declared.rows.OrderMessage.{OrderMessage}
 use Rattle.zvt_report.specs.declared.statements.Statement.{Statement}
+use Rattle.zvt_report.specs.declared.statements.Undoing.{Undoing}
 use Rattle.zvt_report.specs.declared.zones.Zone.{Zone}
 
 -- ---- fields
@@ -505,12 +506,23 @@ first_same : (heard : List (List Field)) → first_card (map disclosed_fields he
 first_same [] = refl
 first_same (fields ∷ more) = ap₂ (λ (a b : Option Card). option_or a b) (card_same fields) (first_same more)
 
+undoing_same : (fields : List Field) → undoing_by (disclosed_fields fields) ≡ undoing_by fields
+undoing_same fields =
+    ap₂ (λ (original trace : Option (List ℕ)). option_map (λ (digits : List ℕ). record { original = digits; trace = option_map digits_value trace }) original)
+    (same_content 0x37 (λ content. refl) fields) (same_content 0x0B (λ content. refl) fields)
+
+first_undoing_same : (heard : List (List Field)) → first_undoing (map disclosed_fields heard) ≡ first_undoing heard
+first_undoing_same [] = refl
+first_undoing_same (fields ∷ more) = ap₂ (λ (a b : Option Undoing). option_or a b) (undoing_same fields) (first_undoing_same more)
+
 stated_same : (heard : List (List Field)) → stated_by (map disclosed_fields heard) ≡ stated_by heard
 stated_same heard =
-    ap₂ (λ (d : Bool) (c : Option Card). record { declines = d; total = latest None total_by (map disclosed_fields heard); totals = latest None totals_of (map disclosed_fields heard); card = c }) (any_same heard) (first_same heard)
-    ∙ ap₂ (λ (n : Option ℕ) (t : Option CardTotals). record { declines = list_any declines_by heard; total = n; totals = t; card = first_card heard })
+    ap₂ (λ (d : Bool) (c : Option Card). record { declines = d; total = latest None total_by (map disclosed_fields heard); totals = latest None totals_of (map disclosed_fields heard); card = c; undoing = first_undoing (map disclosed_fields heard) })
+    (any_same heard) (first_same heard)
+    ∙ ap₂ (λ (n : Option ℕ) (t : Option CardTotals). record { declines = list_any declines_by heard; total = n; totals = t; card = first_card heard; undoing = first_undoing (map disclosed_fields heard) })
     (latest_same None total_by (λ fields. ap (λ (o : Option (List ℕ)). total_in o) (same_content 0x04 (λ content. refl) fields)) heard)
     (latest_same None totals_of (λ fields. ap (λ (o : Option (List ℕ)). totals_in o) (same_content 0x60 (λ content. refl) fields)) heard)
+    ∙ ap (λ (u : Option Undoing). record { declines = list_any declines_by heard; total = latest None total_by heard; totals = latest None totals_of heard; card = first_card heard; undoing = u }) (first_undoing_same heard)
 
 all_stated_same : (heard : List (List (List Field))) → map stated_by (map (map disclosed_fields) heard) ≡ map stated_by heard
 all_stated_same [] = refl

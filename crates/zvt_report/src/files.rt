@@ -1,7 +1,7 @@
 //! One page about several files: an index, and the report on each.
 ghost use Rattle.std.specs.Prelude.{◌≡◌, ◌<◌, ◌≤◌, ◌++◌, [], Err, IfOk, List, OnOk, length};
 ghost use Rattle.zvt_grammar.specs.Lengths.{reading_of};
-ghost use Rattle.zvt_page.specs.Html.{element, render};
+ghost use Rattle.zvt_page.specs.Html.{element, end_tag, render, start_tag};
 ghost use Rattle.zvt_trace.specs.Written.{limit};
 ghost use Rattle.zvt_report.specs.Files.{count_cell, file_id, index_columns, index_with, looks_id, name_cell};
 ghost use Rattle.zvt_report.specs.Files.{net_cell, page_with, read_row, read_section, unread_row};
@@ -257,10 +257,18 @@ fn index(page: &mut Text, rows: &[u8]) -> Result<(), AllocError>
     end(page, Element::Header)?;
     start(page, Element::Table, b"", None)?;
     index_head(page)?;
+    index_body(page, rows)?;
+    end(page, Element::Table)
+}
+
+/// Writes the rows of the index.
+fn index_body(page: &mut Text, rows: &[u8]) -> Result<(), AllocError>
+    ensures { OnOk result (page.new ≡ page.old
+        ++ (start_tag Element.Tbody [] ++ rows.now ++ end_tag Element.Tbody)) }
+{
     start(page, Element::Tbody, b"", None)?;
     page.word(rows)?;
-    end(page, Element::Tbody)?;
-    end(page, Element::Table)
+    end(page, Element::Tbody)
 }
 
 /// Writes the first row of the index.

@@ -28,7 +28,10 @@ pub fn show_row() -> CommandRow<'static>
                 "Also hide card data in TLV objects, and the data of messages named Other",
             ),
             CommandOption::Flag("explain", "Also print what codes and numbers mean"),
-            CommandOption::Flag("times", "Begin each message with its time, if the trace has it"),
+            CommandOption::Flag(
+                "times",
+                "Begin each message with its time, if the trace has it",
+            ),
         ],
     }
 }
@@ -112,7 +115,10 @@ Example:
                 "Exit with 1 if there is a case that someone must act on",
             ),
             CommandOption::Flag("json", help::JSON),
-            CommandOption::Flag("html", "Write a page for a browser, with an index of several FILEs"),
+            CommandOption::Flag(
+                "html",
+                "Write a page for a browser, with an index of several FILEs",
+            ),
             CommandOption::Value(
                 "zone",
                 "+HH:MM",
