@@ -334,7 +334,7 @@ def several():
     well_formed("several files", page, titles=4)
     for name in names:
         if name == "none.trace":
-            wanted.append([name, "not read"])
+            wanted.append([name, "not read", "", ""])
             continue
         objects = [json.loads(line) for line in run(["report", "--json", name], folder=STORED)[1].splitlines()]
         said = objects[0]["summary"]

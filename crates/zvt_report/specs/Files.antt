@@ -63,7 +63,7 @@ read_row place name money books acts =
 
 -- the file has no report
 unfoldable pub unread_row : (name : List ℕ) → Html
-unread_row name = element Tr [] (both (leaf Td [] name) (leaf Td [] (codes "not read")))
+unread_row name = element Tr [] (all (leaf Td [] name ∷ leaf Td (codes "n") (codes "not read") ∷ leaf Td (codes "n") [] ∷ leaf Td (codes "n") [] ∷ []))
 
 abbrev pub index_row : (place : ℕ) → FileReport → Html
 index_row place (read name report) = read_row place name (money_of report.currency) report.books (urgent_count (looks_of report))
@@ -80,7 +80,7 @@ index_columns = all (column [] (codes "File") ∷ column (codes "n") (codes "Net
 unfoldable pub index : List FileReport → Html
 index files =
     both (element Header [] (leaf H1 [] (codes "Reports")))
-    (element Table [] (both (element Thead [] (element Tr [] index_columns)) (element Tbody [] (index_rows 0 files))))
+    (element Table ((Class, codes "t") ∷ []) (both (element Thead [] (element Tr [] index_columns)) (element Tbody [] (index_rows 0 files))))
 
 -- ---- the reports
 
@@ -129,7 +129,7 @@ AnswersAdded r scope zone place name trace old new (Err Read) = ⊥
 unfoldable pub index_with : (rows : List ℕ) → List ℕ
 index_with rows =
     render (element Header [] (leaf H1 [] (codes "Reports")))
-    ++ (start_tag Table [] ++ (render (element Thead [] (element Tr [] index_columns)) ++ (start_tag Tbody [] ++ rows ++ end_tag Tbody) ++ end_tag Table))
+    ++ (start_tag Table ((Class, codes "t") ∷ []) ++ (render (element Thead [] (element Tr [] index_columns)) ++ (start_tag Tbody [] ++ rows ++ end_tag Tbody) ++ end_tag Table))
 
 unfoldable pub page_with : (rows reports : List ℕ) → List ℕ
 page_with rows reports =
@@ -146,8 +146,8 @@ AnswersFiles files old new (Err Read) = ⊥
 
 -- ---- rows worked by hand
 
-a_missing_file : render (index_rows 0 (unread (codes "<b>") ∷ [])) ≡ codes "<tr><td>&lt;b&gt;</td><td>not read</td></tr>"
-unfolding end_tag escaped start_tag unread_row
+a_missing_file : render (index_rows 0 (unread (codes "<b>") ∷ [])) ≡ codes "<tr><td>&lt;b&gt;</td><td class=\"n\">not read</td><td class=\"n\"></td><td class=\"n\"></td></tr>"
+unfolding attribute_text end_tag escaped start_tag unread_row
 a_missing_file = refl
 
 a_name : render (name_cell 2 (codes "till2.trace")) ≡ codes "<td><a href=\"#f2\">till2.trace</a></td>"

@@ -232,7 +232,9 @@ fn unread_row(page: &mut Text, name: &[u8]) -> Result<(), AllocError>
 {
     start(page, Element::Tr, b"", None)?;
     leaf(page, Element::Td, b"", name)?;
-    leaf(page, Element::Td, b"", b"not read")?;
+    leaf(page, Element::Td, b"n", b"not read")?;
+    leaf(page, Element::Td, b"n", b"")?;
+    leaf(page, Element::Td, b"n", b"")?;
     end(page, Element::Tr)
 }
 
@@ -255,7 +257,7 @@ fn index(page: &mut Text, rows: &[u8]) -> Result<(), AllocError>
     start(page, Element::Header, b"", None)?;
     leaf(page, Element::H1, b"", b"Reports")?;
     end(page, Element::Header)?;
-    start(page, Element::Table, b"", None)?;
+    start(page, Element::Table, b"t", None)?;
     index_head(page)?;
     index_body(page, rows)?;
     end(page, Element::Table)
