@@ -64,7 +64,7 @@ def printed(chance):
     return message(b"\x06\xD3", b"\x06" + (bytes([len(objects)]) if len(objects) < 0x80 else b"\x81" + bytes([len(objects)])) + objects)
 
 
-# Terminal identifiers, and what is none: no digits, or two of them.
+# Terminal identifiers, and contents that are not one: no digits, or two of them.
 TERMINALS = (b"\x29\x52\x50\x00\x40", b"\x29\x52\x50\x00\x41", b"\x29\x52\x50\x00\x4A", 2 * b"\x29\x52\x50\x00\x42")
 
 

@@ -113,7 +113,7 @@ class Sentences:
     def ApprovalRepeated(self, order, again, confirmed):
         amount, receipt = self.money(order.amount), confirmed.approval["receipt"]
         asked = "asked the terminal to repeat its last receipt" if confirmed.control == "0620" else "sent an order that moves no money"
-        unless = f"If no earlier payment has receipt {receipt}" if receipt else "If the receipt is not that of an earlier payment"
+        unless = f"If no earlier payment has receipt {receipt}" if receipt else "If no earlier payment has this receipt"
         return (f"{amount} may have been charged{' twice' if again else ''}",
                 f"The payment of {amount} is unclear: {self.reason(order)}. The till then {asked} (line {confirmed.first}), and the answer approves "
                 f"{amount}{self.approved(confirmed)}.{self.later(order, again)}",

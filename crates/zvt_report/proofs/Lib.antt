@@ -12,6 +12,9 @@ pub mod StatementLemmas
 pub mod ExplainLemmas
 pub mod ReporterLemmas
 pub mod ReportedLemmas
+pub mod HiddenFields
+pub mod HiddenMessages
+pub mod HiddenStatuses
 pub mod HiddenLemmas
 pub mod FilesLemmas
 pub mod MemberLemmas

@@ -138,7 +138,7 @@ receipt_of (Some row) = option_and_then (λ (approval : Approval). approval.rece
 
 -- if the receipt is not one of an earlier payment
 abbrev pub unless_earlier : Option (List ℕ) → List ℕ
-unless_earlier None = codes "If the receipt is not that of an earlier payment"
+unless_earlier None = codes "If no earlier payment has this receipt"
 unless_earlier (Some receipt) = codes "If no earlier payment has receipt " ++ encode_upper receipt
 
 -- the trace number of what took an approval back

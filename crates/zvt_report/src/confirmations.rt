@@ -87,7 +87,7 @@ pub(crate) fn receipt_of(row: &Option<OrderRow>) -> Option<[u8; 2]>
     }
 }
 
-/// Writes the condition that a receipt is not that of an earlier payment.
+/// Writes the condition that no earlier payment has the receipt.
 pub(crate) fn unless_earlier(text: &mut Text, receipt: &Option<[u8; 2]>) -> Result<(), AllocError>
     ensures { OnOk result (text.new ≡ text.old ++ unless_earlier receipt.now) }
 {
@@ -96,7 +96,7 @@ pub(crate) fn unless_earlier(text: &mut Text, receipt: &Option<[u8; 2]>) -> Resu
             text.word(b"If no earlier payment has receipt ")?;
             hexadecimal(text, receipt)
         }
-        None => text.word(b"If the receipt is not that of an earlier payment"),
+        None => text.word(b"If no earlier payment has this receipt"),
     }
 }
 

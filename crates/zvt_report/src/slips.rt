@@ -36,7 +36,7 @@ use zvt_trace::{Direction, Listener, ListenerError, Scope, TraceEvent, TraceFaul
 pub(crate) struct Slips {
     alloc: Global,
     form: ReportForm,
-    /// The first and the last line of each part of the trace of which a page has the slips. Without any, it has all.
+    /// The first and the last line of each part of the trace whose slips a page shows. Without any, it shows all.
     ranges: Option<Vec<(u64, u64)>>,
     text: Text,
     note: Text,

@@ -46,7 +46,7 @@ abbrev pub order_time : (line : List ℕ) → Option Moment
 order_time line =
     option_and_then (λ words. option_and_then (λ rest. option_and_then moment_to_second (trailing (codes " at ") rest)) (after_order words)) (trailing (codes "# ") line)
 
--- the moment that a comment states for the next line that is none
+-- the moment that a comment states for the next line that is not a comment
 abbrev pub comment_time : (line : List ℕ) → Option Moment
 comment_time line = option_or (mark_of line) (order_time line)
 
