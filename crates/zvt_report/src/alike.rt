@@ -15,7 +15,7 @@ use zvt_trace::Moment;
 const NEAR: u64 = 900;
 
 /// A payment that is booked and not taken back, and the masked number of its card.
-#[derive(Clone, Copy, Debug, PartialEq, Eq)]
+#[derive(Clone, Copy)]
 pub(crate) struct Standing {
     pub(crate) number: [u8; 10],
     pub(crate) amount: Amount,

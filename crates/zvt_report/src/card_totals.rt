@@ -11,7 +11,7 @@ use zvt_bcd::{is_digits, number};
 const SIZE: usize = 53;
 
 /// The cards of a group, in the order of BMP 60.
-#[derive(Clone, Copy, Debug, PartialEq, Eq)]
+#[derive(Clone, Copy)]
 pub enum CardBrand {
     Girocard,
     Jcb,
@@ -43,7 +43,7 @@ impl CardBrand {
 }
 
 /// The number of payments with the cards of a brand, and their sum.
-#[derive(Clone, Copy, Debug, PartialEq, Eq)]
+#[derive(Clone, Copy)]
 pub struct CardGroup {
     pub brand: CardBrand,
     pub count: u8,
@@ -58,7 +58,7 @@ pub(crate) fn is_used(group: &CardGroup) -> bool
 }
 
 /// The totals by card.
-#[derive(Clone, Copy, Debug, PartialEq, Eq)]
+#[derive(Clone, Copy)]
 pub struct CardTotals {
     /// The first receipt number.
     pub first: [u8; 2],

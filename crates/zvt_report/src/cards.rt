@@ -12,7 +12,7 @@ use zvt_text::card_type_name;
 pub(crate) const MASK: u8 = 14;
 
 /// The card of an order.
-#[derive(Clone, Copy, Debug, PartialEq, Eq)]
+#[derive(Clone, Copy)]
 pub struct Card {
     /// The type in BMP 8A, if it has a name.
     pub card_type: Option<u8>,

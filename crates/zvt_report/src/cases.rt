@@ -17,7 +17,7 @@ use zvt_bcd::Trace;
 use zvt_till::{Entry, Outcome, Sent};
 
 /// How urgent it is to look at an order.
-#[derive(Clone, Copy, Debug, PartialEq, Eq)]
+#[derive(Clone, Copy)]
 pub enum Weight {
     /// Money may be wrong, and a person can settle it.
     Act,
@@ -41,7 +41,7 @@ impl Weight {
 }
 
 /// Why a person should look at an order.
-#[derive(Clone, Copy, Debug, PartialEq, Eq)]
+#[derive(Clone, Copy)]
 pub enum Case {
     /// The terminal approved the payment, but the till does not know that it was completed.
     ApprovedNotCompleted,
@@ -127,7 +127,7 @@ impl Case {
 }
 
 /// An order that a person should look at.
-#[derive(Clone, Copy, Debug, PartialEq, Eq)]
+#[derive(Clone, Copy)]
 pub struct Look {
     pub case: Case,
     /// The index of the order's row, counted from 0.

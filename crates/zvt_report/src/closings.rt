@@ -18,7 +18,7 @@ use std::alloc::{AllocError, Global};
 use zvt_till::{Entry, Outcome, Sent};
 
 /// An end of day that closed the day.
-#[derive(Clone, Copy, Debug, PartialEq, Eq)]
+#[derive(Clone, Copy)]
 pub struct Closing {
     /// The total that the terminal states.
     pub stated: Option<u128>,

@@ -6,7 +6,7 @@ ghost use Rattle.zvt_report.specs.declared.currencies.Money.{Money};
 use zvt_bcd::Currency;
 
 /// How many digits an amount has after its decimal point.
-#[derive(Clone, Copy, Debug, PartialEq, Eq)]
+#[derive(Clone, Copy)]
 pub(crate) enum Decimals {
     Zero,
     Two,

@@ -5,7 +5,7 @@ ghost use Rattle.zvt_report.specs.Words.{completed_as, ending_of};
 use zvt_till::{Outcome, Sent};
 
 /// What became of an order, in a word.
-#[derive(Clone, Copy, Debug, PartialEq, Eq)]
+#[derive(Clone, Copy)]
 pub(crate) enum Ending {
     /// An order without a result in the book was completed.
     Completed,

@@ -12,7 +12,7 @@ use zvt_bcd::Amount;
 use zvt_till::{Entry, Outcome, Sent};
 
 /// An order that may have changed the terminal's total, but not the book.
-#[derive(Clone, Copy, Debug, PartialEq, Eq)]
+#[derive(Clone, Copy)]
 pub(crate) struct OpenItem {
     pub(crate) amount: u64,
     /// Whether the order adds its amount to the total, or takes it from the total.
@@ -22,7 +22,7 @@ pub(crate) struct OpenItem {
 }
 
 /// The orders that explain a difference, by the indices of their rows.
-#[derive(Clone, Copy, Debug, PartialEq, Eq)]
+#[derive(Clone, Copy)]
 pub enum Explained {
     /// No orders explain it.
     Nothing,

@@ -15,7 +15,7 @@ use zvt_bcd::Trace;
 use zvt_till::{Entry, Sent};
 
 /// What an order is called that explains a difference.
-#[derive(Clone, Copy, Debug, PartialEq, Eq)]
+#[derive(Clone, Copy)]
 pub(crate) enum ShareName {
     /// An unclear payment.
     Payment,
@@ -27,7 +27,7 @@ pub(crate) enum ShareName {
 }
 
 /// What an order adds to the terminal's total, or takes from it, without a change of the book.
-#[derive(Clone, Copy, Debug, PartialEq, Eq)]
+#[derive(Clone, Copy)]
 pub(crate) struct Share {
     pub(crate) name: ShareName,
     pub(crate) amount: u64,
@@ -37,7 +37,7 @@ pub(crate) struct Share {
 }
 
 /// The orders that make up a difference. The first one widens it.
-#[derive(Clone, Copy, Debug, PartialEq, Eq)]
+#[derive(Clone, Copy)]
 pub(crate) enum Shares {
     Nothing,
     One(Share),
@@ -46,7 +46,7 @@ pub(crate) enum Shares {
 }
 
 /// What the sentences about a look say.
-#[derive(Clone, Copy, Debug, PartialEq, Eq)]
+#[derive(Clone, Copy)]
 pub(crate) struct Facts {
     pub(crate) row: OrderRow,
     pub(crate) message: OrderMessage,

@@ -1,7 +1,7 @@
 //! The forms of a report.
 
 /// The form in which a report is written.
-#[derive(Clone, Copy, Debug, PartialEq, Eq)]
+#[derive(Clone, Copy)]
 pub enum ReportForm {
     /// Lines of text, for people.
     Text,

@@ -7,7 +7,7 @@ use crate::rows::{OrderMessage, OrderRow};
 use zvt_till::Sent;
 
 /// The kind of an order in a report.
-#[derive(Clone, Copy, Debug, PartialEq, Eq)]
+#[derive(Clone, Copy)]
 pub(crate) enum OrderKind {
     Payment,
     /// A reversal of a payment of the book or of one that is not in the trace.

@@ -13,7 +13,7 @@ const LONG: usize = 13;
 const SHOWN: usize = 4;
 
 /// What a character is to a number.
-#[derive(Clone, Copy, Debug, PartialEq, Eq)]
+#[derive(Clone, Copy)]
 enum Character {
     Digit,
     /// A character that may stand once between two digits.

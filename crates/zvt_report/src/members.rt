@@ -23,7 +23,7 @@ use zvt_till::Cause;
 use zvt_trace::Moment;
 
 /// The object of a line.
-#[derive(Clone, Copy, Debug, PartialEq, Eq)]
+#[derive(Clone, Copy)]
 pub(crate) enum Object {
     Close,
     Look,
@@ -55,7 +55,7 @@ impl Object {
 }
 
 /// The name of a member.
-#[derive(Clone, Copy, Debug, PartialEq, Eq)]
+#[derive(Clone, Copy)]
 pub(crate) enum Name {
     Advice,
     Again,
@@ -171,7 +171,7 @@ impl Name {
 }
 
 /// A word of a closed list.
-#[derive(Clone, Copy, Debug, PartialEq, Eq)]
+#[derive(Clone, Copy)]
 pub(crate) enum Word {
     Case(Case),
     Weight(Weight),
@@ -206,7 +206,7 @@ impl Word {
 }
 
 /// The value of a member.
-#[derive(Clone, Copy, Debug, PartialEq, Eq)]
+#[derive(Clone, Copy)]
 pub(crate) enum Value {
     True,
     /// A number, or an amount in the smallest unit of the currency.
@@ -237,7 +237,7 @@ pub(crate) enum Value {
 }
 
 /// A member of an object.
-#[derive(Clone, Copy, Debug, PartialEq, Eq)]
+#[derive(Clone, Copy)]
 pub(crate) struct Member {
     pub(crate) name: Name,
     pub(crate) value: Value,

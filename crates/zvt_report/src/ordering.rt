@@ -13,7 +13,7 @@ use zvt_bcd::Amount;
 use zvt_till::{Happening, Sent, begun};
 
 /// An order in a message of a till.
-#[derive(Clone, Copy, Debug, PartialEq, Eq)]
+#[derive(Clone, Copy)]
 pub(crate) enum TillOrder {
     /// A reversal with the receipt number that it names, if it names exactly one.
     Reversal(Option<[u8; 2]>),

@@ -11,7 +11,7 @@ use crate::rows::OrderRow;
 use zvt_till::{Outcome, Sent};
 
 /// The number of an order, and its entry in the book.
-#[derive(Clone, Copy, Debug, PartialEq, Eq)]
+#[derive(Clone, Copy)]
 pub(crate) struct Place {
     /// The number of the order, counted from 1.
     pub(crate) order: usize,
@@ -22,7 +22,7 @@ pub(crate) struct Place {
 }
 
 /// How many orders, payments and booked payments came before a row.
-#[derive(Clone, Copy, Debug, PartialEq, Eq)]
+#[derive(Clone, Copy)]
 pub(crate) struct Counts {
     pub(crate) orders: usize,
     pub(crate) payments: usize,

@@ -5,7 +5,7 @@ use zvt_till::{Outcome, Sent};
 use zvt_trace::Moment;
 
 /// What a status information with result 00 and exactly one amount states.
-#[derive(Clone, Copy, Debug, PartialEq, Eq)]
+#[derive(Clone, Copy)]
 pub struct Approval {
     /// The line of the trace at which the status information ends, counted from 1.
     pub line: u64,
@@ -17,7 +17,7 @@ pub struct Approval {
 }
 
 /// An order of the till, and what became of it.
-#[derive(Clone, Copy, Debug, PartialEq, Eq)]
+#[derive(Clone, Copy)]
 pub struct OrderRow {
     pub order: Sent,
     /// The line of the trace at which the order's message ends, counted from 1.
@@ -35,7 +35,7 @@ pub struct OrderRow {
 }
 
 /// What the message of an order says beside the order itself.
-#[derive(Clone, Copy, Debug, PartialEq, Eq)]
+#[derive(Clone, Copy)]
 pub struct OrderMessage {
     /// The first control byte.
     pub high: u8,

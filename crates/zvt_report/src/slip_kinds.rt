@@ -6,7 +6,7 @@ use zvt_apdu::Kind;
 use zvt_text::ReceiptType;
 
 /// What a message is to a slip of print lines.
-#[derive(Clone, Copy, Debug, PartialEq, Eq)]
+#[derive(Clone, Copy)]
 pub(crate) enum Role {
     /// A print line, which goes on with it.
     Line,
@@ -41,7 +41,7 @@ pub(crate) fn is_acknowledgement(role: Role) -> bool
 }
 
 /// What a slip is.
-#[derive(Clone, Copy, Debug, PartialEq, Eq)]
+#[derive(Clone, Copy)]
 pub(crate) enum SlipKind {
     /// Print lines (06 D1) in a row.
     PrintLines,
@@ -98,7 +98,7 @@ pub(crate) fn kind_by(receipt_type: Option<ReceiptType>) -> SlipKind
 }
 
 /// Where a slip stands.
-#[derive(Clone, Copy, Debug, PartialEq, Eq)]
+#[derive(Clone, Copy)]
 pub(crate) struct SlipPlace {
     pub(crate) kind: SlipKind,
     /// The first and the last line of the trace.

@@ -30,7 +30,7 @@ const CARD_TYPE: u8 = 0x8A;
 const CARD_NAME: u8 = 0x8B;
 
 /// A status information that names an original: it takes back what was approved under that trace number.
-#[derive(Clone, Copy, Debug, PartialEq, Eq)]
+#[derive(Clone, Copy)]
 pub struct Undoing {
     /// The original trace number as read: three bytes, which need not be digits.
     pub original: [u8; 3],
@@ -39,7 +39,7 @@ pub struct Undoing {
 }
 
 /// What the status informations of an order say.
-#[derive(Clone, Copy, Debug, PartialEq, Eq)]
+#[derive(Clone, Copy)]
 pub struct Statement {
     /// Whether one of them declines the order.
     pub declines: bool,
@@ -142,7 +142,7 @@ fn stating<'a>(apdu: &ApduView<'a>) -> Option<FieldsView<'a>>
 }
 
 /// The running order, as far as the terminal has answered it.
-#[derive(Clone, Copy, Debug, PartialEq, Eq)]
+#[derive(Clone, Copy)]
 pub(crate) struct Attention {
     /// Whether the terminal has accepted the order.
     pub(crate) accepted: bool,

@@ -14,7 +14,7 @@ use zvt_text::Text;
 use zvt_trace::{Moment, Moments, Timed, time_at, went_back};
 
 /// What the time marks of a trace say about the trace as a whole.
-#[derive(Clone, Copy, Debug, PartialEq, Eq)]
+#[derive(Clone, Copy)]
 pub struct Times {
     /// The zone of the moments.
     pub zone: Zone,

@@ -5,7 +5,7 @@ ghost use Rattle.zvt_report.specs.Tones.{doubt_tone, entry_tone, outcome_tone, p
 use zvt_till::{Doubt, Entry, Outcome};
 
 /// What an order means for the money.
-#[derive(Clone, Copy, Debug, PartialEq, Eq)]
+#[derive(Clone, Copy)]
 pub(crate) enum Tone {
     /// It was done, and stands.
     Done,

@@ -21,7 +21,7 @@ use zvt_text::Text;
 use zvt_trace::{Scope, Tally, TraceFault, read_trace};
 
 /// Findings of a report that was written.
-#[derive(Clone, Copy, Debug, PartialEq, Eq)]
+#[derive(Clone, Copy)]
 pub struct ReportSummary {
     pub tally: Tally,
     /// The number of cases that someone must act on.

@@ -16,7 +16,7 @@ const FARTHEST: u32 = 840;
 const DAY: u64 = 1_440;
 
 /// How far the clocks of a place are from UTC.
-#[derive(Clone, Copy, Debug, PartialEq, Eq)]
+#[derive(Clone, Copy)]
 pub struct Zone {
     /// Whether its clocks are behind UTC.
     pub west: bool,
