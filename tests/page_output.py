@@ -4,11 +4,11 @@
     tests/page_output.py [PROGRAM] [--store]
 
 PROGRAM is the one that `rt ci` built, unless another is named. The traces are those of examples/, tests/data/report and
-tests/data/real. A page is well formed, names no other file and runs nothing, its links lead somewhere, it has a row for each payment and
-an item for each case, the slips and the totals by card of the JSON, its dialogue is what `show --safe --explain --open` writes, and its
-style sheet has no rule that no page uses. Text has enough contrast in every theme, and a keyboard reaches everything. The pages of the
-traces in tests/data/report are those beside them; `--store` writes them anew, so look at them before you commit them. The status is 1 if
-anything differs.
+tests/data/real. A page is well formed, names no other file and runs nothing, and its links lead somewhere. It has a row for each
+payment, an item for each case, with a link to the dialogue, and the slips and the totals by card of the JSON. Its dialogue is what
+`show --safe --explain --open` writes, and its style sheet has no rule that no page uses. Text has enough contrast in every theme, and a
+keyboard reaches everything. The pages of the traces in tests/data/report are those beside them; `--store` writes them anew, so look at
+them before you commit them. The status is 1 if anything differs.
 """
 import json
 import os
@@ -147,8 +147,9 @@ def agrees(name, trace, page):
     check(f"the times of {name}", [one.get("tm", "") for one in payments], [each["payment"].get("time", "")[11:19] for each in objects if "payment" in each])
     looks = [one for one in objects if "look" in one]
     check(f"the cases of {name}", sorted(page.texts("span", "sev")), sorted(one["look"]["weight"].capitalize() for one in looks))
-    said = [f"{title} ({lines}) {account} -> {advice}" for title, lines, account, advice in zip(page.texts("h3"), page.texts("span", "at"), page.texts("p", "why"), page.texts("p", "do"))]
+    said = [f"{title} ({lines}) {account} -> {advice}" for title, lines, account, advice in zip(page.texts("h3"), [one["text"] for one in places(page)], page.texts("p", "why"), page.texts("p", "do"))]
     check(f"the sentences of {name}", [one for one in said if one not in text], [])
+    where_cases_lead(name, page)
     figures = page.texts("dd")
     summary = [re.search(rf"{words} (\S+)", text)[1] for words in ("Net total", "booked", "taken back", "Unclear")]
     check(f"the figures of {name}", figures[:8:2], summary)
@@ -157,6 +158,19 @@ def agrees(name, trace, page):
     groups(name, page, objects)
     if "time_from" in objects[0]["summary"]:
         check(f"the hours of {name}", text.startswith(page.texts("p", "meta")[0]), True)
+
+
+def places(page):
+    """The elements with the times and lines of the cases."""
+    return [one for one in page.elements if one["attributes"].get("class") == "at"]
+
+
+def where_cases_lead(name, page):
+    """Each case has a link to its first line, if the dialogue has an item of that line."""
+    ids = page.values("id")
+    for one in places(page):
+        target = "l" + re.search(r"lines (\d+)-\d+$", one["text"])[1]
+        check(f"where {one['text']} of {name} leads", (one["tag"], one["attributes"].get("href")), ("a", "#" + target) if target in ids else ("span", None))
 
 
 def events(page):
@@ -348,6 +362,7 @@ def several():
     for (number, section), name in zip(sections, ["twice.trace", "refusals.trace", "twice.trace"]):
         alone = (STORED / name).with_suffix(".html").read_text()
         whole = alone[alone.index("<header>"):alone.index("<footer>")].replace('id="look"', f'id="f{number}-look"')
+        whole = re.sub('<a class="at" href="#l[0-9]+">([^<]*)</a>', r'<span class="at">\1</span>', whole)
         check(f"the report {number}", whole.startswith(section[:section.index("<footer>")]), True)
     check("no stranger's trace", run(["report", "--html", "twice.trace", "/dev/null"], folder=STORED)[0], 0)
 

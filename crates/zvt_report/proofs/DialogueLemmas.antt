@@ -24,10 +24,11 @@ use Rattle.zvt_page.specs.Html.{Html, both, element, end_tag, leaf, render, star
 use Rattle.zvt_page.specs.declared.elements.Attribute.{Attribute}
 use Rattle.zvt_page.specs.declared.elements.Attribute.TheVariants.{Class}
 use Rattle.zvt_page.specs.declared.elements.Element.TheVariants.{H2, Ol}
-use Rattle.zvt_report.specs.Dialogue.{Adds, AnswersDialogue, HasListed, Lists, dialogue_section, has_line, is_within, items_after, line_numbers, listed, lists, most, part_note, ranges_of, section_with, shown_lines, wants_memory}
-use Rattle.zvt_report.specs.PageEvents.{event_item, event_text, safe_style}
+use Rattle.zvt_report.specs.Dialogue.{Adds, AnswersDialogue, HasListed, Lists, dialogue_section, is_within, items_after, line_numbers, listed, lists, most, part_note, ranges_of, section_with, shown_lines, wants_memory}
+use Rattle.zvt_report.specs.PageEvents.{event_item, event_text, has_line, safe_style}
 use Rattle.zvt_report.specs.declared.cases.Look.{Look}
 use Rattle.zvt_report.specs.declared.dialogue.Dialogue.{Dialogue}
+use Rattle.zvt_report.specs.declared.dialogue.Drawn.{Drawn}
 use Rattle.zvt_report.specs.declared.form.ReportForm.TheVariants.{Page}
 use Rattle.zvt_report.specs.declared.report.Report.{Report}
 
@@ -173,12 +174,18 @@ section_is dialogue events ranges text same has is =
 
 -- ---- the answer
 
-pub walked_all : (r : Reading) (scope : Scope) (trace : List ℕ) (report : Report) (looks : List Look) (tally : Tally) (old new : Dialogue) (text : List ℕ)
+pub walked_all : (r : Reading) (scope : Scope) (trace : List ℕ) (report : Report) (looks : List Look) (tally : Tally) (old new : Dialogue) (drawn : Drawn)
     → HasListed [] old → ranges_of old ≡ shown_lines report.tally report.books.orders looks → AnswersWalk r lists wants_memory scope (lines trace) old new (Ok tally)
-    → text ≡ section_with (ranges_of new) (length new.lines.items) new.items → AnswersDialogue r scope trace Page report looks (Ok text)
-walked_all r scope trace report looks tally old new text starts same walked is =
+    → drawn.text ≡ section_with (ranges_of new) (length new.lines.items) new.items → drawn.lines ≡ new.lines → AnswersDialogue r scope trace Page report looks (Ok drawn)
+walked_all r scope trace report looks tally old new drawn starts same walked is kept =
     let all = all_listed [] walked.0 old new starts walked.2 in
-    (walked.0, walked.1, section_is new walked.0 (shown_lines report.tally report.books.orders looks) text (ap (λ (v : Option (Vec (ℕ × ℕ) Global)). option_map (λ v. v.items) v) all.1 ∙ same) all.0 is)
+    let ranges = shown_lines report.tally report.books.orders looks in
+    let shown = ap (λ (v : Option (Vec (ℕ × ℕ) Global)). option_map (λ v. v.items) v) all.1 ∙ same in (
+      walked.0,
+      walked.1,
+      section_is new walked.0 ranges drawn.text shown all.0 is,
+      ap (λ (v : Vec ℕ Global). v.items) kept ∙ all.0.lines ∙ ap (λ (r : Option (List (ℕ × ℕ))). line_numbers (listed r walked.0)) shown,
+    )
 
 -- a dialogue writes nothing to a device, so no write fails
 no_write : {r : Reading} {scope : Scope} (lines : List (List ℕ)) (old new : Dialogue) → AnswersWalk r lists wants_memory scope lines old new (Err Write) → ⊥

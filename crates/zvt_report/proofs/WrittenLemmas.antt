@@ -11,23 +11,23 @@ use Rattle.zvt_report.specs.Dialogue.{AnswersDialogue, IsDialogue}
 use Rattle.zvt_report.specs.SlipWalk.{AnswersSlips, AreSlips}
 use Rattle.zvt_report.specs.Written.{AnswersDrawn, AnswersFound, AnswersReadWritten, AnswersWritten, IsDrawn, looks_of, zone_for}
 use Rattle.zvt_report.specs.declared.cases.Look.{Look}
+use Rattle.zvt_report.specs.declared.dialogue.Drawn.{Drawn}
 use Rattle.zvt_report.specs.declared.form.ReportForm.{ReportForm}
 use Rattle.zvt_report.specs.declared.report.Report.{Report}
 use Rattle.zvt_report.specs.declared.written.ReportSummary.{ReportSummary}
 use Rattle.zvt_report.specs.declared.zones.Zone.{Zone}
 
--- the looks and the text are lent
-pub drawn_is : (r : Reading) (scope : Scope) (form : ReportForm) (trace : List ℕ) (report : Report) (looks : List Look) (text lent : List ℕ)
-    → looks ≡ looks_of report → lent ≡ text → IsDrawn r scope trace form report looks text → IsDrawn r scope trace form report (looks_of report) lent
-drawn_is r scope form trace report looks text lent same is drawn =
-    subst (λ (t : List ℕ). IsDrawn r scope trace form report (looks_of report) t) (sym is) (subst (λ (l : List Look). IsDrawn r scope trace form report l text) same drawn)
+-- the looks are lent
+pub drawn_is : (r : Reading) (scope : Scope) (form : ReportForm) (trace : List ℕ) (report : Report) (looks : List Look) (drawn : Drawn)
+    → looks ≡ looks_of report → IsDrawn r scope trace form report looks drawn → IsDrawn r scope trace form report (looks_of report) drawn
+drawn_is r scope form trace report looks drawn same is = subst (λ (l : List Look). IsDrawn r scope trace form report l drawn) same is
 
 -- the slips are written before the dialogue
-pub drawn_both : (r : Reading) (scope : Scope) (form : ReportForm) (trace : List ℕ) (report : Report) (looks : List Look) (slips dialogue lent text : List ℕ)
-    → AreSlips r scope trace form report looks slips → IsDialogue r scope trace form report looks dialogue → lent ≡ dialogue → text ≡ slips ++ lent → IsDrawn r scope trace form report looks text
-drawn_both r scope form trace report looks slips dialogue lent text printed drawn same is = (slips, printed, dialogue, drawn, is ∙ ap (λ (l : List ℕ). slips ++ l) same)
+pub drawn_both : (r : Reading) (scope : Scope) (form : ReportForm) (trace : List ℕ) (report : Report) (looks : List Look) (slips lent : List ℕ) (dialogue drawn : Drawn)
+    → AreSlips r scope trace form report looks slips → IsDialogue r scope trace form report looks dialogue → lent ≡ dialogue.text → drawn.text ≡ slips ++ lent → drawn.lines ≡ dialogue.lines → IsDrawn r scope trace form report looks drawn
+drawn_both r scope form trace report looks slips lent dialogue drawn printed told same is kept = (slips, printed, dialogue, told, is ∙ ap (λ (l : List ℕ). slips ++ l) same, kept)
 
-pub found_written : (r : Reading) (scope : Scope) (form : ReportForm) (zone : Zone) (name : List ℕ) (trace : List ℕ) (report : Report) (drawn : List ℕ) (old new : Option (List ℕ)) (result : Result ReportSummary TraceFault)
+pub found_written : (r : Reading) (scope : Scope) (form : ReportForm) (zone : Zone) (name : List ℕ) (trace : List ℕ) (report : Report) (drawn : Drawn) (old new : Option (List ℕ)) (result : Result ReportSummary TraceFault)
     → AnswersReport (zone_for form zone) r scope trace (Ok report) → IsDrawn r scope trace form report (looks_of report) drawn → AnswersFound form name report drawn old new result → AnswersWritten r scope form zone name trace old new result
 found_written r scope form zone name trace report drawn old new (Ok summary) answers is (appends, sum) = (report, answers, drawn, is, appends, sum)
 found_written r scope form zone name trace report drawn old new (Err Memory) answers is kept = kept

@@ -15,9 +15,10 @@ use Rattle.zvt_trace.specs.declared.fault.TraceFault.{TraceFault}
 use Rattle.zvt_trace.specs.declared.fault.TraceFault.TheVariants.{Memory, Read, TooLong, Trace, Write}
 use Rattle.zvt_trace.specs.declared.listener.ListenerError.TheVariants as failure
 use Rattle.zvt_trace.specs.declared.listener.Scope.{Scope}
-use Rattle.zvt_report.specs.PageEvents.{event_item}
+use Rattle.zvt_report.specs.PageEvents.{event_item, has_line}
 use Rattle.zvt_report.specs.declared.cases.Look.{Look}
 use Rattle.zvt_report.specs.declared.dialogue.Dialogue.{Dialogue}
+use Rattle.zvt_report.specs.declared.dialogue.Drawn.{Drawn}
 use Rattle.zvt_report.specs.declared.form.ReportForm.{ReportForm}
 use Rattle.zvt_report.specs.declared.form.ReportForm.TheVariants.{Text, Json, Page}
 use Rattle.zvt_report.specs.declared.report.Report.{Report}
@@ -57,9 +58,6 @@ abbrev pub line_numbers : List At → List ℕ
 line_numbers events = map (λ (event : At). event.line) events
 
 -- ---- how they are shown
-
-abbrev pub has_line : List ℕ → ℕ → Bool
-has_line lines line = list_any (λ (other : ℕ). line == other) lines
 
 -- one item after another, after items of events at these lines
 abbrev pub items_after : (before : List ℕ) → List At → Html
@@ -119,15 +117,22 @@ wants_memory old event why new = why ≡ failure.Memory
 
 -- ---- the answer
 
--- The section of the dialogue of a trace, in the one form that has one.
-abbrev pub IsDialogue : Reading → Scope → (trace : List ℕ) → ReportForm → Report → List Look → List ℕ → Type 0
-IsDialogue r scope trace Text report looks dialogue = dialogue ≡ []
-IsDialogue r scope trace Json report looks dialogue = dialogue ≡ []
-IsDialogue r scope trace Page report looks dialogue =
-    (events : List At) × WholeTrace r scope (lines trace) events × (dialogue ≡ render (dialogue_section (shown_lines report.tally report.books.orders looks) events))
+-- nothing was drawn
+abbrev pub IsUndrawn : Drawn → Type 0
+IsUndrawn drawn = (drawn.text ≡ []) × (drawn.lines.items ≡ [])
 
-abbrev pub AnswersDialogue : Reading → Scope → (trace : List ℕ) → ReportForm → Report → List Look → Result (List ℕ) TraceFault → Type 0
-AnswersDialogue r scope trace form report looks (Ok dialogue) = IsDialogue r scope trace form report looks dialogue
+-- the section of the dialogue of these events, and the lines of its items
+abbrev pub Draws : Option (List (ℕ × ℕ)) → List At → Drawn → Type 0
+Draws ranges events drawn = (drawn.text ≡ render (dialogue_section ranges events)) × (drawn.lines.items ≡ line_numbers (listed ranges events))
+
+-- The dialogue of a trace, in the one form that has one.
+abbrev pub IsDialogue : Reading → Scope → (trace : List ℕ) → ReportForm → Report → List Look → Drawn → Type 0
+IsDialogue r scope trace Text report looks drawn = IsUndrawn drawn
+IsDialogue r scope trace Json report looks drawn = IsUndrawn drawn
+IsDialogue r scope trace Page report looks drawn = (events : List At) × WholeTrace r scope (lines trace) events × Draws (shown_lines report.tally report.books.orders looks) events drawn
+
+abbrev pub AnswersDialogue : Reading → Scope → (trace : List ℕ) → ReportForm → Report → List Look → Result Drawn TraceFault → Type 0
+AnswersDialogue r scope trace form report looks (Ok drawn) = IsDialogue r scope trace form report looks drawn
 AnswersDialogue r scope trace form report looks (Err (Trace number what)) = (events : List At) × BrokenTrace r scope (lines trace) number what events
 AnswersDialogue r scope trace form report looks (Err Memory) = Unit {0}
 AnswersDialogue r scope trace form report looks (Err Write) = ⊥

@@ -1,5 +1,6 @@
 -- One event of a trace, as a page shows it.
-use Rattle.std.specs.Prelude.{◌≡◌, ℕ, Bool, true, false, List, [], ◌∷◌, ◌++◌, codes, Option, Some, None, refl}
+use Rattle.std.specs.Prelude.{◌≡◌, ◌==◌, ℕ, Bool, true, false, List, [], ◌∷◌, ◌++◌, codes, Option, Some, None, refl}
+use Rattle.std.specs.List.{list_any}
 use Rattle.std.specs.Fmt.{decimal, digits}
 use Rattle.std.specs.Str.Lines.{lines}
 use Rattle.zvt_text.specs.TextOptions.{safe_explained_text}
@@ -61,6 +62,9 @@ line_id line = 108 ∷ decimal line
 abbrev pub id_of : (seen : Bool) → ℕ → Option (Attribute × List ℕ)
 id_of true line = None
 id_of false line = Some (Id, line_id line)
+
+abbrev pub has_line : List ℕ → ℕ → Bool
+has_line lines line = list_any (λ (other : ℕ). line == other) lines
 
 unfoldable pub number_part : ℕ → Html
 number_part line = leaf Span (codes "ln") (decimal line)

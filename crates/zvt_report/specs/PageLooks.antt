@@ -2,8 +2,8 @@
 use Rattle.std.specs.Prelude.{◌≡◌, ℕ, Bool, true, false, cond, List, [], ◌∷◌, ◌++◌, codes, Option, Some, None, refl}
 use Rattle.std.specs.Fmt.{digits}
 use Rattle.zvt_page.specs.Html.{Html, nothing, both, class_of, element, text, leaf, all, attribute_text, end_tag, escaped, render, start_tag}
-use Rattle.zvt_page.specs.declared.elements.Attribute.TheVariants.{Class, Id}
-use Rattle.zvt_page.specs.declared.elements.Element.TheVariants.{H2, H3, Li, Ol, P, Span}
+use Rattle.zvt_page.specs.declared.elements.Attribute.TheVariants.{Class, Href, Id}
+use Rattle.zvt_page.specs.declared.elements.Element.TheVariants.{A, H2, H3, Li, Ol, P, Span}
 use Rattle.zvt_till.specs.declared.entries.Entry.{Entry}
 use Rattle.zvt_till.specs.declared.happenings.Sent.TheVariants.{CloseDay}
 use Rattle.zvt_till.specs.declared.outcomes.Cause.TheVariants.{Line}
@@ -13,6 +13,7 @@ use Rattle.zvt_report.specs.Day.{DayValue}
 use Rattle.zvt_report.specs.Facts.{facts_of}
 use Rattle.zvt_report.specs.LookList.{is_listed}
 use Rattle.zvt_report.specs.Looks.{weight_of}
+use Rattle.zvt_report.specs.PageEvents.{has_line, line_id}
 use Rattle.zvt_report.specs.PageParts.{from_to}
 use Rattle.zvt_report.specs.Phrases.{reason}
 use Rattle.zvt_report.specs.Times.{time_first}
@@ -42,8 +43,16 @@ weight_word Check = codes "Check"
 unfoldable pub title_part : Decimals → Facts → Case → Html
 title_part decimals facts case = leaf H3 [] (title decimals facts case)
 
-unfoldable pub lines_part : OrderRow → Html
-lines_part row = leaf Span (codes "at") (time_first row.time ++ codes "lines " ++ from_to row.first row.last)
+abbrev pub lines_text : OrderRow → List ℕ
+lines_text row = time_first row.time ++ codes "lines " ++ from_to row.first row.last
+
+-- a link to the item of a line in the dialogue
+unfoldable pub line_link : (line : ℕ) → (words : List ℕ) → Html
+line_link line words = element A ((Class, codes "at") ∷ (Href, 35 ∷ line_id line) ∷ []) (text words)
+
+-- the time and the lines of an order, with a link to its first line if that line has an item in the dialogue
+unfoldable pub lines_part : (shown : List ℕ) → OrderRow → Html
+lines_part shown row = cond (has_line shown row.first) (line_link row.first (lines_text row)) (leaf Span (codes "at") (lines_text row))
 
 unfoldable pub account_part : Decimals → Facts → Case → Html
 account_part decimals facts case = leaf P (codes "why") (account decimals facts case)
@@ -52,43 +61,48 @@ unfoldable pub advice_part : Decimals → Facts → Case → Html
 advice_part decimals facts case = leaf P (codes "do") (advice decimals facts case)
 
 -- one order: its weight, a title, its lines, what happened and what to do
-unfoldable pub item : Decimals → Facts → Case → Html
-item decimals facts case =
+unfoldable pub item : (shown : List ℕ) → Decimals → Facts → Case → Html
+item shown decimals facts case =
     element Li (class_of (weight_class (weight_of case)))
-    (all (leaf Span (codes "sev") (weight_word (weight_of case)) ∷ title_part decimals facts case ∷ lines_part facts.row
+    (all (leaf Span (codes "sev") (weight_word (weight_of case)) ∷ title_part decimals facts case ∷ lines_part shown facts.row
     ∷ account_part decimals facts case ∷ advice_part decimals facts case ∷ []))
 
-unfoldable pub item_of : Decimals → List Entry → List (Option Closing) → List OrderMessage → List OrderRow → Look → Html
-item_of decimals book closings messages rows look = elim (facts_of book closings messages rows look) [ None ↦ nothing | Some facts ↦ item decimals facts look.case ]
+unfoldable pub item_of : (shown : List ℕ) → Decimals → List Entry → List (Option Closing) → List OrderMessage → List OrderRow → Look → Html
+item_of shown decimals book closings messages rows look = elim (facts_of book closings messages rows look) [ None ↦ nothing | Some facts ↦ item shown decimals facts look.case ]
 
 -- an order is listed in the round of the urgent ones, or in the other one
-abbrev pub listed_item : Decimals → List Entry → List (Option Closing) → List OrderMessage → List OrderRow → (urgent : Bool) → Look → Html
-listed_item decimals book closings messages rows urgent look = cond (is_listed urgent look.case) (item_of decimals book closings messages rows look) nothing
+abbrev pub listed_item : (shown : List ℕ) → Decimals → List Entry → List (Option Closing) → List OrderMessage → List OrderRow → (urgent : Bool) → Look → Html
+listed_item shown decimals book closings messages rows urgent look = cond (is_listed urgent look.case) (item_of shown decimals book closings messages rows look) nothing
 
-abbrev pub items : Decimals → List Entry → List (Option Closing) → List OrderMessage → List OrderRow → (urgent : Bool) → List Look → Html
-items decimals book closings messages rows urgent [] = nothing
-items decimals book closings messages rows urgent (look ∷ looks) = both (listed_item decimals book closings messages rows urgent look) (items decimals book closings messages rows urgent looks)
+abbrev pub items : (shown : List ℕ) → Decimals → List Entry → List (Option Closing) → List OrderMessage → List OrderRow → (urgent : Bool) → List Look → Html
+items shown decimals book closings messages rows urgent [] = nothing
+items shown decimals book closings messages rows urgent (look ∷ looks) = both (listed_item shown decimals book closings messages rows urgent look) (items shown decimals book closings messages rows urgent looks)
 
-abbrev pub items_or_none : Decimals → List Entry → List (Option Closing) → List OrderMessage → List OrderRow → List Look → Html
-items_or_none decimals book closings messages rows [] = leaf P (codes "none") (codes "Nothing in this trace needs a look.")
-items_or_none decimals book closings messages rows (look ∷ looks) =
-    element Ol ((Class, codes "look") ∷ []) (both (items decimals book closings messages rows true (look ∷ looks)) (items decimals book closings messages rows false (look ∷ looks)))
+abbrev pub items_or_none : (shown : List ℕ) → Decimals → List Entry → List (Option Closing) → List OrderMessage → List OrderRow → List Look → Html
+items_or_none shown decimals book closings messages rows [] = leaf P (codes "none") (codes "Nothing in this trace needs a look.")
+items_or_none shown decimals book closings messages rows (look ∷ looks) =
+    element Ol ((Class, codes "look") ∷ []) (both (items shown decimals book closings messages rows true (look ∷ looks)) (items shown decimals book closings messages rows false (look ∷ looks)))
 
 unfoldable pub look_heading : (id : List ℕ) → Html
 look_heading id = element H2 ((Id, id) ∷ []) (text (codes "Look at these"))
 
--- the urgent ones first
-unfoldable pub looks_section : (id : List ℕ) → Decimals → DayValue → List (Option Closing) → List OrderMessage → List Look → Html
-looks_section id decimals books closings messages looks = both (look_heading id) (items_or_none decimals books.book closings messages books.orders looks)
+-- the urgent ones first; lines that have an item in the dialogue are shown
+unfoldable pub looks_section : (id shown : List ℕ) → Decimals → DayValue → List (Option Closing) → List OrderMessage → List Look → Html
+looks_section id shown decimals books closings messages looks = both (look_heading id) (items_or_none shown decimals books.book closings messages books.orders looks)
 
--- ---- a row worked by hand
+-- ---- rows worked by hand
 
 abbrev an_end : OrderRow
 an_end = record { order = CloseDay; first = 10; last = 16; outcome = Unclear Line; approval = None; time = Some (moment 2026 11 28 18 30 1 0); card = None }
 
-an_item : render (item Two (about an_end None) CloseUnclear)
+an_item : render (item [] Two (about an_end None) CloseUnclear)
     ≡ codes "<li class=\"check\"><span class=\"sev\">Check</span><h3>End of day unclear</h3><span class=\"at\">18:30:01, lines 10-16</span>"
     ++ codes "<p class=\"why\">The end of day is unclear: the connection was lost.</p>"
     ++ codes "<p class=\"do\">If the terminal printed no end-of-day receipt, start the end of day again.</p></li>"
 unfolding account_part advice_part attribute_text digits end_tag escaped item lines_part reason start_tag time_first title_part
 an_item = refl
+
+-- the first line of the order has an item
+a_link : render (lines_part (8 ∷ 10 ∷ []) an_end) ≡ codes "<a class=\"at\" href=\"#l10\">18:30:01, lines 10-16</a>"
+unfolding attribute_text digits end_tag escaped line_id line_link lines_part start_tag time_first
+a_link = refl

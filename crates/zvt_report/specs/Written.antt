@@ -18,6 +18,7 @@ use Rattle.zvt_report.specs.SlipWalk.{AreSlips}
 use Rattle.zvt_report.specs.Page.{report_page}
 use Rattle.zvt_report.specs.TextReport.{report_text}
 use Rattle.zvt_report.specs.declared.cases.Look.{Look}
+use Rattle.zvt_report.specs.declared.dialogue.Drawn.{Drawn}
 use Rattle.zvt_report.specs.declared.form.ReportForm.{ReportForm}
 use Rattle.zvt_report.specs.declared.form.ReportForm.TheVariants.{Text, Json, Page}
 use Rattle.zvt_report.specs.declared.report.Report.{Report}
@@ -33,27 +34,29 @@ zone_for Text zone = zone
 zone_for Json zone = utc
 zone_for Page zone = zone
 
--- the text, the objects or the page of a report with these looks; only the page has the name of the file
-abbrev pub report_in : ReportForm → (name : List ℕ) → Report → List Look → (drawn : List ℕ) → List ℕ
-report_in Text name report found drawn = report_text report.tally report.currency report.terminal report.times report.books report.messages.items report.closings.items found
-report_in Json name report found drawn = report_json report.tally report.currency report.terminal report.times report.books report.messages.items report.closings.items found drawn
-report_in Page name report found drawn = report_page name report.tally report.currency report.terminal report.times report.books report.messages.items report.closings.items found drawn
+-- the text, the objects or the page of a report with these looks; only the page has the name of the
+-- file, and links to the lines that its dialogue shows
+abbrev pub report_in : ReportForm → (name : List ℕ) → Report → List Look → (shown drawn : List ℕ) → List ℕ
+report_in Text name report found shown drawn = report_text report.tally report.currency report.terminal report.times report.books report.messages.items report.closings.items found
+report_in Json name report found shown drawn = report_json report.tally report.currency report.terminal report.times report.books report.messages.items report.closings.items found drawn
+report_in Page name report found shown drawn = report_page shown name report.tally report.currency report.terminal report.times report.books report.messages.items report.closings.items found drawn
 
 -- the looks that its orders need
 abbrev pub looks_of : Report → List Look
 looks_of report = looks report.books.book report.closings.items report.statements.items report.messages.items report.books.orders
 
-abbrev pub written : ReportForm → (name : List ℕ) → Report → (drawn : List ℕ) → List ℕ
-written form name report drawn = report_in form name report (looks_of report) drawn
+abbrev pub written : ReportForm → (name : List ℕ) → Report → Drawn → List ℕ
+written form name report drawn = report_in form name report (looks_of report) drawn.lines.items drawn.text
 
 -- ---- the events
 
 -- the slips of a trace and then its dialogue, as far as the form has them
-abbrev pub IsDrawn : Reading → Scope → (trace : List ℕ) → ReportForm → Report → List Look → List ℕ → Type 0
+abbrev pub IsDrawn : Reading → Scope → (trace : List ℕ) → ReportForm → Report → List Look → Drawn → Type 0
 IsDrawn r scope trace form report looks drawn =
-    (slips : List ℕ) × AreSlips r scope trace form report looks slips × (dialogue : List ℕ) × IsDialogue r scope trace form report looks dialogue × (drawn ≡ slips ++ dialogue)
+    (slips : List ℕ) × AreSlips r scope trace form report looks slips × (dialogue : Drawn) × IsDialogue r scope trace form report looks dialogue
+    × (drawn.text ≡ slips ++ dialogue.text) × (drawn.lines ≡ dialogue.lines)
 
-abbrev pub AnswersDrawn : Reading → Scope → (trace : List ℕ) → ReportForm → Report → List Look → Result (List ℕ) TraceFault → Type 0
+abbrev pub AnswersDrawn : Reading → Scope → (trace : List ℕ) → ReportForm → Report → List Look → Result Drawn TraceFault → Type 0
 AnswersDrawn r scope trace form report looks (Ok drawn) = IsDrawn r scope trace form report looks drawn
 AnswersDrawn r scope trace form report looks (Err (Trace number what)) = (events : List At) × BrokenTrace r scope (lines trace) number what events
 AnswersDrawn r scope trace form report looks (Err Memory) = Unit {0}
@@ -69,7 +72,7 @@ summed_up report = record { tally = report.tally; acts = urgent_count (looks_of 
 -- ---- the answer
 
 -- What the writing of a report in that form answers. If a write failed, a prefix of the text is written.
-abbrev pub AnswersFound : ReportForm → (name : List ℕ) → Report → (drawn : List ℕ) → (old new : Option (List ℕ)) → Result ReportSummary TraceFault → Type 0
+abbrev pub AnswersFound : ReportForm → (name : List ℕ) → Report → Drawn → (old new : Option (List ℕ)) → Result ReportSummary TraceFault → Type 0
 AnswersFound form name report drawn old new (Ok summary) = Appends old new (written form name report drawn) × (summary ≡ summed_up report)
 AnswersFound form name report drawn old new (Err Memory) = Keeps old new
 AnswersFound form name report drawn old new (Err Write) = AppendsPrefix old new (written form name report drawn)
@@ -81,12 +84,12 @@ AnswersFound form name report drawn old new (Err Read) = ⊥
 -- fails, nothing is written, but of a write that failed a prefix of the text.
 abbrev pub AnswersWritten : Reading → Scope → ReportForm → Zone → (name : List ℕ) → (trace : List ℕ) → (old new : Option (List ℕ)) → Result ReportSummary TraceFault → Type 0
 AnswersWritten r scope form zone name trace old new (Ok summary) =
-    (report : Report) × AnswersReport (zone_for form zone) r scope trace (Ok report) × (drawn : List ℕ) × IsDrawn r scope trace form report (looks_of report) drawn
+    (report : Report) × AnswersReport (zone_for form zone) r scope trace (Ok report) × (drawn : Drawn) × IsDrawn r scope trace form report (looks_of report) drawn
     × Appends old new (written form name report drawn) × (summary ≡ summed_up report)
 AnswersWritten r scope form zone name trace old new (Err (Trace number what)) = AnswersReport (zone_for form zone) r scope trace (Err (Trace number what)) × Keeps old new
 AnswersWritten r scope form zone name trace old new (Err Memory) = Keeps old new
 AnswersWritten r scope form zone name trace old new (Err Write) =
-    (report : Report) × AnswersReport (zone_for form zone) r scope trace (Ok report) × (drawn : List ℕ) × IsDrawn r scope trace form report (looks_of report) drawn
+    (report : Report) × AnswersReport (zone_for form zone) r scope trace (Ok report) × (drawn : Drawn) × IsDrawn r scope trace form report (looks_of report) drawn
     × AppendsPrefix old new (written form name report drawn)
 AnswersWritten r scope form zone name trace old new (Err TooLong) = ⊥
 AnswersWritten r scope form zone name trace old new (Err Read) = ⊥

@@ -5,13 +5,13 @@ ghost use Rattle.zvt_grammar.specs.Lengths.{reading_of};
 ghost use Rattle.zvt_page.specs.Html.{render};
 ghost use Rattle.zvt_trace.specs.TraceEvent.{HasItsBytes, event_of, on};
 ghost use Rattle.zvt_trace.specs.Written.{limit};
-ghost use Rattle.zvt_report.specs.Dialogue.{Adds, AnswersDialogue, HasListed, Lists, section_with};
-ghost use Rattle.zvt_report.specs.Dialogue.{has_line, has_note, is_between, is_within, look_lines, most, order_lines};
+ghost use Rattle.zvt_report.specs.Dialogue.{Adds, AnswersDialogue, HasListed, IsUndrawn, Lists, section_with};
+ghost use Rattle.zvt_report.specs.Dialogue.{has_note, is_between, is_within, look_lines, most, order_lines};
 ghost use Rattle.zvt_report.specs.Dialogue.{part_note, part_words, ranges_of, shown_lines};
 
 use crate::cases::Look;
 use crate::form::ReportForm;
-use crate::page_events::event_item;
+use crate::page_events::{event_item, has_line};
 use crate::report::Report;
 use crate::rows::OrderRow;
 use std::alloc::{AllocError, Global};
@@ -22,6 +22,15 @@ use zvt_trace::{Listener, ListenerError, Scope, Tally, TraceEvent, TraceFault, w
 
 /// The maximum number of messages of a trace that is shown whole, and of events that a page shows.
 const MOST: usize = 2_000;
+
+/// What a page has of the events of a trace.
+#[derive(Drop)]
+pub(crate) struct Drawn {
+    /// The slips and the dialogue.
+    pub(crate) text: Text,
+    /// The line of each item of the dialogue.
+    pub(crate) lines: Vec<u64>,
+}
 
 /// Writes an item for each event at these lines, up to [`MOST`].
 #[derive(Drop)]
@@ -185,13 +194,6 @@ pub(crate) fn is_within(ranges: &Option<Vec<(u64, u64)>>, line: u64) -> bool
     }
 }
 
-/// Whether this line is one of these.
-fn has_line(lines: &[u64], line: u64) -> bool
-    ensures { result ≡ has_line lines.now line }
-{
-    lines.iter().any(|other| line == *other)
-}
-
 /// Returns the first and the last line of the order of a look.
 fn order_lines(rows: &[OrderRow], look: &Look) -> Option<(u64, u64)>
     ensures { result ≡ option_map order_lines (slice_get rows.now look.now.order) }
@@ -247,7 +249,7 @@ pub(crate) fn lines_of(
     shown_lines(alloc, report.tally, report.books.orders.as_slice(), looks)
 }
 
-/// Returns the section of the dialogue of this trace, if the report has this form. In another form, it is empty.
+/// Returns the dialogue of this trace, if the report has this form. In another form, nothing is drawn.
 pub(crate) fn dialogue_in(
     alloc: Global,
     form: ReportForm,
@@ -256,17 +258,27 @@ pub(crate) fn dialogue_in(
     report: &Report,
     looks: &[Look],
     trace: &[u8],
-) -> Result<Text, TraceFault>
+) -> Result<Drawn, TraceFault>
     requires { length trace.now ≤ limit }
     ensures { AnswersDialogue (reading_of lengths) scope trace.now form report.now looks.now result }
 {
     match form {
-        ReportForm::Text | ReportForm::Json => Ok(Text::new(alloc)),
+        ReportForm::Text | ReportForm::Json => Ok(nothing_drawn(alloc)),
         ReportForm::Page => section_in(alloc, scope, lengths, report, looks, trace),
     }
 }
 
-/// Returns the section of the dialogue of this trace.
+/// Returns what a report without a dialogue has of the events.
+fn nothing_drawn(alloc: Global) -> Drawn
+    ensures { IsUndrawn result }
+{
+    Drawn {
+        text: Text::new(alloc),
+        lines: Vec::new(alloc),
+    }
+}
+
+/// Returns the dialogue of this trace.
 fn section_in(
     alloc: Global,
     scope: Scope,
@@ -274,13 +286,16 @@ fn section_in(
     report: &Report,
     looks: &[Look],
     trace: &[u8],
-) -> Result<Text, TraceFault>
+) -> Result<Drawn, TraceFault>
     requires { length trace.now ≤ limit }
     ensures { AnswersDialogue (reading_of lengths) scope trace.now ReportForm.Page report.now looks.now result }
 {
     let ranges = lines_of(alloc, report, looks)?;
     let mut dialogue = Dialogue::new(alloc, ranges);
     walk(&mut dialogue, alloc, scope, lengths, trace)?;
-    let section = dialogue.section()?;
-    Ok(section)
+    let text = dialogue.section()?;
+    Ok(Drawn {
+        text,
+        lines: dialogue.lines,
+    })
 }

@@ -313,6 +313,7 @@ fn read_section(
         page,
         note,
         id.bytes(),
+        &[],
         name,
         &money,
         report.terminal,

@@ -119,12 +119,13 @@ fn skip_link(page: &mut Text) -> Result<(), AllocError>
     end(page, Element::A)
 }
 
-/// Writes the sections of a page, up to the dialogue. Links to `id` lead to the looks.
+/// Writes the sections of a page, up to the dialogue, which shows these lines. Links to `id` lead to the looks.
 #[tactic(auto, unfolding(crate::specs::Page::sections))]
 pub(crate) fn sections(
     page: &mut Text,
     note: &mut Text,
     id: &[u8],
+    shown: &[u64],
     name: &[u8],
     money: &Option<Money>,
     terminal: Option<[u8; 4]>,
@@ -135,23 +136,26 @@ pub(crate) fn sections(
     looks: &[Look],
 ) -> Result<(), AllocError>
     ensures { OnOk result (page.new ≡ page.old
-        ++ render (sections id.now name.now money.now terminal times.now books.now messages.now closings.now
+        ++ render (sections id.now shown.now name.now money.now terminal times.now books.now messages.now closings.now
         looks.now)) }
 {
     let decimals = decimals_of(money);
     page_head(page, note, name, money, terminal, times)?;
     cards(page, note, decimals, books, messages)?;
-    looks_section(page, note, id, decimals, books, closings, messages, looks)?;
+    looks_section(
+        page, note, id, shown, decimals, books, closings, messages, looks,
+    )?;
     payments_section(page, note, decimals, books)?;
     others_section(page, note, decimals, books, messages)?;
     closings_section(page, note, decimals, closings, books.orders.as_slice())
 }
 
-/// Writes the body of a page with this dialogue. The texts are put together in `note`, whose own text is lost.
+/// Writes the body of a page with this dialogue, which shows these lines. The texts are put together in `note`, whose own text is lost.
 #[tactic(auto, unfolding(crate::specs::Page::page_with))]
 fn page_with(
     page: &mut Text,
     note: &mut Text,
+    shown: &[u64],
     name: &[u8],
     money: &Option<Money>,
     tally: Tally,
@@ -164,24 +168,25 @@ fn page_with(
     dialogue: &[u8],
 ) -> Result<(), AllocError>
     ensures { OnOk result (page.new ≡ page.old
-        ++ page_with name.now money.now tally terminal times.now books.now messages.now closings.now looks.now
+        ++ page_with shown.now name.now money.now tally terminal times.now books.now messages.now closings.now looks.now
         dialogue.now) }
 {
     skip_link(page)?;
     start(page, Element::Main, b"page", None)?;
     sections(
-        page, note, b"look", name, money, terminal, times, books, messages, closings, looks,
+        page, note, b"look", shown, name, money, terminal, times, books, messages, closings, looks,
     )?;
     page.word(dialogue)?;
     page_foot(page, note, tally, times)?;
     end(page, Element::Main)
 }
 
-/// Writes the report of the trace in the file of this name as a page, with this section of the dialogue. Fails only if
-/// memory runs out.
+/// Writes the report of the trace in the file of this name as a page, with this dialogue, which shows these lines.
+/// Fails only if memory runs out.
 pub(crate) fn write(
     alloc: Global,
     page: &mut Text,
+    shown: &[u64],
     name: &[u8],
     tally: Tally,
     currency: Option<Currency>,
@@ -194,15 +199,15 @@ pub(crate) fn write(
     dialogue: &[u8],
 ) -> Result<(), AllocError>
     ensures { OnOk result (page.new ≡ page.old
-        ++ report_page name.now tally currency terminal times.now books.now messages.now closings.now looks.now
+        ++ report_page shown.now name.now tally currency terminal times.now books.now messages.now closings.now looks.now
         dialogue.now) }
 {
     let mut note = Text::new(alloc);
     let money = money_of(currency);
     document_start(page, heading(name))?;
     page_with(
-        page, &mut note, name, &money, tally, terminal, times, books, messages, closings, looks,
-        dialogue,
+        page, &mut note, shown, name, &money, tally, terminal, times, books, messages, closings,
+        looks, dialogue,
     )?;
     document_end(page)
 }

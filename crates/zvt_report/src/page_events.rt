@@ -4,7 +4,7 @@ ghost use Rattle.std.specs.Str.Lines.{lines};
 ghost use Rattle.zvt_page.specs.Html.{attributes_of, render, start_tag};
 ghost use Rattle.zvt_trace.specs.TraceEvent.{HasItsBytes, event_of, on};
 ghost use Rattle.zvt_report.specs.PageEvents.{event_class, event_item, event_text, id_of, line_id, line_parts};
-ghost use Rattle.zvt_report.specs.PageEvents.{number_part, say_part, side_class};
+ghost use Rattle.zvt_report.specs.PageEvents.{has_line, number_part, say_part, side_class};
 
 use std::alloc::{AllocError, Global};
 use zvt_page::{Attribute, Element, end, leaf, start};
@@ -43,6 +43,13 @@ pub(crate) fn line_id(text: &mut Text, line: u64) -> Result<(), AllocError>
 {
     text.push(b'l')?;
     text.number(line)
+}
+
+/// Whether this line is one of these.
+pub(crate) fn has_line(lines: &[u64], line: u64) -> bool
+    ensures { result ≡ has_line lines.now line }
+{
+    lines.iter().any(|other| line == *other)
 }
 
 /// Writes the start of the item of an event. It has the id of its line unless an earlier item has it.

@@ -1,8 +1,9 @@
 //! Writes the orders that a person should look at to a page.
-ghost use Rattle.std.specs.Prelude.{◌≡◌, ◌++◌, OnOk};
-ghost use Rattle.zvt_page.specs.Html.{render};
+ghost use Rattle.std.specs.Prelude.{◌≡◌, ◌++◌, ◌∷◌, [], OnOk, codes};
+ghost use Rattle.zvt_page.specs.Html.{render, start_tag};
+ghost use Rattle.zvt_report.specs.PageEvents.{line_id};
 ghost use Rattle.zvt_report.specs.PageLooks.{account_part, advice_part, item, item_of, items, items_or_none};
-ghost use Rattle.zvt_report.specs.PageLooks.{lines_part, listed_item, look_heading, looks_section, title_part};
+ghost use Rattle.zvt_report.specs.PageLooks.{line_link, lines_part, lines_text, listed_item, look_heading, looks_section, title_part};
 ghost use Rattle.zvt_report.specs.PageLooks.{weight_class, weight_word};
 
 use crate::advices::advice;
@@ -12,6 +13,7 @@ use crate::closings::Closing;
 use crate::currencies::Decimals;
 use crate::facts::{Facts, facts_of};
 use crate::look_list::is_listed;
+use crate::page_events::{has_line, line_id};
 use crate::page_parts::from_to;
 use crate::rows::{OrderMessage, OrderRow};
 use crate::sentences::account;
@@ -59,14 +61,57 @@ fn title_part(
 }
 
 /// Writes the time and the lines of an order.
-#[tactic(auto, unfolding(crate::specs::PageLooks::lines_part))]
-fn lines_part(page: &mut Text, note: &mut Text, row: &OrderRow) -> Result<(), AllocError>
-    ensures { OnOk result (page.new ≡ page.old ++ render (lines_part row.now)) }
+fn lines_text(text: &mut Text, row: &OrderRow) -> Result<(), AllocError>
+    ensures { OnOk result (text.new ≡ text.old ++ lines_text row.now) }
+{
+    time_first(text, &row.time)?;
+    text.word(b"lines ")?;
+    from_to(text, row.first, row.last)
+}
+
+/// Writes the start of a link to the item of this line.
+fn link_start(page: &mut Text, note: &mut Text, line: u64) -> Result<(), AllocError>
+    ensures { OnOk result (page.new ≡ page.old ++ start_tag Element.A
+        ((Attribute.Class, codes "at") ∷ (Attribute.Href, 35 ∷ line_id line) ∷ [])) }
 {
     note.clear();
-    time_first(note, &row.time)?;
-    note.word(b"lines ")?;
-    from_to(note, row.first, row.last)?;
+    note.push(b'#')?;
+    line_id(note, line)?;
+    start(
+        page,
+        Element::A,
+        b"at",
+        Some((Attribute::Href, note.bytes())),
+    )
+}
+
+/// Writes a link to the first line of an order, with its time and its lines.
+#[tactic(auto, unfolding(crate::specs::PageLooks::line_link))]
+fn line_link(page: &mut Text, note: &mut Text, row: &OrderRow) -> Result<(), AllocError>
+    ensures { OnOk result (page.new ≡ page.old ++ render (line_link row.now.first (lines_text row.now))) }
+{
+    link_start(page, note, row.first)?;
+    note.clear();
+    lines_text(note, row)?;
+    escaped(page, note.bytes())?;
+    end(page, Element::A)
+}
+
+/// Writes the time and the lines of an order, with a link if its first line is shown.
+#[tactic(auto, unfolding(crate::specs::PageLooks::lines_part))]
+fn lines_part(
+    page: &mut Text,
+    note: &mut Text,
+    shown: &[u64],
+    row: &OrderRow,
+) -> Result<(), AllocError>
+    ensures { OnOk result (page.new ≡ page.old ++ render (lines_part shown.now row.now)) }
+{
+    if has_line(shown, row.first) {
+        return line_link(page, note, row);
+    }
+    note.clear();
+    lines_text(note, row)?;
     leaf(page, Element::Span, b"at", note.bytes())
 }
 
@@ -107,17 +152,18 @@ fn advice_part(
 fn item(
     page: &mut Text,
     note: &mut Text,
+    shown: &[u64],
     decimals: Decimals,
     facts: &Facts,
     case: Case,
 ) -> Result<(), AllocError>
-    ensures { OnOk result (page.new ≡ page.old ++ render (item decimals facts.now case)) }
+    ensures { OnOk result (page.new ≡ page.old ++ render (item shown.now decimals facts.now case)) }
 {
     let weight = case.weight();
     start(page, Element::Li, weight_class(weight), None)?;
     leaf(page, Element::Span, b"sev", weight_word(weight))?;
     title_part(page, note, decimals, facts, case)?;
-    lines_part(page, note, &facts.row)?;
+    lines_part(page, note, shown, &facts.row)?;
     account_part(page, note, decimals, facts, case)?;
     advice_part(page, note, decimals, facts, case)?;
     end(page, Element::Li)
@@ -128,6 +174,7 @@ fn item(
 fn item_of(
     page: &mut Text,
     note: &mut Text,
+    shown: &[u64],
     decimals: Decimals,
     book: &[Entry],
     closings: &[Option<Closing>],
@@ -136,18 +183,19 @@ fn item_of(
     look: &Look,
 ) -> Result<(), AllocError>
     ensures { OnOk result (page.new ≡ page.old
-        ++ render (item_of decimals book.now closings.now messages.now rows.now look.now)) }
+        ++ render (item_of shown.now decimals book.now closings.now messages.now rows.now look.now)) }
 {
     let Some(facts) = facts_of(book, closings, messages, rows, look) else {
         return Ok(());
     };
-    item(page, note, decimals, &facts, look.case)
+    item(page, note, shown, decimals, &facts, look.case)
 }
 
 /// Writes a look if it is listed in this round.
 fn listed_item(
     page: &mut Text,
     note: &mut Text,
+    shown: &[u64],
     decimals: Decimals,
     book: &[Entry],
     closings: &[Option<Closing>],
@@ -157,18 +205,21 @@ fn listed_item(
     look: &Look,
 ) -> Result<(), AllocError>
     ensures { OnOk result (page.new ≡ page.old
-        ++ render (listed_item decimals book.now closings.now messages.now rows.now urgent look.now)) }
+        ++ render (listed_item shown.now decimals book.now closings.now messages.now rows.now urgent look.now)) }
 {
     if !is_listed(urgent, look.case) {
         return Ok(());
     }
-    item_of(page, note, decimals, book, closings, messages, rows, look)
+    item_of(
+        page, note, shown, decimals, book, closings, messages, rows, look,
+    )
 }
 
 /// Writes the looks of one round.
 fn items(
     page: &mut Text,
     note: &mut Text,
+    shown: &[u64],
     decimals: Decimals,
     book: &[Entry],
     closings: &[Option<Closing>],
@@ -178,12 +229,12 @@ fn items(
     looks: &[Look],
 ) -> Result<(), AllocError>
     ensures { OnOk result (page.new ≡ page.old
-        ++ render (items decimals book.now closings.now messages.now rows.now urgent looks.now)) }
+        ++ render (items shown.now decimals book.now closings.now messages.now rows.now urgent looks.now)) }
 {
     let mut rest = looks;
     'looks: while let [look, later @ ..] = rest {
         listed_item(
-            page, note, decimals, book, closings, messages, rows, urgent, look,
+            page, note, shown, decimals, book, closings, messages, rows, urgent, look,
         )?;
         rest = later;
     }
@@ -194,6 +245,7 @@ fn items(
 fn items_or_none(
     page: &mut Text,
     note: &mut Text,
+    shown: &[u64],
     decimals: Decimals,
     book: &[Entry],
     closings: &[Option<Closing>],
@@ -202,7 +254,7 @@ fn items_or_none(
     looks: &[Look],
 ) -> Result<(), AllocError>
     ensures { OnOk result (page.new ≡ page.old
-        ++ render (items_or_none decimals book.now closings.now messages.now rows.now looks.now)) }
+        ++ render (items_or_none shown.now decimals book.now closings.now messages.now rows.now looks.now)) }
 {
     if looks.is_empty() {
         return leaf(
@@ -214,10 +266,10 @@ fn items_or_none(
     }
     start(page, Element::Ol, b"look", None)?;
     items(
-        page, note, decimals, book, closings, messages, rows, true, looks,
+        page, note, shown, decimals, book, closings, messages, rows, true, looks,
     )?;
     items(
-        page, note, decimals, book, closings, messages, rows, false, looks,
+        page, note, shown, decimals, book, closings, messages, rows, false, looks,
     )?;
     end(page, Element::Ol)
 }
@@ -232,12 +284,14 @@ fn look_heading(page: &mut Text, id: &[u8]) -> Result<(), AllocError>
     end(page, Element::H2)
 }
 
-/// Writes the section of the looks. Links to `id` lead to its heading.
+/// Writes the section of the looks. Links to `id` lead to its heading, and its orders have links to the lines that the
+/// dialogue shows.
 #[tactic(auto, unfolding(crate::specs::PageLooks::looks_section))]
 pub(crate) fn looks_section(
     page: &mut Text,
     note: &mut Text,
     id: &[u8],
+    shown: &[u64],
     decimals: Decimals,
     books: &DayBooks,
     closings: &[Option<Closing>],
@@ -245,10 +299,12 @@ pub(crate) fn looks_section(
     looks: &[Look],
 ) -> Result<(), AllocError>
     ensures { OnOk result (page.new ≡ page.old
-        ++ render (looks_section id.now decimals books.now closings.now messages.now looks.now)) }
+        ++ render (looks_section id.now shown.now decimals books.now closings.now messages.now looks.now)) }
 {
     look_heading(page, id)?;
     let book = books.book.as_slice();
     let rows = books.orders.as_slice();
-    items_or_none(page, note, decimals, book, closings, messages, rows, looks)
+    items_or_none(
+        page, note, shown, decimals, book, closings, messages, rows, looks,
+    )
 }

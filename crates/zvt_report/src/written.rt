@@ -7,7 +7,7 @@ ghost use Rattle.zvt_report.specs.Written.{AnswersDrawn, AnswersFound, AnswersRe
 ghost use Rattle.zvt_report.specs.Written.{looks_of, report_in, summed_up, zone_for};
 
 use crate::cases::{Look, looks};
-use crate::dialogue::dialogue_in;
+use crate::dialogue::{Drawn, dialogue_in};
 use crate::form::ReportForm;
 use crate::look_list::urgent_count;
 use crate::report::{Report, report_trace};
@@ -63,15 +63,7 @@ pub fn write_report<W: Sink>(
         looks.as_slice(),
         trace,
     )?;
-    write_found(
-        alloc,
-        form,
-        name,
-        &report,
-        looks.as_slice(),
-        drawn.bytes(),
-        writer,
-    )
+    write_found(alloc, form, name, &report, looks.as_slice(), &drawn, writer)
 }
 
 /// Reads a trace to its end, and writes its report like [`write_report`].
@@ -114,14 +106,17 @@ fn drawn_in(
     report: &Report,
     looks: &[Look],
     trace: &[u8],
-) -> Result<Text, TraceFault>
+) -> Result<Drawn, TraceFault>
     requires { length trace.now ≤ limit }
     ensures { AnswersDrawn (reading_of lengths) scope trace.now form report.now looks.now result }
 {
-    let mut drawn = slips_in(alloc, form, scope, lengths, report, looks, trace)?;
+    let mut text = slips_in(alloc, form, scope, lengths, report, looks, trace)?;
     let dialogue = dialogue_in(alloc, form, scope, lengths, report, looks, trace)?;
-    drawn.word(dialogue.bytes())?;
-    Ok(drawn)
+    text.word(dialogue.text.bytes())?;
+    Ok(Drawn {
+        text,
+        lines: dialogue.lines,
+    })
 }
 
 /// Returns the zone in which a report of this form has its times.
@@ -156,7 +151,7 @@ fn write_found<W: Sink>(
     name: &[u8],
     report: &Report,
     looks: &[Look],
-    drawn: &[u8],
+    drawn: &Drawn,
     writer: &mut W,
 ) -> Result<ReportSummary, TraceFault>
     requires { looks.now ≡ looks_of report.now }
@@ -189,7 +184,7 @@ fn write_objects(
     looks: &[Look],
     drawn: &[u8],
 ) -> Result<(), AllocError>
-    ensures { OnOk result (text.new ≡ text.old ++ report_in ReportForm.Json [] report.now looks.now drawn.now) }
+    ensures { OnOk result (text.new ≡ text.old ++ report_in ReportForm.Json [] report.now looks.now [] drawn.now) }
 {
     objects::write(
         text,
@@ -213,14 +208,15 @@ fn write_page(
     name: &[u8],
     report: &Report,
     looks: &[Look],
-    drawn: &[u8],
+    drawn: &Drawn,
 ) -> Result<(), AllocError>
     ensures { OnOk result (text.new ≡ text.old
-        ++ report_in ReportForm.Page name.now report.now looks.now drawn.now) }
+        ++ report_in ReportForm.Page name.now report.now looks.now drawn.now.lines.items drawn.now.text) }
 {
     page::write(
         alloc,
         text,
+        drawn.lines.as_slice(),
         name,
         report.tally,
         report.currency,
@@ -230,7 +226,7 @@ fn write_page(
         report.messages.as_slice(),
         report.closings.as_slice(),
         looks,
-        drawn,
+        drawn.text.bytes(),
     )
 }
 
@@ -241,9 +237,10 @@ fn text_of(
     name: &[u8],
     report: &Report,
     looks: &[Look],
-    drawn: &[u8],
+    drawn: &Drawn,
 ) -> Result<Text, AllocError>
-    ensures { IfOk result (λ text. text ≡ report_in form name.now report.now looks.now drawn.now) }
+    ensures { IfOk result (λ text. text
+        ≡ report_in form name.now report.now looks.now drawn.now.lines.items drawn.now.text) }
 {
     let books = &report.books;
     let messages = report.messages.as_slice();
@@ -262,7 +259,7 @@ fn text_of(
             closings,
             looks,
         )?,
-        ReportForm::Json => write_objects(alloc, &mut text, report, looks, drawn)?,
+        ReportForm::Json => write_objects(alloc, &mut text, report, looks, drawn.text.bytes())?,
         ReportForm::Page => write_page(alloc, &mut text, name, report, looks, drawn)?,
     }
     Ok(text)

@@ -1,4 +1,4 @@
-use Rattle.std.proofs.Common.{◌∙◌, ℕ, Option, ap, option_map}
+use Rattle.std.proofs.Common.{◌∙◌, ℕ, Option, ap, option_map, refl}
 use Rattle.std.proofs.lemmas.Result.{err_from_is_err_and}
 use Rattle.std.specs.declared.alloc.Global.{Global}
 use Rattle.std.specs.declared.vec.Vec.{Vec}
@@ -14,4 +14,4 @@ returns-in_err-walk c =
 pub returns : goal.returns
 returns c = walked_all (reading_of c.args.lengths) c.args.scope c.args.trace.now c.args.report.now c.args.looks.now _ _ _ _ c.new-dialogue.ensures.listed
     (ap (λ (ranges : Option (Vec (ℕ × ℕ) Global)). option_map (λ v. v.items) ranges) c.new-dialogue.ensures.ranges ∙ c.in_ok-ranges.ensures)
-    c.in_ok-walk.ensures c.in_ok-section.ensures
+    c.in_ok-walk.ensures c.in_ok-text.ensures refl

@@ -12,8 +12,8 @@ returns-in_err-drawn-clause-writes g c =
 
 pub returns-clause-writes : goal.returns-clause-writes
 returns-clause-writes g c =
-    found_written (reading_of c.args.lengths) c.args.scope c.args.form c.args.zone c.args.name.now c.args.trace.now c.in_ok-report.report c.bytes.result.now _ _ c.write_found.result
+    found_written (reading_of c.args.lengths) c.args.scope c.args.form c.args.zone c.args.name.now c.args.trace.now c.in_ok-report.report c.in_ok-drawn.drawn _ _ c.write_found.result
     (rw (sym c.zone_for.ensures) c.in_ok-report.ensures)
-    (drawn_is (reading_of c.args.lengths) c.args.scope c.args.form c.args.trace.now c.in_ok-report.report c.as_slice.result.now c.in_ok-drawn.drawn c.bytes.result.now
-    (c.as_slice.ensures.value ∙ c.in_ok-looks.ensures) c.bytes.ensures c.in_ok-drawn.ensures)
+    (drawn_is (reading_of c.args.lengths) c.args.scope c.args.form c.args.trace.now c.in_ok-report.report c.as_slice.result.now c.in_ok-drawn.drawn
+    (c.as_slice.ensures.value ∙ c.in_ok-looks.ensures) c.in_ok-drawn.ensures)
     c.write_found.ensures.writes
