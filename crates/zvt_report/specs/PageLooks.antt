@@ -14,6 +14,9 @@ use Rattle.zvt_report.specs.Facts.{facts_of}
 use Rattle.zvt_report.specs.LookList.{is_listed}
 use Rattle.zvt_report.specs.Looks.{weight_of}
 use Rattle.zvt_report.specs.PageParts.{from_to}
+use Rattle.zvt_report.specs.FindingList.{is_nothing}
+use Rattle.zvt_report.specs.PageFindings.{finding_items}
+use Rattle.zvt_report.specs.PageWeights.{weight_class, weight_word}
 use Rattle.zvt_report.specs.Phrases.{reason}
 use Rattle.zvt_report.specs.Times.{time_first}
 use Rattle.zvt_trace.specs.Marks.{moment}
@@ -21,23 +24,13 @@ use Rattle.zvt_report.specs.Sentences.{about, account, title}
 use Rattle.zvt_report.specs.declared.cases.Case.{Case}
 use Rattle.zvt_report.specs.declared.cases.Case.TheVariants.{CloseUnclear}
 use Rattle.zvt_report.specs.declared.cases.Look.{Look}
-use Rattle.zvt_report.specs.declared.cases.Weight.{Weight}
-use Rattle.zvt_report.specs.declared.cases.Weight.TheVariants.{Act, Check}
 use Rattle.zvt_report.specs.declared.closings.Closing.{Closing}
 use Rattle.zvt_report.specs.declared.currencies.Decimals.{Decimals}
 use Rattle.zvt_report.specs.declared.currencies.Decimals.TheVariants.{Two}
 use Rattle.zvt_report.specs.declared.facts.Facts.{Facts}
+use Rattle.zvt_report.specs.declared.findings.Finding.{Finding}
 use Rattle.zvt_report.specs.declared.rows.OrderMessage.{OrderMessage}
 use Rattle.zvt_report.specs.declared.rows.OrderRow.{OrderRow}
-
--- how urgent a case is: by a class, which gives a shape and a colour, and by a word
-abbrev pub weight_class : Weight → List ℕ
-weight_class Act = codes "act"
-weight_class Check = codes "check"
-
-abbrev pub weight_word : Weight → List ℕ
-weight_word Act = codes "Act"
-weight_word Check = codes "Check"
 
 unfoldable pub title_part : Decimals → Facts → Case → Html
 title_part decimals facts case = leaf H3 [] (title decimals facts case)
@@ -69,17 +62,22 @@ abbrev pub items : Decimals → List Entry → List (Option Closing) → List Or
 items decimals book closings messages rows urgent [] = nothing
 items decimals book closings messages rows urgent (look ∷ looks) = both (listed_item decimals book closings messages rows urgent look) (items decimals book closings messages rows urgent looks)
 
-abbrev pub items_or_none : Decimals → List Entry → List (Option Closing) → List OrderMessage → List OrderRow → List Look → Html
-items_or_none decimals book closings messages rows [] = leaf P (codes "none") (codes "Nothing in this trace needs a look.")
-items_or_none decimals book closings messages rows (look ∷ looks) =
-    element Ol ((Class, codes "look") ∷ []) (both (items decimals book closings messages rows true (look ∷ looks)) (items decimals book closings messages rows false (look ∷ looks)))
+-- the findings after the orders
+unfoldable pub listed_items : Decimals → List Entry → List (Option Closing) → List OrderMessage → List OrderRow → List Look → List Finding → Html
+listed_items decimals book closings messages rows looks findings =
+    element Ol ((Class, codes "look") ∷ [])
+    (both (items decimals book closings messages rows true looks) (both (items decimals book closings messages rows false looks) (finding_items findings)))
+
+abbrev pub items_or_none : Decimals → List Entry → List (Option Closing) → List OrderMessage → List OrderRow → List Look → List Finding → Html
+items_or_none decimals book closings messages rows looks findings =
+    cond (is_nothing looks findings) (leaf P (codes "none") (codes "Nothing in this trace needs a look.")) (listed_items decimals book closings messages rows looks findings)
 
 unfoldable pub look_heading : (id : List ℕ) → Html
 look_heading id = element H2 ((Id, id) ∷ []) (text (codes "Look at these"))
 
 -- the urgent ones first
-unfoldable pub looks_section : (id : List ℕ) → Decimals → DayValue → List (Option Closing) → List OrderMessage → List Look → Html
-looks_section id decimals books closings messages looks = both (look_heading id) (items_or_none decimals books.book closings messages books.orders looks)
+unfoldable pub looks_section : (id : List ℕ) → Decimals → DayValue → List (Option Closing) → List OrderMessage → List Look → List Finding → Html
+looks_section id decimals books closings messages looks findings = both (look_heading id) (items_or_none decimals books.book closings messages books.orders looks findings)
 
 -- ---- a row worked by hand
 

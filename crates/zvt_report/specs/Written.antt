@@ -35,9 +35,9 @@ zone_for Page zone = zone
 
 -- the text, the objects or the page of a report with these looks; only the page has the name of the file
 abbrev pub report_in : ReportForm → (name : List ℕ) → Report → List Look → (drawn : List ℕ) → List ℕ
-report_in Text name report found drawn = report_text report.tally report.currency report.terminal report.times report.books report.messages.items report.closings.items found
-report_in Json name report found drawn = report_json report.tally report.currency report.terminal report.times report.books report.messages.items report.closings.items found drawn
-report_in Page name report found drawn = report_page name report.tally report.currency report.terminal report.times report.books report.messages.items report.closings.items found drawn
+report_in Text name report found drawn = report_text report.tally report.currency report.terminal report.times report.books report.messages.items report.closings.items found report.findings.items
+report_in Json name report found drawn = report_json report.tally report.currency report.terminal report.times report.books report.messages.items report.closings.items found report.findings.items drawn
+report_in Page name report found drawn = report_page name report.tally report.currency report.terminal report.times report.books report.messages.items report.closings.items found report.findings.items drawn
 
 -- the looks that its orders need
 abbrev pub looks_of : Report → List Look

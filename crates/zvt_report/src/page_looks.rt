@@ -2,17 +2,21 @@
 ghost use Rattle.std.specs.Prelude.{◌≡◌, ◌++◌, OnOk};
 ghost use Rattle.zvt_page.specs.Html.{render};
 ghost use Rattle.zvt_report.specs.PageLooks.{account_part, advice_part, item, item_of, items, items_or_none};
-ghost use Rattle.zvt_report.specs.PageLooks.{lines_part, listed_item, look_heading, looks_section, title_part};
-ghost use Rattle.zvt_report.specs.PageLooks.{weight_class, weight_word};
+ghost use Rattle.zvt_report.specs.PageLooks.{lines_part, listed_item, listed_items, look_heading, looks_section};
+ghost use Rattle.zvt_report.specs.PageLooks.{title_part};
 
 use crate::advices::advice;
 use crate::books::DayBooks;
-use crate::cases::{Case, Look, Weight};
+use crate::cases::{Case, Look};
 use crate::closings::Closing;
 use crate::currencies::Decimals;
 use crate::facts::{Facts, facts_of};
+use crate::finding_list::is_nothing;
+use crate::findings::Finding;
 use crate::look_list::is_listed;
+use crate::page_findings::finding_items;
 use crate::page_parts::from_to;
+use crate::page_weights::{weight_class, weight_word};
 use crate::rows::{OrderMessage, OrderRow};
 use crate::sentences::account;
 use crate::times::time_first;
@@ -21,26 +25,6 @@ use std::alloc::AllocError;
 use zvt_page::{Attribute, Element, end, escaped, leaf, start};
 use zvt_text::Text;
 use zvt_till::Entry;
-
-/// Returns the class of an order of this weight, which gives it a shape and a colour.
-fn weight_class(weight: Weight) -> &'static [u8]
-    ensures { result.now ≡ weight_class weight }
-{
-    match weight {
-        Weight::Act => b"act",
-        Weight::Check => b"check",
-    }
-}
-
-/// Returns the word for a weight.
-fn weight_word(weight: Weight) -> &'static [u8]
-    ensures { result.now ≡ weight_word weight }
-{
-    match weight {
-        Weight::Act => b"Act",
-        Weight::Check => b"Check",
-    }
-}
 
 /// Writes the title of an order.
 #[tactic(auto, unfolding(crate::specs::PageLooks::title_part))]
@@ -190,7 +174,34 @@ fn items(
     Ok(())
 }
 
-/// Writes the looks, the urgent ones first, or that there are none.
+/// Writes the list of the looks, the urgent ones first, and of the findings.
+#[tactic(auto, unfolding(crate::specs::PageLooks::listed_items))]
+fn listed_items(
+    page: &mut Text,
+    note: &mut Text,
+    decimals: Decimals,
+    book: &[Entry],
+    closings: &[Option<Closing>],
+    messages: &[OrderMessage],
+    rows: &[OrderRow],
+    looks: &[Look],
+    findings: &[Finding],
+) -> Result<(), AllocError>
+    ensures { OnOk result (page.new ≡ page.old
+        ++ render (listed_items decimals book.now closings.now messages.now rows.now looks.now findings.now)) }
+{
+    start(page, Element::Ol, b"look", None)?;
+    items(
+        page, note, decimals, book, closings, messages, rows, true, looks,
+    )?;
+    items(
+        page, note, decimals, book, closings, messages, rows, false, looks,
+    )?;
+    finding_items(page, note, findings)?;
+    end(page, Element::Ol)
+}
+
+/// Writes the looks and the findings, or that there are none.
 fn items_or_none(
     page: &mut Text,
     note: &mut Text,
@@ -200,11 +211,12 @@ fn items_or_none(
     messages: &[OrderMessage],
     rows: &[OrderRow],
     looks: &[Look],
+    findings: &[Finding],
 ) -> Result<(), AllocError>
     ensures { OnOk result (page.new ≡ page.old
-        ++ render (items_or_none decimals book.now closings.now messages.now rows.now looks.now)) }
+        ++ render (items_or_none decimals book.now closings.now messages.now rows.now looks.now findings.now)) }
 {
-    if looks.is_empty() {
+    if is_nothing(looks, findings) {
         return leaf(
             page,
             Element::P,
@@ -212,14 +224,9 @@ fn items_or_none(
             b"Nothing in this trace needs a look.",
         );
     }
-    start(page, Element::Ol, b"look", None)?;
-    items(
-        page, note, decimals, book, closings, messages, rows, true, looks,
-    )?;
-    items(
-        page, note, decimals, book, closings, messages, rows, false, looks,
-    )?;
-    end(page, Element::Ol)
+    listed_items(
+        page, note, decimals, book, closings, messages, rows, looks, findings,
+    )
 }
 
 /// Writes the heading of the looks.
@@ -232,7 +239,7 @@ fn look_heading(page: &mut Text, id: &[u8]) -> Result<(), AllocError>
     end(page, Element::H2)
 }
 
-/// Writes the section of the looks. Links to `id` lead to its heading.
+/// Writes the section of the looks and the findings. Links to `id` lead to its heading.
 #[tactic(auto, unfolding(crate::specs::PageLooks::looks_section))]
 pub(crate) fn looks_section(
     page: &mut Text,
@@ -243,12 +250,15 @@ pub(crate) fn looks_section(
     closings: &[Option<Closing>],
     messages: &[OrderMessage],
     looks: &[Look],
+    findings: &[Finding],
 ) -> Result<(), AllocError>
     ensures { OnOk result (page.new ≡ page.old
-        ++ render (looks_section id.now decimals books.now closings.now messages.now looks.now)) }
+        ++ render (looks_section id.now decimals books.now closings.now messages.now looks.now findings.now)) }
 {
     look_heading(page, id)?;
     let book = books.book.as_slice();
     let rows = books.orders.as_slice();
-    items_or_none(page, note, decimals, book, closings, messages, rows, looks)
+    items_or_none(
+        page, note, decimals, book, closings, messages, rows, looks, findings,
+    )
 }

@@ -202,6 +202,7 @@ fn write_objects(
         report.messages.as_slice(),
         report.closings.as_slice(),
         looks,
+        report.findings.as_slice(),
         drawn,
     )
 }
@@ -230,6 +231,7 @@ fn write_page(
         report.messages.as_slice(),
         report.closings.as_slice(),
         looks,
+        report.findings.as_slice(),
         drawn,
     )
 }
@@ -261,6 +263,7 @@ fn text_of(
             messages,
             closings,
             looks,
+            report.findings.as_slice(),
         )?,
         ReportForm::Json => write_objects(alloc, &mut text, report, looks, drawn)?,
         ReportForm::Page => write_page(alloc, &mut text, name, report, looks, drawn)?,
