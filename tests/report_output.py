@@ -235,6 +235,7 @@ def repeated(*answers):
 
 LOST, DONE, DECLINED = ("!", None), message(COMPLETION), message(STATUS, b"\x27\x6C")
 ABORTED, UNHEARD = message(ABORT, b"\x6C"), [*paid(500, 1)[:2], LOST]
+UNREADABLE = message(STATUS, b"\x27\0\xF0\0")  # no field F0
 TAKEN_BACK = (ACK, approving(500, 2, 1), DONE)
 CASES = [
     ("ApprovedNotCompleted", [*paid(500, 1, approving(500, 1)), LOST], [*paid(500, 1), LOST]),
@@ -267,6 +268,11 @@ CASES = [
     ("CloseDiffers", [*paid(500, 1), *closed(totalled(500), DONE), *paid(300, 2), *closed(totalled(800), DONE)],
      [*paid(500, 1), *closed(totalled(500), DONE), *paid(300, 2), *closed(totalled(300), DONE)]),
     ("CloseDiffers", [*paid(500, 1), *reversed_by(1, *TAKEN_BACK), *closed(by_card(0, 500), DONE)], [*paid(500, 1), *closed(by_card(200, 300), DONE)]),
+    ("Refused", [("<", UNREADABLE)], [("<", message(STATUS, b"\x27\0"))]),
+    ("Refused", [(">", message(b"\x06\x70", b"")), (">", message(AUTHORISATION, b"\x04" + bytes(5) + b"\xA0"))], paid(500, 1)),
+    ("CutOff", [(">", message(AUTHORISATION, b"\x04" + digits(500, 6))[:-1])], [(">", message(AUTHORISATION, b"\x04" + digits(500, 6)))]),
+    ("CutOff", [("<", DONE[:1]), LOST], [("<", DONE[:1]), ("<", DONE[1:]), LOST]),
+    ("MoreRefused", [("<", UNREADABLE)] * 20 + [("<", DONE[:2])], [("<", UNREADABLE)] * 20),
 ]
 
 

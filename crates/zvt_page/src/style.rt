@@ -35,7 +35,8 @@ white-space:normal;line-height:1.35}
 gap:0 1rem}
 .look li:first-child{border-top:0;padding-top:.2rem}
 .sev{font-size:.82rem;font-weight:620;line-height:1.5rem}
-.act>.sev,.c-act{color:var(--act)}.check>.sev{color:var(--check)}.c-ok{color:var(--ok)}.c-soft{color:var(--soft)}
+.act>.sev,.c-act{color:var(--act)}.check>.sev{color:var(--check)}.c-ok{color:var(--ok)}
+.c-soft,.note>.sev{color:var(--soft)}.note>.sev::before{border-radius:50%}
 .sev::before{content:'';display:inline-block;width:.55rem;height:.55rem;background:currentColor;
 margin-right:.5rem;border-radius:1px;transform:rotate(45deg) scale(.9)}
 .check>.sev::before{background:none;border:1.6px solid currentColor}

@@ -19,6 +19,7 @@ pub mod HiddenLemmas
 pub mod FilesLemmas
 pub mod MemberLemmas
 pub mod LookObjectLemmas
+pub mod FindingLemmas
 pub mod GroupLemmas
 pub mod CardLemmas
 pub mod TextLemmas

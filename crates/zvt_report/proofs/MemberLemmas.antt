@@ -13,13 +13,15 @@ use Rattle.zvt_till.specs.Names.{cause_name}
 use Rattle.zvt_till.specs.declared.outcomes.Cause.{Cause}
 use Rattle.zvt_till.specs.declared.outcomes.Cause.TheVariants as cause
 use Rattle.zvt_report.specs.Members.{member_text, name_text, object_name, object_text, object_value, said, value_data, word_text}
-use Rattle.zvt_report.specs.Words.{case_name, ending_name, weight_name}
+use Rattle.zvt_report.specs.Words.{case_name, ending_name, finding_name, weight_name}
 use Rattle.zvt_report.specs.declared.cases.Case.{Case}
 use Rattle.zvt_report.specs.declared.cases.Case.TheVariants as case_of
 use Rattle.zvt_report.specs.declared.cases.Weight.{Weight}
 use Rattle.zvt_report.specs.declared.cases.Weight.TheVariants as weight
 use Rattle.zvt_report.specs.declared.endings.Ending.{Ending}
 use Rattle.zvt_report.specs.declared.endings.Ending.TheVariants as ending
+use Rattle.zvt_report.specs.declared.findings.Finding.{Finding}
+use Rattle.zvt_report.specs.declared.findings.Finding.TheVariants as finding
 use Rattle.zvt_report.specs.declared.members.Member.{Member}
 use Rattle.zvt_report.specs.declared.members.Name.{Name}
 use Rattle.zvt_report.specs.declared.members.Name.TheVariants as name
@@ -52,6 +54,13 @@ weight_plain : (w : Weight) → escape (weight_name w) ≡ weight_name w
 unfolding escape_byte
 weight_plain weight.Act = refl
 weight_plain weight.Check = refl
+weight_plain weight.Note = refl
+
+finding_plain : (f : Finding) → escape (finding_name f) ≡ finding_name f
+unfolding escape_byte
+finding_plain (finding.Refused line from head place why goes) = refl
+finding_plain (finding.CutOff line from head have) = refl
+finding_plain (finding.MoreRefused count) = refl
 
 cause_plain : (c : Cause) → escape (cause_name c) ≡ cause_name c
 unfolding escape_byte
@@ -91,6 +100,7 @@ order_plain true false high low = command_plain high low
 
 pub word_plain : (w : Word) → escape (word_text w) ≡ word_text w
 word_plain (word.Case c) = case_plain c
+word_plain (word.Finding f) = finding_plain f
 word_plain (word.Weight w) = weight_plain w
 word_plain (word.Cause c) = cause_plain c
 word_plain (word.Ending e) = ending_plain e

@@ -49,7 +49,7 @@ use Rattle.zvt_report.specs.declared.rows.OrderRow.{OrderRow}
 -- ---- names in order
 
 -- the member has this name, if there is one
-abbrev IsNamed : Option Member → Name → Type 0
+abbrev pub IsNamed : Option Member → Name → Type 0
 IsNamed None n = Unit {0}
 IsNamed (Some m) n = m.name ≡ n
 
@@ -60,12 +60,12 @@ AreNamed (m ∷ ms) [] = ⊥
 AreNamed (m ∷ ms) (n ∷ ns) = IsNamed m n × AreNamed ms ns
 
 -- the key comes after each of these names
-abbrev after_all : List ℕ → List Name → Bool
+abbrev pub after_all : List ℕ → List Name → Bool
 after_all k [] = true
 after_all k (n ∷ ns) = match_ordering (slice_cmp nat_cmp k (name_text n)) false false (after_all k ns)
 
 -- each name comes after those before it
-abbrev in_order : (before : List Name) → List Name → Bool
+abbrev pub in_order : (before : List Name) → List Name → Bool
 in_order before [] = true
 in_order before (n ∷ ns) = after_all (name_text n) before && in_order (before ++ n ∷ []) ns
 
@@ -207,16 +207,16 @@ read_named o ms ns named order = λ fit.
 -- ---- members and sentences
 
 -- the member has this name, and a value without objects
-abbrev IsTold : Told → Name → Type 0
+abbrev pub IsTold : Told → Name → Type 0
 IsTold None n = Unit {0}
 IsTold (Some t) n = (t.0 ≡ n) × ((ordered t.1 ≡ true) × (depth t.1 ≤ 2))
 
-abbrev AreTold : List Told → List Name → Type 0
+abbrev pub AreTold : List Told → List Name → Type 0
 AreTold [] ns = Unit {0}
 AreTold (t ∷ ts) [] = ⊥
 AreTold (t ∷ ts) (n ∷ ns) = IsTold t n × AreTold ts ns
 
-told_of : (m : Option Member) (n : Name) → IsNamed m n → IsTold (of_member m) n
+pub told_of : (m : Option Member) (n : Name) → IsNamed m n → IsTold (of_member m) n
 told_of None n named = tt
 told_of (Some m) n named = (named, (value_ordered m.value, value_shallow m.value))
 
@@ -241,10 +241,10 @@ told_shallow (t ∷ ts) [] named = absurd named
 told_shallow (None ∷ ts) (n ∷ ns) named = told_shallow ts ns named.1
 told_shallow (Some t ∷ ts) (n ∷ ns) named = omega (arith, named.0.1.1, told_shallow ts ns named.1)
 
-sentence_told : (n : Name) (text : List ℕ) → IsTold (Some (n, string text)) n
+pub sentence_told : (n : Name) (text : List ℕ) → IsTold (Some (n, string text)) n
 sentence_told n text = (refl, (refl, omega arith))
 
-read_told : (ts : List Told) (ns : List Name) → AreTold ts ns → in_order [] ns ≡ true → IsReadBack (look_value ts)
+pub read_told : (ts : List Told) (ns : List Name) → AreTold ts ns → in_order [] ns ≡ true → IsReadBack (look_value ts)
 read_told ts ns named order = λ fit.
     let names = told_ordered ts ns [] no_members named order (λ k h. refl) in
     reads_back (look_value ts) fit (ap (λ (b : Bool). b && true) names) (omega (arith, told_shallow ts ns named))
@@ -417,7 +417,7 @@ look_read decimals facts rows look =
 
 pub objects_read_back : ObjectsReadBack
 objects_read_back = (
-  (λ tally currency terminal times books messages looks. read_named object_of.Summary (summary_members tally currency terminal times books messages looks) names_of_summary (refl, (refl, (currency_named currency, (refl, (refl, (refl, (refl, (refl, (refl, (terminal_named terminal, (from_named times.span, (to_named times.span, (back_named times.went_back, (bad_named times.bad times.first_bad, (refl, (refl, (refl, tt))))))))))))))))) refl),
+  (λ tally currency terminal times books messages looks findings. read_named object_of.Summary (summary_members tally currency terminal times books messages looks findings) names_of_summary (refl, (refl, (currency_named currency, (refl, (refl, (refl, (refl, (refl, (refl, (terminal_named terminal, (from_named times.span, (to_named times.span, (back_named times.went_back, (bad_named times.bad times.first_bad, (refl, (refl, (refl, tt))))))))))))))))) refl),
   (λ decimals facts rows look. look_read decimals facts rows look),
   (λ books place row amount. read_named object_of.Payment (payment_members books place row amount) names_of_payment (refl, (count_named name.Approved _, (card_named row.card, (card_number_named row.card, (cause_named name.Cause _, (code_named row.outcome, (refl, (refl, (refl, (count_named name.Payment _, (receipt_named _, (cause_named name.ReversalUnclear _, (count_named name.ReversedBy _, (true_named name.TakenBack _, (time_named row.time, (count_named name.Trace _, (words_named row.outcome, tt))))))))))))))))) refl),
   (λ books place row message. read_named object_of.Reversal (reversal_members books place row message) names_of_reversal (count_named name.Amount _, (cause_named name.Cause _, (code_named row.outcome, (refl, (refl, (refl, (count_named name.Payment _, (receipt_named message.receipt, (time_named row.time, (words_named row.outcome, tt)))))))))) refl),

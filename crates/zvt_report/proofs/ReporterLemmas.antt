@@ -1,5 +1,6 @@
 -- What a reporter becomes by an event, and what it finds after all events.
 use Rattle.std.proofs.Common.{◌≡◌, inl, inr, ℕ, List, [], ◌∷◌, ◌++◌, Option, Some, None, Ok, Err, fold, map, refl, sym, ◌∙◌, ap, ap₂, subst, append_assoc, append-nil}
+use Rattle.std.specs.List.{cons_option}
 use Rattle.std.specs.Option.{option_or}
 use Rattle.std.specs.Str.Lines.{lines}
 use Rattle.zvt_grammar.specs.Reading.{Reading}
@@ -10,6 +11,7 @@ use Rattle.zvt_till.specs.declared.happenings.Happening.TheVariants.{Connected}
 use Rattle.zvt_trace.specs.Emitting.{EventsSoFar}
 use Rattle.zvt_trace.specs.Listening.{AnswersWalk, HearsAll, Stops}
 use Rattle.zvt_trace.specs.TraceEvent.{At, Tallies}
+use Rattle.zvt_trace.specs.declared.both.Both.{Both}
 use Rattle.zvt_trace.specs.declared.fault.Tally.{Tally}
 use Rattle.zvt_trace.specs.declared.fault.TraceFault.{TraceFault}
 use Rattle.zvt_trace.specs.declared.fault.TraceFault.TheVariants.{Memory, Read, TooLong, Trace, Write}
@@ -24,9 +26,10 @@ use Rattle.zvt_audit.proofs.ControlLemmas.{all_seen}
 use Rattle.zvt_audit.proofs.CurrencyLemmas.{after_all, all_agreed, one_more}
 use Rattle.zvt_report.specs.Chapters.{Noted, noted}
 use Rattle.zvt_report.specs.Day.{day_of}
+use Rattle.zvt_report.specs.Findings.{bad_messages, finding_at, listed}
 use Rattle.zvt_report.specs.Judging.{DaySoFar, HasJudged}
 use Rattle.zvt_report.specs.Reported.{beginning_in, beginnings, happenings_with, reported, with_event}
-use Rattle.zvt_report.specs.Reports.{AnswersReport, Finds, JudgesAll, Judges, Reports, ReportsBy, SaysMore, StartsIn, hears, hears_by, wants_memory_by}
+use Rattle.zvt_report.specs.Reports.{AnswersReport, Finds, JudgesAll, Judges, Reports, ReportsBy, SaysMore, StartsIn, both_hear, both_want_memory, hears, hears_by}
 use Rattle.zvt_report.specs.Said.{AreSaidBy, IsSaidBy}
 use Rattle.zvt_report.specs.Settling.{settled}
 use Rattle.zvt_report.specs.TerminalIds.{first_terminal, terminal_after, terminal_by}
@@ -36,6 +39,8 @@ use Rattle.zvt_trace.specs.Moments.{bad_marks_of, times_of}
 use Rattle.zvt_trace.specs.declared.moments.Moments.{Moments}
 use Rattle.zvt_trace.specs.declared.moments.Timed.{Timed}
 use Rattle.zvt_report.specs.Statements.{States, stated}
+use Rattle.zvt_report.specs.declared.findings.Finder.{Finder}
+use Rattle.zvt_report.specs.declared.findings.Finding.{Finding}
 use Rattle.zvt_report.specs.declared.report.Report.{Report}
 use Rattle.zvt_report.specs.declared.reporter.Reporter.{Reporter}
 use Rattle.zvt_report.specs.declared.rows.OrderMessage.{OrderMessage}
@@ -131,45 +136,69 @@ said_more [] m (first ∷ old) said never is = absurd never
 said_more (first ∷ messages) m [] said never is = absurd never
 said_more (first ∷ messages) m (other ∷ old) said before is = (before.0, said_more messages m old said before.1 is)
 
+-- ---- what is found beside it
+
+first_heard : (events : List At) (old new : Both (ByControl Reporter) Finder) → HearsAll both_hear old events new → HearsAll hears_by old.first events new.first
+first_heard [] old new same = ap (λ (b : Both (ByControl Reporter) Finder). b.first) same
+first_heard (event ∷ events) old new (middle, heard, rest) = (middle.first, heard.0, first_heard events middle new rest)
+
+-- what was found so far, and then in these events
+all_found : (scope : Scope) (events : List At) (old new : Both (ByControl Reporter) Finder) → old.second.scope ≡ scope → HearsAll both_hear old events new
+    → new.second.found.items ≡ old.second.found.items ++ bad_messages scope events
+all_found scope [] old new is same = ap (λ (b : Both (ByControl Reporter) Finder). b.second.found.items) same ∙ sym (append-nil old.second.found.items)
+all_found scope (event ∷ events) old new is (middle, heard, rest) =
+    all_found scope events middle new (heard.1.0 ∙ is) rest
+    ∙ ap (λ (l : List Finding). l ++ bad_messages scope events) (heard.1.1 ∙ ap (λ (s : Scope). old.second.found.items ++ cons_option (finding_at s event) []) is)
+    ∙ append_assoc old.second.found.items (cons_option (finding_at scope event) []) (bad_messages scope events)
+    ∙ ap (λ (l : List Finding). old.second.found.items ++ l) (one_first (finding_at scope event) (bad_messages scope events))
+  where
+    one_first : (o : Option Finding) (more : List Finding) → cons_option o [] ++ more ≡ cons_option o more
+    one_first None more = refl
+    one_first (Some f) more = refl
+
 -- ---- the answer
 
-pub reported_all : (zone : Zone) (moments : Moments) (r : Reading) (scope : Scope) (trace : List ℕ) (tally : Tally) (report : Report) (old new : ByControl Reporter)
-    → moments.times.items ≡ times_of (lines trace) → moments.bad.items ≡ bad_marks_of (lines trace) → StartsIn scope old → AnswersWalk r hears_by wants_memory_by scope (lines trace) old new (Ok tally) → Finds new.listener tally new.passed zone moments report
+pub reported_all : (zone : Zone) (moments : Moments) (r : Reading) (scope : Scope) (trace : List ℕ) (tally : Tally) (report : Report) (old new : Both (ByControl Reporter) Finder) (found : List Finding)
+    → moments.times.items ≡ times_of (lines trace) → moments.bad.items ≡ bad_marks_of (lines trace) → StartsIn scope old.first → old.second.scope ≡ scope → old.second.found.items ≡ []
+    → AnswersWalk r both_hear both_want_memory scope (lines trace) old new (Ok tally) → found ≡ listed new.second.found.items → Finds new.first.listener tally new.first.passed zone moments found report
     → AnswersReport zone r scope trace (Ok report)
-reported_all zone moments r scope trace tally report old new times bad starts walked finds =
+reported_all zone moments r scope trace tally report old new found times bad starts begun none_found walked few finds =
     let events = seen scope walked.0 in
-    let all = all_seen hears scope walked.0 old new starts.1 walked.2 in
+    let all = all_seen hears scope walked.0 old.first new.first starts.1 (first_heard walked.0 old new walked.2) in
     let heard = all.0 in
-    let none : AreSaidBy [] old.listener.messages.items = subst (λ (l : List OrderMessage). AreSaidBy [] l) (sym starts.0.2) tt in
-    let statements = all_stated events old.listener new.listener heard ∙ starts_stated old.listener.hearing events starts.0.3 starts.0.4 in (
+    let none : AreSaidBy [] old.first.listener.messages.items = subst (λ (l : List OrderMessage). AreSaidBy [] l) (sym starts.0.2) tt in
+    let statements = all_stated events old.first.listener new.first.listener heard ∙ starts_stated old.first.listener.hearing events starts.0.3 starts.0.4 in
+    let bad_ones = all_found scope walked.0 old new begun walked.2 ∙ ap (λ (l : List Finding). l ++ bad_messages scope walked.0) none_found in (
       walked.0,
       walked.1,
       subst (λ (t : Tally). Tallies t walked.0) (sym finds.tally) walked.3,
       record {
-        currency = finds.currency ∙ currency_heard events old.listener new.listener starts.0.1 heard;
-        books = finds.books (reported events) (all_judged events old.listener new.listener (noted 0 Connected ∷ []) starts.0.0 heard) ∙ ap₂ (λ (t : List Timed) (l : List Statement). timed_day zone t (settled l (day_of (reported events)))) times statements;
-        terminal = finds.terminal ∙ all_identified events old.listener new.listener heard ∙ ap (λ (t : Option (List ℕ)). option_or t (first_terminal events)) starts.0.5;
+        currency = finds.currency ∙ currency_heard events old.first.listener new.first.listener starts.0.1 heard;
+        books = finds.books (reported events) (all_judged events old.first.listener new.first.listener (noted 0 Connected ∷ []) starts.0.0 heard) ∙ ap₂ (λ (t : List Timed) (l : List Statement). timed_day zone t (settled l (day_of (reported events)))) times statements;
+        terminal = finds.terminal ∙ all_identified events old.first.listener new.first.listener heard ∙ ap (λ (t : Option (List ℕ)). option_or t (first_terminal events)) starts.0.5;
         times = finds.times ∙ ap₂ (times_in zone) times bad;
         statements = finds.statements ∙ statements;
         closings = finds.closings;
-        messages = subst (λ (l : List OrderMessage). AreSaidBy (beginnings events) l) (sym finds.messages) (all_said events old.listener new.listener [] none heard);
+        messages = subst (λ (l : List OrderMessage). AreSaidBy (beginnings events) l) (sym finds.messages) (all_said events old.first.listener new.first.listener [] none heard);
       },
       finds.passed ∙ all.1 ∙ ap (λ (n : ℕ). passed_after scope n walked.0) starts.2,
+      finds.findings ∙ few ∙ ap listed bad_ones,
     )
 
--- a reporter writes nothing, so no write fails
-no_write : {r : Reading} {scope : Scope} (lines : List (List ℕ)) (old new : ByControl Reporter) → AnswersWalk r hears_by wants_memory_by scope lines old new (Err Write) → ⊥
+-- neither writes, so no write fails
+no_write : {r : Reading} {scope : Scope} (lines : List (List ℕ)) (old new : Both (ByControl Reporter) Finder) → AnswersWalk r both_hear both_want_memory scope lines old new (Err Write) → ⊥
 no_write {r = r} {scope = scope} lines old new failed = by failed.stops
   where
     differ : failure.Write ≡ failure.Memory → ⊥
     differ e = cc
 
-    by : Stops {S = ByControl Reporter} wants_memory_by failure.Write (EventsSoFar r scope lines) failed.events failed.middle new → ⊥
+    by : Stops {S = Both (ByControl Reporter) Finder} both_want_memory failure.Write (EventsSoFar r scope lines) failed.events failed.middle new → ⊥
     by (inl (is, so_far, same)) = differ is
-    by (inr (event, so_far, left)) = differ left
+    by (inr (event, so_far, inl left)) = differ left.0
+    by (inr (event, so_far, inr right)) = differ right.1
 
-pub walk_failed : (zone : Zone) (r : Reading) (scope : Scope) (trace : List ℕ) (fault : TraceFault) (old new : ByControl Reporter)
-    → AnswersWalk r hears_by wants_memory_by scope (lines trace) old new (Err fault) → AnswersReport zone r scope trace (Err fault)
+pub walk_failed : (zone : Zone) (r : Reading) (scope : Scope) (trace : List ℕ) (fault : TraceFault) (old new : Both (ByControl Reporter) Finder)
+    → AnswersWalk r both_hear both_want_memory scope (lines trace) old new (Err fault) → AnswersReport zone r scope trace (Err fault)
 walk_failed zone r scope trace (Trace number what) old new walked = (walked.0, walked.1)
 walk_failed zone r scope trace Memory old new walked = tt
 walk_failed zone r scope trace Write old new walked = absurd (no_write (lines trace) old new walked)

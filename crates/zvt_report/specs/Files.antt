@@ -88,7 +88,7 @@ index files =
 unfoldable pub read_section : (place : ℕ) → (name : List ℕ) → Report → List Look → Html
 read_section place name report looks =
     element Section ((Id, file_id place) ∷ [])
-    (both (sections (looks_id place) [] name (money_of report.currency) report.terminal report.times report.books report.messages.items report.closings.items looks) (page_foot report.tally report.times))
+    (both (sections (looks_id place) [] name (money_of report.currency) report.terminal report.times report.books report.messages.items report.closings.items looks report.findings.items) (page_foot report.tally report.times))
 
 abbrev pub file_section : (place : ℕ) → FileReport → Html
 file_section place (read name report) = read_section place name report (looks_of report)

@@ -6,7 +6,9 @@ use Rattle.zvt_apdu.specs.Message.{Message, ack, nack, registration, authorisati
 use Rattle.zvt_text.specs.Secrets.{blank, blanked_in, blanked_objects}
 use Rattle.zvt_trace.specs.TraceEvent.{At, TraceEvent, on}
 use Rattle.zvt_trace.specs.TraceEvent as trace_event
+use Rattle.zvt_trace.specs.declared.listener.Scope.{Scope}
 use Rattle.zvt_report.specs.Cards.{is_masked}
+use Rattle.zvt_report.specs.Findings.{findings}
 use Rattle.zvt_report.specs.PageEvents.{event_item}
 use Rattle.zvt_report.specs.Reports.{IsReportOf}
 use Rattle.zvt_report.specs.Said.{moves_money}
@@ -67,6 +69,10 @@ abbrev pub HiddenBytesMeanNothing : Type 0
 HiddenBytesMeanNothing =
     (zone : Zone) (trace : List (List ℕ)) (events others : List At) (report : Report)
     → map disclosed_at events ≡ map disclosed_at others → IsReportOf zone trace events report → IsReportOf zone trace others report
+
+-- They have the same findings.
+abbrev pub HiddenBytesAreNotFound : Type 0
+HiddenBytesAreNotFound = (scope : Scope) (events others : List At) → map disclosed_at events ≡ map disclosed_at others → findings scope events ≡ findings scope others
 
 -- A page shows them alike in its dialogue.
 abbrev pub HiddenBytesAreNotShown : Type 0

@@ -20,7 +20,7 @@ use Rattle.zvt_report.specs.declared.cases.Look.{Look}
 use Rattle.zvt_report.specs.Times.{time_first}
 use Rattle.zvt_trace.specs.Marks.{moment}
 use Rattle.zvt_report.specs.declared.cases.Weight.{Weight}
-use Rattle.zvt_report.specs.declared.cases.Weight.TheVariants.{Act, Check}
+use Rattle.zvt_report.specs.declared.cases.Weight.TheVariants.{Act, Check, Note}
 use Rattle.zvt_report.specs.declared.closings.Closing.{Closing}
 use Rattle.zvt_report.specs.declared.currencies.Decimals.{Decimals}
 use Rattle.zvt_report.specs.declared.currencies.Decimals.TheVariants.{Two}
@@ -33,6 +33,7 @@ use Rattle.zvt_report.specs.declared.rows.OrderRow.{OrderRow}
 unfoldable pub weight_text : Weight → List ℕ
 weight_text Act = codes "ACT    "
 weight_text Check = codes "CHECK  "
+weight_text Note = codes "NOTE   "
 
 -- the time and the lines of an order
 unfoldable pub lines_part : OrderRow → List ℕ
@@ -58,7 +59,7 @@ look_of decimals book closings messages rows number look =
 -- ---- all of them
 
 abbrev pub is_urgent : Case → Bool
-is_urgent case = elim (weight_of case) [ Act ↦ true | Check ↦ false ]
+is_urgent case = elim (weight_of case) [ Act ↦ true | Check ↦ false | Note ↦ false ]
 
 -- in this round the urgent ones are listed, or the others
 abbrev pub is_listed : (urgent : Bool) → Case → Bool
@@ -84,10 +85,6 @@ unfoldable pub listed_looks : Decimals → List Entry → List (Option Closing) 
 listed_looks decimals book closings messages rows looks =
     codes "Look at these\n" ++ looks_from decimals book closings messages rows true 0 looks ++ looks_from decimals book closings messages rows false (urgent_count looks) looks
 
-abbrev pub looks_text : Decimals → List Entry → List (Option Closing) → List OrderMessage → List OrderRow → List Look → List ℕ
-looks_text decimals book closings messages rows [] = codes "Look at these: nothing\n"
-looks_text decimals book closings messages rows (look ∷ looks) = listed_looks decimals book closings messages rows (look ∷ looks)
-
 -- ---- rows worked by hand
 
 abbrev a_payment : (amount first : ℕ) → OrderRow
@@ -102,7 +99,7 @@ a_look case order = record { case = case; order = order; again = None; confirmed
 
 -- the end of day is the first order, and not urgent
 urgent_first :
-    looks_text Two [] [] [] (an_end ∷ a_payment 3499 128 ∷ []) (a_look CloseUnclear 0 ∷ a_look ApprovedNotCompleted 1 ∷ [])
+    listed_looks Two [] [] [] (an_end ∷ a_payment 3499 128 ∷ []) (a_look CloseUnclear 0 ∷ a_look ApprovedNotCompleted 1 ∷ [])
     ≡ codes "Look at these\n\n"
     ++ codes " 1. ACT    34.99 may have been charged (lines 128-136)\n"
     ++ codes "    The terminal approved 34.99 (line 134, trace 000020, receipt 0008), but\n"

@@ -14,7 +14,7 @@ use Rattle.zvt_till.specs.declared.outcomes.Cause.TheVariants.{NoStatus}
 use Rattle.zvt_report.specs.CardTexts.{characters, number_text}
 use Rattle.zvt_report.specs.GroupObjects.{groups_value}
 use Rattle.zvt_report.specs.OrderNames.{order_name}
-use Rattle.zvt_report.specs.Words.{case_name, ending_name, weight_name}
+use Rattle.zvt_report.specs.Words.{case_name, ending_name, finding_name, weight_name}
 use Rattle.zvt_report.specs.declared.explaining.Explained.{Explained}
 use Rattle.zvt_report.specs.declared.explaining.Explained.TheVariants as explained
 use Rattle.zvt_report.specs.declared.members.Object.{Object}
@@ -89,6 +89,7 @@ name_text name.Words = codes "words"
 
 abbrev pub word_text : Word → List ℕ
 word_text (word.Case case) = case_name case
+word_text (word.Finding finding) = finding_name finding
 word_text (word.Weight weight) = weight_name weight
 word_text (word.Cause cause) = cause_name cause
 word_text (word.Ending ending) = ending_name ending

@@ -35,6 +35,7 @@ use Rattle.zvt_report.specs.declared.cases.Look.{Look}
 use Rattle.zvt_report.specs.declared.closings.Closing.{Closing}
 use Rattle.zvt_report.specs.declared.kinds.OrderKind.{OrderKind}
 use Rattle.zvt_report.specs.declared.kinds.OrderKind.TheVariants as kind
+use Rattle.zvt_report.specs.declared.findings.Finding.{Finding}
 use Rattle.zvt_report.specs.declared.members.Member.{Member}
 use Rattle.zvt_report.specs.declared.members.Name.{Name}
 use Rattle.zvt_report.specs.declared.members.Name.TheVariants as name
@@ -270,12 +271,12 @@ maybe_currency currency = option_map (λ (c : ℕ). record { name = name.Currenc
 abbrev pub maybe_terminal : Option (List ℕ) → Option Member
 maybe_terminal terminal = option_map (λ (id : List ℕ). record { name = name.Terminal; value = value.Terminal id }) terminal
 
-abbrev pub summary_members : Tally → (currency : Option ℕ) → (terminal : Option (List ℕ)) → Times → DayValue → List OrderMessage → List Look → List (Option Member)
-summary_members tally currency terminal times books messages looks =
+abbrev pub summary_members : Tally → (currency : Option ℕ) → (terminal : Option (List ℕ)) → Times → DayValue → List OrderMessage → List Look → List Finding → List (Option Member)
+summary_members tally currency terminal times books messages looks findings =
     count name.Bad tally.bad
     ∷ count name.Booked (length books.book)
     ∷ maybe_currency currency
-    ∷ count name.Looks (length looks)
+    ∷ count name.Looks (length looks + length findings)
     ∷ count name.Messages tally.messages
     ∷ count name.Net (total books.book)
     ∷ count name.Others (others_from messages 0 books.orders)
@@ -291,8 +292,8 @@ summary_members tally currency terminal times books messages looks =
     ∷ count name.UnclearAmount (unclear_total books.unclear)
     ∷ []
 
-abbrev pub summary_line : Tally → (currency : Option ℕ) → (terminal : Option (List ℕ)) → Times → DayValue → List OrderMessage → List Look → List ℕ
-summary_line tally currency terminal times books messages looks = object_text object_of.Summary (summary_members tally currency terminal times books messages looks)
+abbrev pub summary_line : Tally → (currency : Option ℕ) → (terminal : Option (List ℕ)) → Times → DayValue → List OrderMessage → List Look → List Finding → List ℕ
+summary_line tally currency terminal times books messages looks findings = object_text object_of.Summary (summary_members tally currency terminal times books messages looks findings)
 
 -- ---- rows worked by hand
 
@@ -341,7 +342,7 @@ other_orders : let orders = a_row sent.Foreign 2 6 outcome.DayClosed None ∷ a_
 unfolding object_text digits escape_byte encode_with command_name meaning_of
 other_orders = refl
 
-a_summary : summary_line (record { messages = 12; bad = 0 }) (Some 978) (Some (0x52 ∷ 0x50 ∷ 0x00 ∷ 0x41 ∷ [])) no_times (record { book = an_entry 1234 true doubt.No ∷ an_entry 500 false doubt.No ∷ []; unclear = (700, cause.Line) ∷ []; orders = [] }) [] []
+a_summary : summary_line (record { messages = 12; bad = 0 }) (Some 978) (Some (0x52 ∷ 0x50 ∷ 0x00 ∷ 0x41 ∷ [])) no_times (record { book = an_entry 1234 true doubt.No ∷ an_entry 500 false doubt.No ∷ []; unclear = (700, cause.Line) ∷ []; orders = [] }) [] [] []
     ≡ codes "{\"summary\":{\"bad\":0,\"booked\":2,\"currency\":\"0978\",\"looks\":0,\"messages\":12,\"net\":500,\"others\":0,\"reversals_unclear\":0,\"reversed\":1,\"terminal\":\"52500041\",\"total\":1734,\"unclear\":1,\"unclear_amount\":700}}\n"
 unfolding object_text digits escape_byte encode_with
 a_summary = refl

@@ -20,6 +20,7 @@ use Rattle.zvt_report.specs.TextReport.{footer}
 use Rattle.zvt_report.specs.declared.cases.Look.{Look}
 use Rattle.zvt_report.specs.declared.closings.Closing.{Closing}
 use Rattle.zvt_report.specs.declared.currencies.Money.{Money}
+use Rattle.zvt_report.specs.declared.findings.Finding.{Finding}
 use Rattle.zvt_report.specs.declared.rows.OrderMessage.{OrderMessage}
 
 -- the name of the file, if there is one
@@ -50,31 +51,31 @@ page_foot tally times = element Footer [] (leaf P [] (footer tally ++ clock_note
 unfoldable pub skip_link : Html
 skip_link = element A ((Class, codes "skip") ∷ (Href, codes "#look") ∷ []) (text (codes "Skip to what needs a look"))
 
-unfoldable pub sections : (id shown name : List ℕ) → Option Money → (terminal : Option (List ℕ)) → Times → DayValue → List OrderMessage → List (Option Closing) → List Look → Html
-sections id shown name money terminal times books messages closings looks =
-    all (page_head name money terminal times ∷ cards (decimals_of money) books messages ∷ looks_section id shown (decimals_of money) books closings messages looks
+unfoldable pub sections : (id shown name : List ℕ) → Option Money → (terminal : Option (List ℕ)) → Times → DayValue → List OrderMessage → List (Option Closing) → List Look → List Finding → Html
+sections id shown name money terminal times books messages closings looks findings =
+    all (page_head name money terminal times ∷ cards (decimals_of money) books messages ∷ looks_section id shown (decimals_of money) books closings messages looks findings
     ∷ payments_section (decimals_of money) books ∷ others_section (decimals_of money) books messages ∷ closings_section (decimals_of money) closings books.orders ∷ [])
 
 -- the body of the page
-unfoldable pub page_of : (shown name : List ℕ) → Option Money → Tally → (terminal : Option (List ℕ)) → Times → DayValue → List OrderMessage → List (Option Closing) → List Look → (dialogue : Html) → Html
-page_of shown name money tally terminal times books messages closings looks dialogue =
-    both skip_link (element Main ((Class, codes "page") ∷ []) (both (sections (codes "look") shown name money terminal times books messages closings looks) (both dialogue (page_foot tally times))))
+unfoldable pub page_of : (shown name : List ℕ) → Option Money → Tally → (terminal : Option (List ℕ)) → Times → DayValue → List OrderMessage → List (Option Closing) → List Look → List Finding → (dialogue : Html) → Html
+page_of shown name money tally terminal times books messages closings looks findings dialogue =
+    both skip_link (element Main ((Class, codes "page") ∷ []) (both (sections (codes "look") shown name money terminal times books messages closings looks findings) (both dialogue (page_foot tally times))))
 
 -- the same with a dialogue that is spelled already
-unfoldable pub page_with : (shown name : List ℕ) → Option Money → Tally → (terminal : Option (List ℕ)) → Times → DayValue → List OrderMessage → List (Option Closing) → List Look → (dialogue : List ℕ) → List ℕ
-page_with shown name money tally terminal times books messages closings looks dialogue =
-    render skip_link ++ (start_tag Main ((Class, codes "page") ∷ []) ++ (render (sections (codes "look") shown name money terminal times books messages closings looks) ++ (dialogue ++ (render (page_foot tally times) ++ end_tag Main))))
+unfoldable pub page_with : (shown name : List ℕ) → Option Money → Tally → (terminal : Option (List ℕ)) → Times → DayValue → List OrderMessage → List (Option Closing) → List Look → List Finding → (dialogue : List ℕ) → List ℕ
+page_with shown name money tally terminal times books messages closings looks findings dialogue =
+    render skip_link ++ (start_tag Main ((Class, codes "page") ∷ []) ++ (render (sections (codes "look") shown name money terminal times books messages closings looks findings) ++ (dialogue ++ (render (page_foot tally times) ++ end_tag Main))))
 
-abbrev pub report_page : (shown name : List ℕ) → Tally → (currency : Option ℕ) → (terminal : Option (List ℕ)) → Times → DayValue → List OrderMessage → List (Option Closing) → List Look → (dialogue : List ℕ) → List ℕ
-report_page shown name tally currency terminal times books messages closings looks dialogue =
-    document_start (heading name) ++ page_with shown name (money_of currency) tally terminal times books messages closings looks dialogue ++ document_end
+abbrev pub report_page : (shown name : List ℕ) → Tally → (currency : Option ℕ) → (terminal : Option (List ℕ)) → Times → DayValue → List OrderMessage → List (Option Closing) → List Look → List Finding → (dialogue : List ℕ) → List ℕ
+report_page shown name tally currency terminal times books messages closings looks findings dialogue =
+    document_start (heading name) ++ page_with shown name (money_of currency) tally terminal times books messages closings looks findings dialogue ++ document_end
 
 -- A report is a document if its dialogue is part of one.
 abbrev pub ReportsAreDocuments : Type 0
 ReportsAreDocuments =
-    (shown name : List ℕ) (tally : Tally) (currency : Option ℕ) (terminal : Option (List ℕ)) (times : Times) (books : DayValue) (messages : List OrderMessage) (closings : List (Option Closing)) (looks : List Look) (dialogue : Html)
-    → report_page shown name tally currency terminal times books messages closings looks (render dialogue)
-    ≡ document (heading name) (page_of shown name (money_of currency) tally terminal times books messages closings looks dialogue)
+    (shown name : List ℕ) (tally : Tally) (currency : Option ℕ) (terminal : Option (List ℕ)) (times : Times) (books : DayValue) (messages : List OrderMessage) (closings : List (Option Closing)) (looks : List Look) (findings : List Finding) (dialogue : Html)
+    → report_page shown name tally currency terminal times books messages closings looks findings (render dialogue)
+    ≡ document (heading name) (page_of shown name (money_of currency) tally terminal times books messages closings looks findings dialogue)
 
 -- ---- a row worked by hand
 

@@ -1,5 +1,5 @@
 -- One event of a trace, as a page shows it.
-use Rattle.std.specs.Prelude.{◌≡◌, ◌==◌, ℕ, Bool, true, false, List, [], ◌∷◌, ◌++◌, codes, Option, Some, None, refl}
+use Rattle.std.specs.Prelude.{◌≡◌, ◌==◌, ℕ, Bool, true, false, cond, List, [], ◌∷◌, ◌++◌, codes, Option, Some, None, refl}
 use Rattle.std.specs.List.{list_any}
 use Rattle.std.specs.Fmt.{decimal, digits}
 use Rattle.std.specs.Str.Lines.{lines}
@@ -8,10 +8,10 @@ use Rattle.zvt_trace.specs.TraceEvent.{At, TraceEvent, on}
 use Rattle.zvt_trace.specs.TraceEvent as trace_event
 use Rattle.zvt_trace.specs.declared.direction.Direction.{Direction}
 use Rattle.zvt_trace.specs.declared.direction.Direction.TheVariants.{FromTill, FromTerminal}
-use Rattle.zvt_page.specs.Html.{Html, nothing, both, all, attributes_of, element, leaf, attribute_text, end_tag, escaped, render, start_tag}
+use Rattle.zvt_page.specs.Html.{Html, nothing, both, all, attributes_of, element, text, leaf, attribute_text, end_tag, escaped, render, start_tag}
 use Rattle.zvt_page.specs.declared.elements.Attribute.{Attribute}
-use Rattle.zvt_page.specs.declared.elements.Attribute.TheVariants.{Class, Id}
-use Rattle.zvt_page.specs.declared.elements.Element.TheVariants.{Div, Li, Span}
+use Rattle.zvt_page.specs.declared.elements.Attribute.TheVariants.{Class, Href, Id}
+use Rattle.zvt_page.specs.declared.elements.Element.TheVariants.{A, Div, Li, Span}
 use Rattle.zvt_show.specs.Lines.{lost_text, refused_text, resumed_text, stopped_text, truncated_text}
 use Rattle.zvt_show.specs.Text.{shown}
 use Rattle.zvt_show.specs.declared.render.Style.{Style}
@@ -65,6 +65,14 @@ id_of false line = Some (Id, line_id line)
 
 abbrev pub has_line : List ℕ → ℕ → Bool
 has_line lines line = list_any (λ (other : ℕ). line == other) lines
+
+-- a link to the item of a line
+unfoldable pub line_link : (line : ℕ) → (words : List ℕ) → Html
+line_link line words = element A ((Class, codes "at") ∷ (Href, 35 ∷ line_id line) ∷ []) (text words)
+
+-- words about this line, with a link if the dialogue has an item of it
+unfoldable pub lines_at : (shown : List ℕ) → (line : ℕ) → (words : List ℕ) → Html
+lines_at shown line words = cond (has_line shown line) (line_link line words) (leaf Span (codes "at") words)
 
 unfoldable pub number_part : ℕ → Html
 number_part line = leaf Span (codes "ln") (decimal line)

@@ -13,6 +13,7 @@ use Rattle.zvt_report.specs.declared.cases.Look.{Look}
 use Rattle.zvt_report.specs.declared.closings.Closing.{Closing}
 use Rattle.zvt_report.specs.declared.currencies.Decimals.{Decimals}
 use Rattle.zvt_report.specs.declared.facts.Facts.{Facts}
+use Rattle.zvt_report.specs.declared.findings.Finding.{Finding}
 use Rattle.zvt_report.specs.declared.members.Member.{Member}
 use Rattle.zvt_report.specs.declared.members.Object.{Object}
 use Rattle.zvt_report.specs.declared.members.Object.TheVariants as object_of
@@ -31,7 +32,7 @@ ReadsBack o members = IsReadBack (object_value o members)
 -- every object of a report: its members come in the order of their names, each once
 abbrev pub ObjectsReadBack : Type 0
 ObjectsReadBack =
-    ((tally : Tally) (currency : Option ℕ) (terminal : Option (List ℕ)) (times : Times) (books : DayValue) (messages : List OrderMessage) (looks : List Look) → ReadsBack object_of.Summary (summary_members tally currency terminal times books messages looks))
+    ((tally : Tally) (currency : Option ℕ) (terminal : Option (List ℕ)) (times : Times) (books : DayValue) (messages : List OrderMessage) (looks : List Look) (findings : List Finding) → ReadsBack object_of.Summary (summary_members tally currency terminal times books messages looks findings))
     × ((decimals : Decimals) (facts : Facts) (rows : List OrderRow) (look : Look) → IsReadBack (look_value (look_told decimals facts rows look)))
     × ((books : DayValue) (place : Place) (row : OrderRow) (amount : ℕ) → ReadsBack object_of.Payment (payment_members books place row amount))
     × ((books : DayValue) (place : Place) (row : OrderRow) (message : OrderMessage) → ReadsBack object_of.Reversal (reversal_members books place row message))

@@ -7,7 +7,9 @@ use Rattle.zvt_till.specs.declared.happenings.Happening.{Happening}
 use Rattle.zvt_till.specs.declared.happenings.Happening.TheVariants.{Connected}
 use Rattle.zvt_trace.specs.Emitting.{BrokenTrace, WholeTrace}
 use Rattle.zvt_trace.specs.Listening.{Fails, Hears}
+use Rattle.zvt_trace.specs.Pairs.{BothHear, OneFails}
 use Rattle.zvt_trace.specs.TraceEvent.{At, Tallies}
+use Rattle.zvt_trace.specs.declared.both.Both.{Both}
 use Rattle.zvt_trace.specs.declared.fault.Tally.{Tally}
 use Rattle.zvt_trace.specs.declared.fault.TraceFault.{TraceFault}
 use Rattle.zvt_trace.specs.declared.fault.TraceFault.TheVariants.{Memory, Read, TooLong, Trace, Write}
@@ -22,6 +24,7 @@ use Rattle.zvt_audit.specs.declared.currencies.NamedCurrency.TheVariants.{Absent
 use Rattle.zvt_report.specs.Chapters.{Noted, noted}
 use Rattle.zvt_report.specs.Closings.{closings}
 use Rattle.zvt_report.specs.Day.{day_of}
+use Rattle.zvt_report.specs.Findings.{finds, findings, wants_memory as find_memory}
 use Rattle.zvt_report.specs.Judging.{DaySoFar, HasJudged}
 use Rattle.zvt_report.specs.Reported.{beginning_in, beginnings, reported, with_event}
 use Rattle.zvt_report.specs.Said.{AreSaidBy}
@@ -29,6 +32,8 @@ use Rattle.zvt_report.specs.Settling.{settled}
 use Rattle.zvt_report.specs.Statements.{States, stated, statements_of}
 use Rattle.zvt_report.specs.TerminalIds.{first_terminal, terminal_after, terminal_by}
 use Rattle.zvt_report.specs.Times.{timed_day, times_by, times_in}
+use Rattle.zvt_report.specs.declared.findings.Finder.{Finder}
+use Rattle.zvt_report.specs.declared.findings.Finding.{Finding}
 use Rattle.zvt_report.specs.declared.report.Report.{Report}
 use Rattle.zvt_report.specs.declared.reporter.Reporter.{Reporter}
 use Rattle.zvt_report.specs.declared.rows.OrderMessage.{OrderMessage}
@@ -74,6 +79,13 @@ hears_by = HearsBy hears
 abbrev pub wants_memory_by : Fails (ByControl Reporter)
 wants_memory_by = FailsBy wants_memory
 
+-- a reporter, and beside it what finds the messages that can't be read
+abbrev pub both_hear : Hears (Both (ByControl Reporter) Finder)
+both_hear old event new = BothHear hears_by finds event old.first old.second new.first new.second
+
+abbrev pub both_want_memory : Fails (Both (ByControl Reporter) Finder)
+both_want_memory old event why new = OneFails hears_by wants_memory_by find_memory event why old.first old.second new.first new.second
+
 -- the till is connected, and nothing else happened at it
 abbrev pub IsConnected : Reporter → Type 0
 IsConnected reporter =
@@ -84,8 +96,8 @@ IsConnected reporter =
 abbrev pub StartsIn : Scope → ByControl Reporter → Type 0
 StartsIn scope by = IsConnected by.listener × (by.scope ≡ scope) × (by.passed ≡ 0)
 
--- what a reporter finds at the end of a trace with these moments
-pub record Finds (reporter : Reporter) (counted : Tally) (skipped : ℕ) (zone : Zone) (moments : Moments) (report : Report) : Type 0 where
+-- what a reporter finds at the end of a trace with these moments and findings
+pub record Finds (reporter : Reporter) (counted : Tally) (skipped : ℕ) (zone : Zone) (moments : Moments) (found : List Finding) (report : Report) : Type 0 where
   pub tally : report.tally ≡ counted
   pub passed : report.passed ≡ skipped
   pub currency : report.currency ≡ agreed reporter.named
@@ -95,6 +107,7 @@ pub record Finds (reporter : Reporter) (counted : Tally) (skipped : ℕ) (zone :
   pub statements : report.statements.items ≡ stated reporter.hearing []
   pub closings : report.closings.items ≡ closings report.books.book report.statements.items report.messages.items report.books.orders
   pub messages : report.messages.items ≡ reporter.messages.items
+  pub findings : report.findings.items ≡ found
 
 -- ---- the answer
 
@@ -112,7 +125,7 @@ pub record IsReportOf (zone : Zone) (trace : List (List ℕ)) (events : List At)
 abbrev pub AnswersReport : Zone → Reading → Scope → (trace : List ℕ) → Result Report TraceFault → Type 0
 AnswersReport zone r scope trace (Ok report) =
     (events : List At) × WholeTrace r scope (lines trace) events × Tallies report.tally events × IsReportOf zone (lines trace) (seen scope events) report
-    × (report.passed ≡ passed_after scope 0 events)
+    × (report.passed ≡ passed_after scope 0 events) × (report.findings.items ≡ findings scope events)
 AnswersReport zone r scope trace (Err (Trace number what)) = (events : List At) × BrokenTrace r scope (lines trace) number what events
 AnswersReport zone r scope trace (Err Memory) = Unit {0}
 AnswersReport zone r scope trace (Err Write) = ⊥

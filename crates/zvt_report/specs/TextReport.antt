@@ -7,7 +7,7 @@ use Rattle.zvt_report.specs.Amounts.{amount_column, count_text}
 use Rattle.zvt_report.specs.CloseTable.{closings_text}
 use Rattle.zvt_report.specs.Currencies.{decimals_of, money_of}
 use Rattle.zvt_report.specs.Day.{DayValue, no_orders}
-use Rattle.zvt_report.specs.LookList.{looks_text}
+use Rattle.zvt_report.specs.FindingList.{looks_text}
 use Rattle.zvt_report.specs.OtherTable.{others_text}
 use Rattle.zvt_report.specs.PaymentTable.{payments_text}
 use Rattle.zvt_report.specs.Heading.{head_part, head_words}
@@ -21,6 +21,7 @@ use Rattle.zvt_report.specs.declared.cases.Look.{Look}
 use Rattle.zvt_report.specs.declared.closings.Closing.{Closing}
 use Rattle.zvt_report.specs.declared.currencies.Decimals.{Decimals}
 use Rattle.zvt_report.specs.declared.currencies.Money.{Money}
+use Rattle.zvt_report.specs.declared.findings.Finding.{Finding}
 use Rattle.zvt_report.specs.declared.rows.OrderMessage.{OrderMessage}
 
 -- how many streams were refused or cut off
@@ -33,25 +34,25 @@ footer tally = count_text tally.messages (codes "message") ++ codes ", " ++ bad_
 unfoldable pub summary_part : Option Money → DayValue → List ℕ
 summary_part money books = summary_text money books ++ 10 ∷ []
 
-unfoldable pub looks_part : Decimals → DayValue → List OrderMessage → List (Option Closing) → List Look → List ℕ
-looks_part decimals books messages closings looks = looks_text decimals books.book closings messages books.orders looks ++ 10 ∷ []
+unfoldable pub looks_part : Decimals → DayValue → List OrderMessage → List (Option Closing) → List Look → List Finding → List ℕ
+looks_part decimals books messages closings looks findings = looks_text decimals books.book closings messages books.orders looks findings ++ 10 ∷ []
 
 unfoldable pub tables_part : Decimals → DayValue → List OrderMessage → List (Option Closing) → List ℕ
 tables_part decimals books messages closings =
     payments_text decimals books.book books.orders ++ others_text decimals books.book messages books.orders ++ closings_text decimals closings books.orders ++ 10 ∷ []
 
 -- the sections, with empty lines between them
-abbrev pub report_in : Option Money → Tally → (terminal : Option (List ℕ)) → Times → DayValue → List OrderMessage → List (Option Closing) → List Look → List ℕ
-report_in money tally terminal times books messages closings looks =
-    head_part times terminal ++ summary_part money books ++ looks_part (decimals_of money) books messages closings looks ++ tables_part (decimals_of money) books messages closings ++ footer tally
+abbrev pub report_in : Option Money → Tally → (terminal : Option (List ℕ)) → Times → DayValue → List OrderMessage → List (Option Closing) → List Look → List Finding → List ℕ
+report_in money tally terminal times books messages closings looks findings =
+    head_part times terminal ++ summary_part money books ++ looks_part (decimals_of money) books messages closings looks findings ++ tables_part (decimals_of money) books messages closings ++ footer tally
     ++ clock_notes times
 
-abbrev pub report_text : Tally → (currency : Option ℕ) → (terminal : Option (List ℕ)) → Times → DayValue → List OrderMessage → List (Option Closing) → List Look → List ℕ
-report_text tally currency terminal times books messages closings looks = report_in (money_of currency) tally terminal times books messages closings looks
+abbrev pub report_text : Tally → (currency : Option ℕ) → (terminal : Option (List ℕ)) → Times → DayValue → List OrderMessage → List (Option Closing) → List Look → List Finding → List ℕ
+report_text tally currency terminal times books messages closings looks findings = report_in (money_of currency) tally terminal times books messages closings looks findings
 
 -- ---- rows worked by hand
 
-an_empty_day : report_text (record { messages = 1; bad = 2 }) (Some 756) (Some (0x52 ∷ 0x50 ∷ 0x00 ∷ 0x41 ∷ [])) (times_in utc (timed 2 (moment 2026 11 28 7 1 12 0) ∷ []) (9 ∷ 12 ∷ [])) no_orders [] [] []
+an_empty_day : report_text (record { messages = 1; bad = 2 }) (Some 756) (Some (0x52 ∷ 0x50 ∷ 0x00 ∷ 0x41 ∷ [])) (times_in utc (timed 2 (moment 2026 11 28 7 1 12 0) ∷ []) (9 ∷ 12 ∷ [])) no_orders [] [] [] []
     ≡ codes "2026-11-28 07:01:12 to 07:01:12 UTC, terminal 52500041\n\n" ++ codes "Net total              0.00 CHF\n" ++ codes "  booked               0.00  0 payments\n" ++ codes "  taken back           0.00  0 reversals\n"
     ++ codes "Unclear                0.00  0 payments, 0 reversals\n\n"
     ++ codes "Look at these: nothing\n\n" ++ codes "Payments: none\n\n" ++ codes "1 message, 2 streams refused or cut off.\n" ++ codes "2 time marks cannot be read: see line 9.\n"

@@ -7,9 +7,11 @@ use Rattle.zvt_till.specs.declared.outcomes.Outcome.TheVariants as outcome
 use Rattle.zvt_report.specs.declared.cases.Case.{Case}
 use Rattle.zvt_report.specs.declared.cases.Case.TheVariants.{ApprovedNotCompleted, ApprovalRepeated, ApprovedThenUndone, OtherAmount, PaymentUnclear, PaidAlike, ReversalUnclear, TakenBackBefore, ReversalRefused, ReversalElsewhere, ElsewhereUnclear, OtherUnclear, CloseUnclear, CloseRefused, CloseDiffers}
 use Rattle.zvt_report.specs.declared.cases.Weight.{Weight}
-use Rattle.zvt_report.specs.declared.cases.Weight.TheVariants.{Act, Check}
+use Rattle.zvt_report.specs.declared.cases.Weight.TheVariants.{Act, Check, Note}
 use Rattle.zvt_report.specs.declared.endings.Ending.{Ending}
 use Rattle.zvt_report.specs.declared.endings.Ending.TheVariants.{Completed, Paid, Reversed, Closed, Declined, Aborted, Refused, Unclear}
+use Rattle.zvt_report.specs.declared.findings.Finding.{Finding}
+use Rattle.zvt_report.specs.declared.findings.Finding.TheVariants as finding
 
 abbrev pub case_name : Case → List ℕ
 case_name ApprovedNotCompleted = codes "ApprovedNotCompleted"
@@ -31,6 +33,12 @@ case_name CloseDiffers = codes "CloseDiffers"
 abbrev pub weight_name : Weight → List ℕ
 weight_name Act = codes "act"
 weight_name Check = codes "check"
+weight_name Note = codes "note"
+
+abbrev pub finding_name : Finding → List ℕ
+finding_name (finding.Refused line from head place why goes) = codes "Refused"
+finding_name (finding.CutOff line from head have) = codes "CutOff"
+finding_name (finding.MoreRefused count) = codes "MoreRefused"
 
 abbrev pub ending_name : Ending → List ℕ
 ending_name Completed = codes "completed"

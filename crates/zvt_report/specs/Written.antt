@@ -34,12 +34,12 @@ zone_for Text zone = zone
 zone_for Json zone = utc
 zone_for Page zone = zone
 
--- the text, the objects or the page of a report with these looks; only the page has the name of the
--- file, and links to the lines that its dialogue shows
+-- The text, the objects or the page of a report with these looks. Only the page has the name of the file, and links to
+-- the lines that its dialogue shows.
 abbrev pub report_in : ReportForm → (name : List ℕ) → Report → List Look → (shown drawn : List ℕ) → List ℕ
-report_in Text name report found shown drawn = report_text report.tally report.currency report.terminal report.times report.books report.messages.items report.closings.items found
-report_in Json name report found shown drawn = report_json report.tally report.currency report.terminal report.times report.books report.messages.items report.closings.items found drawn
-report_in Page name report found shown drawn = report_page shown name report.tally report.currency report.terminal report.times report.books report.messages.items report.closings.items found drawn
+report_in Text name report found shown drawn = report_text report.tally report.currency report.terminal report.times report.books report.messages.items report.closings.items found report.findings.items
+report_in Json name report found shown drawn = report_json report.tally report.currency report.terminal report.times report.books report.messages.items report.closings.items found report.findings.items drawn
+report_in Page name report found shown drawn = report_page shown name report.tally report.currency report.terminal report.times report.books report.messages.items report.closings.items found report.findings.items drawn
 
 -- the looks that its orders need
 abbrev pub looks_of : Report → List Look

@@ -16,13 +16,15 @@ use std::alloc::{AllocError, Global};
 use zvt_bcd::Trace;
 use zvt_till::{Entry, Outcome, Sent};
 
-/// How urgent it is to look at an order.
+/// How urgent it is to look at an order, or at a finding.
 #[derive(Clone, Copy)]
 pub enum Weight {
     /// Money may be wrong, and a person can settle it.
     Act,
     /// A person should compare the order with the terminal's journal.
     Check,
+    /// The makers of the till and of the terminal should know it.
+    Note,
 }
 
 impl Weight {
@@ -36,6 +38,7 @@ impl Weight {
         match self {
             Weight::Act => "act",
             Weight::Check => "check",
+            Weight::Note => "note",
         }
     }
 }

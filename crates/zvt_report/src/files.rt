@@ -322,6 +322,7 @@ fn read_section(
         report.messages.as_slice(),
         report.closings.as_slice(),
         looks,
+        report.findings.as_slice(),
     )?;
     page_foot(page, note, report.tally, &report.times)?;
     end(page, Element::Section)

@@ -1,6 +1,8 @@
 //! Laws of every day and of every report, each stated as the contract of an empty function.
 ghost use Rattle.zvt_report.specs.CardTotals.{ListedGroupsAddUp};
-ghost use Rattle.zvt_report.specs.Hidden.{HiddenBytesAreNotShown, HiddenBytesMeanNothing};
+ghost use Rattle.zvt_report.specs.FindingObjects.{FindingsReadBack};
+ghost use Rattle.zvt_report.specs.Findings.{EachBadMessageIsFound};
+ghost use Rattle.zvt_report.specs.Hidden.{HiddenBytesAreNotFound, HiddenBytesAreNotShown, HiddenBytesMeanNothing};
 ghost use Rattle.zvt_report.specs.Laws.{DoubtsAreLeftOpen, EachOrderHasARow, SameBooks, SameMarks, SumsMakeBooked};
 ghost use Rattle.zvt_report.specs.LookLaws.{EachOtherIsLookedAt, EachPaymentIsLookedAt, EachReversalIsLookedAt};
 ghost use Rattle.zvt_report.specs.Naming.{ReversalsNameEntries};
@@ -53,6 +55,11 @@ pub fn each_other_is_looked_at()
     ensures { EachOtherIsLookedAt }
 {}
 
+/// A report lists or counts each message that was refused or cut off, once each.
+pub fn each_bad_message_is_found()
+    ensures { EachBadMessageIsFound }
+{}
+
 /// If each reversal of a day names an entry of the book, the reversal of an entry is unclear exactly if one was left
 /// open: it was unclear, and no later one of that entry decided anything.
 pub fn doubts_are_left_open()
@@ -88,6 +95,12 @@ pub fn objects_read_back()
     ensures { ObjectsReadBack }
 {}
 
+/// If the numbers of the object of a finding fit into 64 bits, the reader of the crate `serde_json` gives the object
+/// back from its text.
+pub fn findings_read_back()
+    ensures { FindingsReadBack }
+{}
+
 /// If the numbers of the object of a slip fit into 64 bits, the reader of the crate `serde_json` gives the object back
 /// from its text.
 pub fn slips_read_back()
@@ -118,6 +131,11 @@ pub fn reports_are_documents()
 /// card data in objects, and the data of orders that move no money change nothing in it.
 pub fn hidden_bytes_mean_nothing()
     ensures { HiddenBytesMeanNothing }
+{}
+
+/// Its findings do not depend on these bytes either.
+pub fn hidden_bytes_are_not_found()
+    ensures { HiddenBytesAreNotFound }
 {}
 
 /// The dialogue of a page shows none of these bytes either.

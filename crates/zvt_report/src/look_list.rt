@@ -2,7 +2,7 @@
 ghost use Rattle.std.specs.Prelude.{◌≡◌, ◌++◌, ◌≤◌, ◌^◌, IfOk, OnOk};
 ghost use Rattle.zvt_report.specs.LookList.{account_lines, advice_lines, is_listed, is_urgent, lines_part};
 ghost use Rattle.zvt_report.specs.LookList.{listed_after, listed_looks, look_head, look_of, look_text, looks_from};
-ghost use Rattle.zvt_report.specs.LookList.{looks_text, step_text, urgent_count, weight_text};
+ghost use Rattle.zvt_report.specs.LookList.{step_text, urgent_count, weight_text};
 
 use crate::advices::advice;
 use crate::cases::{Case, Look, Weight};
@@ -19,14 +19,15 @@ use std::alloc::AllocError;
 use zvt_text::Text;
 use zvt_till::Entry;
 
-/// Writes how urgent a case is.
+/// Writes how urgent a case or a finding is.
 #[tactic(auto, unfolding(crate::specs::LookList::weight_text))]
-fn weight(text: &mut Text, weight: Weight) -> Result<(), AllocError>
+pub(crate) fn weight(text: &mut Text, weight: Weight) -> Result<(), AllocError>
     ensures { OnOk result (text.new ≡ text.old ++ weight_text weight) }
 {
     match weight {
         Weight::Act => text.word(b"ACT    "),
         Weight::Check => text.word(b"CHECK  "),
+        Weight::Note => text.word(b"NOTE   "),
     }
 }
 
@@ -65,7 +66,7 @@ fn look_head(
 
 /// Writes what happened to an order.
 #[tactic(auto, unfolding(crate::specs::LookList::account_lines))]
-fn account_lines(text: &mut Text, sentence: &[u8]) -> Result<(), AllocError>
+pub(crate) fn account_lines(text: &mut Text, sentence: &[u8]) -> Result<(), AllocError>
     ensures { OnOk result (text.new ≡ text.old ++ account_lines sentence.now) }
 {
     text.word(b"    ")?;
@@ -75,7 +76,7 @@ fn account_lines(text: &mut Text, sentence: &[u8]) -> Result<(), AllocError>
 
 /// Writes what to do about an order.
 #[tactic(auto, unfolding(crate::specs::LookList::advice_lines))]
-fn advice_lines(text: &mut Text, sentence: &[u8]) -> Result<(), AllocError>
+pub(crate) fn advice_lines(text: &mut Text, sentence: &[u8]) -> Result<(), AllocError>
     ensures { OnOk result (text.new ≡ text.old ++ advice_lines sentence.now) }
 {
     text.word(b"    -> ")?;
@@ -132,7 +133,7 @@ fn is_urgent(case: Case) -> bool
 {
     match case.weight() {
         Weight::Act => true,
-        Weight::Check => false,
+        Weight::Check | Weight::Note => false,
     }
 }
 
@@ -217,8 +218,9 @@ pub(crate) fn urgent_count(looks: &[Look]) -> usize
     looks.iter().filter(|look| is_urgent(look.case)).count()
 }
 
-/// Writes the looks under their heading, the urgent ones first.
-fn listed_looks(
+/// Writes the looks under their heading, the urgent ones first. The sentences are put together in `note`, whose own
+/// text is lost.
+pub(crate) fn listed_looks(
     text: &mut Text,
     note: &mut Text,
     decimals: Decimals,
@@ -239,25 +241,4 @@ fn listed_looks(
     looks_from(
         text, note, decimals, book, closings, messages, rows, false, urgent, looks,
     )
-}
-
-/// Writes the looks, the urgent ones first. The sentences are put together in `note`, whose own text is lost.
-pub(crate) fn looks_text(
-    text: &mut Text,
-    note: &mut Text,
-    decimals: Decimals,
-    book: &[Entry],
-    closings: &[Option<Closing>],
-    messages: &[OrderMessage],
-    rows: &[OrderRow],
-    looks: &[Look],
-) -> Result<(), AllocError>
-    ensures { OnOk result (text.new ≡ text.old
-        ++ looks_text decimals book.now closings.now messages.now rows.now looks.now) }
-{
-    if looks.is_empty() {
-        text.word(b"Look at these: nothing\n")
-    } else {
-        listed_looks(text, note, decimals, book, closings, messages, rows, looks)
-    }
 }

@@ -53,7 +53,12 @@ fn weight_member(look: &Look) -> Option<Member>
 
 /// Writes a sentence under this name, with a comma before it if there is an earlier member.
 #[tactic(auto, unfolding(crate::specs::LookObjects::told_text))]
-fn sentence(text: &mut Text, later: bool, name: Name, sentence: &[u8]) -> Result<(), AllocError>
+pub(crate) fn sentence(
+    text: &mut Text,
+    later: bool,
+    name: Name,
+    sentence: &[u8],
+) -> Result<(), AllocError>
     ensures { OnOk result (text.new ≡ text.old ++ told_text later name (string sentence.now)) }
 {
     write_comma(text, later)?;
@@ -63,7 +68,7 @@ fn sentence(text: &mut Text, later: bool, name: Name, sentence: &[u8]) -> Result
 
 /// Writes members after others.
 #[tactic(auto, unfolding(crate::specs::LookObjects::told_text, crate::specs::LookObjects::more_of))]
-fn more(text: &mut Text, members: &[Option<Member>]) -> Result<(), AllocError>
+pub(crate) fn more(text: &mut Text, members: &[Option<Member>]) -> Result<(), AllocError>
     ensures { OnOk result (text.new ≡ text.old ++ more_of members.now) }
 {
     let mut rest = members;

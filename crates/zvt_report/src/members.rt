@@ -13,6 +13,7 @@ use crate::card_totals::CardGroup;
 use crate::cases::{Case, Weight};
 use crate::endings::Ending;
 use crate::explaining::Explained;
+use crate::findings::Finding;
 use crate::member_groups::write_groups;
 use crate::member_orders::write_orders;
 use crate::order_names::order_name;
@@ -174,6 +175,7 @@ impl Name {
 #[derive(Clone, Copy)]
 pub(crate) enum Word {
     Case(Case),
+    Finding(Finding),
     Weight(Weight),
     Cause(Cause),
     Ending(Ending),
@@ -195,6 +197,7 @@ impl Word {
     {
         match self {
             Word::Case(case) => case.name(),
+            Word::Finding(finding) => finding.name(),
             Word::Weight(weight) => weight.name(),
             Word::Cause(cause) => cause.name(),
             Word::Ending(ending) => ending.name(),

@@ -13,6 +13,8 @@ use crate::close_object::close;
 use crate::closings::Closing;
 use crate::currencies::{decimals_of, money_of};
 use crate::differing::closing_at;
+use crate::finding_objects::finding_rows;
+use crate::findings::Finding;
 use crate::kinds::{OrderKind, kind_of};
 use crate::look_objects::look_rows;
 use crate::members::{Name, Object, Value, write_object};
@@ -29,8 +31,8 @@ use zvt_text::Text;
 use zvt_till::Sent;
 use zvt_trace::Tally;
 
-/// Writes an object for the whole trace, then one per order that a person should look at, then one per order, and then
-/// the objects of slips. `messages` has the message of each order.
+/// Writes an object for the whole trace, then one per order that a person should look at, then one per finding, then
+/// one per order, and then the objects of slips. `messages` has the message of each order.
 pub(crate) fn write(
     text: &mut Text,
     note: &mut Text,
@@ -42,15 +44,18 @@ pub(crate) fn write(
     messages: &[OrderMessage],
     closings: &[Option<Closing>],
     looks: &[Look],
+    findings: &[Finding],
     slips: &[u8],
 ) -> Result<(), AllocError>
     ensures { OnOk result (text.new ≡ text.old
-        ++ report_json tally currency.now terminal times.now books.now messages.now closings.now looks.now slips.now) }
+        ++ report_json tally currency.now terminal times.now books.now messages.now closings.now looks.now
+        findings.now slips.now) }
 {
     summary(
-        text, tally, *currency, terminal, times, books, messages, looks,
+        text, tally, *currency, terminal, times, books, messages, looks, findings,
     )?;
     look_lines(text, note, *currency, books, messages, closings, looks)?;
+    finding_rows(text, note, findings)?;
     order_rows(text, books, messages, closings)?;
     text.word(slips)
 }
@@ -84,9 +89,10 @@ fn summary(
     books: &DayBooks,
     messages: &[OrderMessage],
     looks: &[Look],
+    findings: &[Finding],
 ) -> Result<(), AllocError>
     ensures { OnOk result (text.new ≡ text.old
-        ++ summary_line tally currency terminal times.now books.now messages.now looks.now) }
+        ++ summary_line tally currency terminal times.now books.now messages.now looks.now findings.now) }
 {
     let book = books.book.as_slice();
     let unclear = books.unclear.as_slice();
@@ -94,7 +100,10 @@ fn summary(
         count(Name::Bad, tally.bad),
         count(Name::Booked, book.len() as u64),
         maybe_currency(currency),
-        count(Name::Looks, looks.len() as u64),
+        said_as(
+            Name::Looks,
+            Value::Count(looks.len() as u128 + findings.len() as u128),
+        ),
         count(Name::Messages, tally.messages),
         said_as(Name::Net, Value::Count(net_total(book))),
         count(

@@ -8,6 +8,7 @@ use crate::books::DayBooks;
 use crate::cases::Look;
 use crate::closings::Closing;
 use crate::currencies::{Money, decimals_of, money_of};
+use crate::findings::Finding;
 use crate::heading::{has_head, head_words};
 use crate::page_cards::cards;
 use crate::page_closings::closings_section;
@@ -134,16 +135,17 @@ pub(crate) fn sections(
     messages: &[OrderMessage],
     closings: &[Option<Closing>],
     looks: &[Look],
+    findings: &[Finding],
 ) -> Result<(), AllocError>
     ensures { OnOk result (page.new ≡ page.old
         ++ render (sections id.now shown.now name.now money.now terminal times.now books.now messages.now closings.now
-        looks.now)) }
+        looks.now findings.now)) }
 {
     let decimals = decimals_of(money);
     page_head(page, note, name, money, terminal, times)?;
     cards(page, note, decimals, books, messages)?;
     looks_section(
-        page, note, id, shown, decimals, books, closings, messages, looks,
+        page, note, id, shown, decimals, books, closings, messages, looks, findings,
     )?;
     payments_section(page, note, decimals, books)?;
     others_section(page, note, decimals, books, messages)?;
@@ -165,16 +167,18 @@ fn page_with(
     messages: &[OrderMessage],
     closings: &[Option<Closing>],
     looks: &[Look],
+    findings: &[Finding],
     dialogue: &[u8],
 ) -> Result<(), AllocError>
     ensures { OnOk result (page.new ≡ page.old
         ++ page_with shown.now name.now money.now tally terminal times.now books.now messages.now closings.now looks.now
-        dialogue.now) }
+        findings.now dialogue.now) }
 {
     skip_link(page)?;
     start(page, Element::Main, b"page", None)?;
     sections(
         page, note, b"look", shown, name, money, terminal, times, books, messages, closings, looks,
+        findings,
     )?;
     page.word(dialogue)?;
     page_foot(page, note, tally, times)?;
@@ -196,18 +200,19 @@ pub(crate) fn write(
     messages: &[OrderMessage],
     closings: &[Option<Closing>],
     looks: &[Look],
+    findings: &[Finding],
     dialogue: &[u8],
 ) -> Result<(), AllocError>
     ensures { OnOk result (page.new ≡ page.old
         ++ report_page shown.now name.now tally currency terminal times.now books.now messages.now closings.now looks.now
-        dialogue.now) }
+        findings.now dialogue.now) }
 {
     let mut note = Text::new(alloc);
     let money = money_of(currency);
     document_start(page, heading(name))?;
     page_with(
         page, &mut note, shown, name, &money, tally, terminal, times, books, messages, closings,
-        looks, dialogue,
+        looks, findings, dialogue,
     )?;
     document_end(page)
 }

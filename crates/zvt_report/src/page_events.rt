@@ -1,5 +1,5 @@
 //! Writes the events of a trace to a page.
-ghost use Rattle.std.specs.Prelude.{◌≡◌, ◌++◌, OnOk};
+ghost use Rattle.std.specs.Prelude.{◌≡◌, ◌++◌, ◌∷◌, [], OnOk, codes};
 ghost use Rattle.std.specs.Str.Lines.{lines};
 ghost use Rattle.zvt_page.specs.Html.{attributes_of, render, start_tag};
 ghost use Rattle.zvt_trace.specs.TraceEvent.{HasItsBytes, event_of, on};
@@ -38,7 +38,7 @@ fn event_class(trace_event: &TraceEvent<'_>) -> &'static [u8]
 
 /// Writes the id of a line.
 #[tactic(auto, unfolding(crate::specs::PageEvents::line_id))]
-pub(crate) fn line_id(text: &mut Text, line: u64) -> Result<(), AllocError>
+fn line_id(text: &mut Text, line: u64) -> Result<(), AllocError>
     ensures { OnOk result (text.new ≡ text.old ++ line_id line) }
 {
     text.push(b'l')?;
@@ -50,6 +50,22 @@ pub(crate) fn has_line(lines: &[u64], line: u64) -> bool
     ensures { result ≡ has_line lines.now line }
 {
     lines.iter().any(|other| line == *other)
+}
+
+/// Writes the start of a link to the item of this line.
+pub(crate) fn link_start(page: &mut Text, note: &mut Text, line: u64) -> Result<(), AllocError>
+    ensures { OnOk result (page.new ≡ page.old ++ start_tag Element.A
+        ((Attribute.Class, codes "at") ∷ (Attribute.Href, 35 ∷ line_id line) ∷ [])) }
+{
+    note.clear();
+    note.push(b'#')?;
+    line_id(note, line)?;
+    start(
+        page,
+        Element::A,
+        b"at",
+        Some((Attribute::Href, note.bytes())),
+    )
 }
 
 /// Writes the start of the item of an event. It has the id of its line unless an earlier item has it.

@@ -1,20 +1,24 @@
 //! Writes the orders that a person should look at to a page.
-ghost use Rattle.std.specs.Prelude.{◌≡◌, ◌++◌, ◌∷◌, [], OnOk, codes};
-ghost use Rattle.zvt_page.specs.Html.{render, start_tag};
-ghost use Rattle.zvt_report.specs.PageEvents.{line_id};
+ghost use Rattle.std.specs.Prelude.{◌≡◌, ◌++◌, OnOk};
+ghost use Rattle.zvt_page.specs.Html.{render};
+ghost use Rattle.zvt_report.specs.PageEvents.{line_link};
 ghost use Rattle.zvt_report.specs.PageLooks.{account_part, advice_part, item, item_of, items, items_or_none};
-ghost use Rattle.zvt_report.specs.PageLooks.{line_link, lines_part, lines_text, listed_item, look_heading, looks_section, title_part};
-ghost use Rattle.zvt_report.specs.PageLooks.{weight_class, weight_word};
+ghost use Rattle.zvt_report.specs.PageLooks.{lines_part, lines_text, listed_item, listed_items};
+ghost use Rattle.zvt_report.specs.PageLooks.{look_heading, looks_section, title_part};
 
 use crate::advices::advice;
 use crate::books::DayBooks;
-use crate::cases::{Case, Look, Weight};
+use crate::cases::{Case, Look};
 use crate::closings::Closing;
 use crate::currencies::Decimals;
 use crate::facts::{Facts, facts_of};
+use crate::finding_list::is_nothing;
+use crate::findings::Finding;
 use crate::look_list::is_listed;
-use crate::page_events::{has_line, line_id};
+use crate::page_events::{has_line, link_start};
+use crate::page_findings::finding_items;
 use crate::page_parts::from_to;
+use crate::page_weights::{weight_class, weight_word};
 use crate::rows::{OrderMessage, OrderRow};
 use crate::sentences::account;
 use crate::times::time_first;
@@ -23,26 +27,6 @@ use std::alloc::AllocError;
 use zvt_page::{Attribute, Element, end, escaped, leaf, start};
 use zvt_text::Text;
 use zvt_till::Entry;
-
-/// Returns the class of an order of this weight, which gives it a shape and a colour.
-fn weight_class(weight: Weight) -> &'static [u8]
-    ensures { result.now ≡ weight_class weight }
-{
-    match weight {
-        Weight::Act => b"act",
-        Weight::Check => b"check",
-    }
-}
-
-/// Returns the word for a weight.
-fn weight_word(weight: Weight) -> &'static [u8]
-    ensures { result.now ≡ weight_word weight }
-{
-    match weight {
-        Weight::Act => b"Act",
-        Weight::Check => b"Check",
-    }
-}
 
 /// Writes the title of an order.
 #[tactic(auto, unfolding(crate::specs::PageLooks::title_part))]
@@ -69,25 +53,9 @@ fn lines_text(text: &mut Text, row: &OrderRow) -> Result<(), AllocError>
     from_to(text, row.first, row.last)
 }
 
-/// Writes the start of a link to the item of this line.
-fn link_start(page: &mut Text, note: &mut Text, line: u64) -> Result<(), AllocError>
-    ensures { OnOk result (page.new ≡ page.old ++ start_tag Element.A
-        ((Attribute.Class, codes "at") ∷ (Attribute.Href, 35 ∷ line_id line) ∷ [])) }
-{
-    note.clear();
-    note.push(b'#')?;
-    line_id(note, line)?;
-    start(
-        page,
-        Element::A,
-        b"at",
-        Some((Attribute::Href, note.bytes())),
-    )
-}
-
 /// Writes a link to the first line of an order, with its time and its lines.
-#[tactic(auto, unfolding(crate::specs::PageLooks::line_link))]
-fn line_link(page: &mut Text, note: &mut Text, row: &OrderRow) -> Result<(), AllocError>
+#[tactic(auto, unfolding(crate::specs::PageEvents::line_link))]
+fn lines_link(page: &mut Text, note: &mut Text, row: &OrderRow) -> Result<(), AllocError>
     ensures { OnOk result (page.new ≡ page.old ++ render (line_link row.now.first (lines_text row.now))) }
 {
     link_start(page, note, row.first)?;
@@ -98,7 +66,7 @@ fn line_link(page: &mut Text, note: &mut Text, row: &OrderRow) -> Result<(), All
 }
 
 /// Writes the time and the lines of an order, with a link if its first line is shown.
-#[tactic(auto, unfolding(crate::specs::PageLooks::lines_part))]
+#[tactic(auto, unfolding(crate::specs::PageEvents::lines_at, crate::specs::PageLooks::lines_part))]
 fn lines_part(
     page: &mut Text,
     note: &mut Text,
@@ -108,7 +76,7 @@ fn lines_part(
     ensures { OnOk result (page.new ≡ page.old ++ render (lines_part shown.now row.now)) }
 {
     if has_line(shown, row.first) {
-        return line_link(page, note, row);
+        return lines_link(page, note, row);
     }
     note.clear();
     lines_text(note, row)?;
@@ -241,7 +209,35 @@ fn items(
     Ok(())
 }
 
-/// Writes the looks, the urgent ones first, or that there are none.
+/// Writes the list of the looks, the urgent ones first, and of the findings.
+#[tactic(auto, unfolding(crate::specs::PageLooks::listed_items))]
+fn listed_items(
+    page: &mut Text,
+    note: &mut Text,
+    shown: &[u64],
+    decimals: Decimals,
+    book: &[Entry],
+    closings: &[Option<Closing>],
+    messages: &[OrderMessage],
+    rows: &[OrderRow],
+    looks: &[Look],
+    findings: &[Finding],
+) -> Result<(), AllocError>
+    ensures { OnOk result (page.new ≡ page.old
+        ++ render (listed_items shown.now decimals book.now closings.now messages.now rows.now looks.now findings.now)) }
+{
+    start(page, Element::Ol, b"look", None)?;
+    items(
+        page, note, shown, decimals, book, closings, messages, rows, true, looks,
+    )?;
+    items(
+        page, note, shown, decimals, book, closings, messages, rows, false, looks,
+    )?;
+    finding_items(page, note, shown, findings)?;
+    end(page, Element::Ol)
+}
+
+/// Writes the looks and the findings, or that there are none.
 fn items_or_none(
     page: &mut Text,
     note: &mut Text,
@@ -252,11 +248,12 @@ fn items_or_none(
     messages: &[OrderMessage],
     rows: &[OrderRow],
     looks: &[Look],
+    findings: &[Finding],
 ) -> Result<(), AllocError>
     ensures { OnOk result (page.new ≡ page.old
-        ++ render (items_or_none shown.now decimals book.now closings.now messages.now rows.now looks.now)) }
+        ++ render (items_or_none shown.now decimals book.now closings.now messages.now rows.now looks.now findings.now)) }
 {
-    if looks.is_empty() {
+    if is_nothing(looks, findings) {
         return leaf(
             page,
             Element::P,
@@ -264,14 +261,9 @@ fn items_or_none(
             b"Nothing in this trace needs a look.",
         );
     }
-    start(page, Element::Ol, b"look", None)?;
-    items(
-        page, note, shown, decimals, book, closings, messages, rows, true, looks,
-    )?;
-    items(
-        page, note, shown, decimals, book, closings, messages, rows, false, looks,
-    )?;
-    end(page, Element::Ol)
+    listed_items(
+        page, note, shown, decimals, book, closings, messages, rows, looks, findings,
+    )
 }
 
 /// Writes the heading of the looks.
@@ -284,8 +276,8 @@ fn look_heading(page: &mut Text, id: &[u8]) -> Result<(), AllocError>
     end(page, Element::H2)
 }
 
-/// Writes the section of the looks. Links to `id` lead to its heading, and its orders have links to the lines that the
-/// dialogue shows.
+/// Writes the section of the looks and the findings. Links to `id` lead to its heading, and its orders have links to
+/// the lines that the dialogue shows.
 #[tactic(auto, unfolding(crate::specs::PageLooks::looks_section))]
 pub(crate) fn looks_section(
     page: &mut Text,
@@ -297,14 +289,15 @@ pub(crate) fn looks_section(
     closings: &[Option<Closing>],
     messages: &[OrderMessage],
     looks: &[Look],
+    findings: &[Finding],
 ) -> Result<(), AllocError>
     ensures { OnOk result (page.new ≡ page.old
-        ++ render (looks_section id.now shown.now decimals books.now closings.now messages.now looks.now)) }
+        ++ render (looks_section id.now shown.now decimals books.now closings.now messages.now looks.now findings.now)) }
 {
     look_heading(page, id)?;
     let book = books.book.as_slice();
     let rows = books.orders.as_slice();
     items_or_none(
-        page, note, shown, decimals, book, closings, messages, rows, looks,
+        page, note, shown, decimals, book, closings, messages, rows, looks, findings,
     )
 }

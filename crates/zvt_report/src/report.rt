@@ -7,6 +7,7 @@ ghost use Rattle.zvt_report.specs.Reports.{AnswersReport, StartsIn};
 use crate::books::DayBooks;
 use crate::closings::{Closing, closings};
 use crate::day::Day;
+use crate::findings::{Finder, Finding, listed};
 use crate::reporter::Reporter;
 use crate::rows::OrderMessage;
 use crate::settling::settle;
@@ -18,7 +19,7 @@ use zvt_audit::{ByControl, NamedCurrency};
 use zvt_bcd::Currency;
 use zvt_grammar::Lengths;
 use zvt_till::Happening;
-use zvt_trace::{Moments, Scope, Tally, TraceFault, moments_of, walk};
+use zvt_trace::{Both, Moments, Scope, Tally, TraceFault, moments_of, walk};
 
 /// The report of a trace.
 #[derive(Drop)]
@@ -37,6 +38,8 @@ pub struct Report {
     pub statements: Vec<Statement>,
     /// The ends of day that closed a day: one for each row of `books.orders`, if that order is one.
     pub closings: Vec<Option<Closing>>,
+    /// The findings about the trace itself, in the order in which they are listed.
+    pub findings: Vec<Finding>,
     /// The number of refused messages that were passed over and known by their control bytes alone. It saturates.
     pub passed: u64,
 }
@@ -58,12 +61,17 @@ pub fn report_trace(
     requires { length trace.now ≤ limit }
     ensures { AnswersReport zone (reading_of lengths) scope trace.now result }
 {
-    let mut reporter = connected(alloc, scope)?;
-    let tally = walk(&mut reporter, alloc, scope, lengths, trace)?;
+    let mut listeners = Both {
+        first: connected(alloc, scope)?,
+        second: Finder::new(alloc, scope),
+    };
+    let tally = walk(&mut listeners, alloc, scope, lengths, trace)?;
     let moments = moments_of(alloc, trace)?;
-    let report = reporter
+    let findings = listed(listeners.second.found)?;
+    let by = listeners.first;
+    let report = by
         .listener
-        .finish(tally, reporter.passed, zone, &moments)?;
+        .finish(tally, by.passed, zone, &moments, findings)?;
     Ok(report)
 }
 
@@ -91,16 +99,17 @@ impl Reporter {
     ghost use Rattle.std.specs.Prelude.{IfOk};
     ghost use Rattle.zvt_report.specs.Reports.{Finds};
 
-    /// Ends the day, and returns the report with this tally, this number of messages that were passed over, and the
-    /// times of these moments.
+    /// Ends the day, and returns the report with this tally, this number of messages that were passed over, the times of
+    /// these moments, and these findings.
     fn finish(
         self,
         tally: Tally,
         passed: u64,
         zone: Zone,
         moments: &Moments,
+        findings: Vec<Finding>,
     ) -> Result<Report, AllocError>
-        ensures { IfOk result (Finds self tally passed zone moments.now) }
+        ensures { IfOk result (Finds self tally passed zone moments.now findings.items) }
     {
         let currency = self.named.agreed();
         let terminal = self.terminal;
@@ -123,6 +132,7 @@ impl Reporter {
             messages: self.messages,
             statements,
             closings,
+            findings,
             passed,
         })
     }

@@ -9,8 +9,9 @@ use crate::cases::Look;
 use crate::close_table::closings_text;
 use crate::closings::Closing;
 use crate::currencies::{Decimals, Money, decimals_of, money_of};
+use crate::finding_list::looks_text;
+use crate::findings::Finding;
 use crate::heading::head_part;
-use crate::look_list::looks_text;
 use crate::other_table::others_text;
 use crate::payment_table::payments_text;
 use crate::rows::OrderMessage;
@@ -52,7 +53,7 @@ fn summary_part(text: &mut Text, money: &Option<Money>, books: &DayBooks) -> Res
     text.push(b'\n')
 }
 
-/// Writes the orders that a person should look at, and an empty line.
+/// Writes the orders that a person should look at and the findings, and an empty line.
 #[tactic(auto, unfolding(crate::specs::TextReport::looks_part))]
 fn looks_part(
     text: &mut Text,
@@ -62,13 +63,16 @@ fn looks_part(
     messages: &[OrderMessage],
     closings: &[Option<Closing>],
     looks: &[Look],
+    findings: &[Finding],
 ) -> Result<(), AllocError>
     ensures { OnOk result (text.new ≡ text.old
-        ++ looks_part decimals books.now messages.now closings.now looks.now) }
+        ++ looks_part decimals books.now messages.now closings.now looks.now findings.now) }
 {
     let book = books.book.as_slice();
     let rows = books.orders.as_slice();
-    looks_text(text, note, decimals, book, closings, messages, rows, looks)?;
+    looks_text(
+        text, note, decimals, book, closings, messages, rows, looks, findings,
+    )?;
     text.push(b'\n')
 }
 
@@ -104,21 +108,25 @@ fn report_in(
     messages: &[OrderMessage],
     closings: &[Option<Closing>],
     looks: &[Look],
+    findings: &[Finding],
 ) -> Result<(), AllocError>
     ensures { OnOk result (text.new ≡ text.old
-        ++ report_in money.now tally terminal times.now books.now messages.now closings.now looks.now) }
+        ++ report_in money.now tally terminal times.now books.now messages.now closings.now looks.now
+        findings.now) }
 {
     let decimals = decimals_of(money);
     head_part(text, times, terminal)?;
     summary_part(text, money, books)?;
-    looks_part(text, note, decimals, books, messages, closings, looks)?;
+    looks_part(
+        text, note, decimals, books, messages, closings, looks, findings,
+    )?;
     tables_part(text, note, decimals, books, messages, closings)?;
     footer(text, tally)?;
     clock_notes(text, times)
 }
 
-/// Writes the report of a trace: its head, what the day comes to, the orders that a person should look at, the tables
-/// of orders, the ends of day, and how much of the trace was read. Fails only if memory runs out.
+/// Writes the report of a trace: its head, what the day comes to, the orders that a person should look at, the
+/// findings, the tables of orders, the ends of day, and how much of the trace was read. Fails only if memory runs out.
 pub(crate) fn write(
     alloc: Global,
     text: &mut Text,
@@ -130,13 +138,15 @@ pub(crate) fn write(
     messages: &[OrderMessage],
     closings: &[Option<Closing>],
     looks: &[Look],
+    findings: &[Finding],
 ) -> Result<(), AllocError>
     ensures { OnOk result (text.new ≡ text.old
-        ++ report_text tally currency terminal times.now books.now messages.now closings.now looks.now) }
+        ++ report_text tally currency terminal times.now books.now messages.now closings.now looks.now
+        findings.now) }
 {
     let mut note = Text::new(alloc);
     let money = money_of(currency);
     report_in(
-        text, &mut note, &money, tally, terminal, times, books, messages, closings, looks,
+        text, &mut note, &money, tally, terminal, times, books, messages, closings, looks, findings,
     )
 }

@@ -197,6 +197,7 @@ fn write_objects(
         report.messages.as_slice(),
         report.closings.as_slice(),
         looks,
+        report.findings.as_slice(),
         drawn,
     )
 }
@@ -226,6 +227,7 @@ fn write_page(
         report.messages.as_slice(),
         report.closings.as_slice(),
         looks,
+        report.findings.as_slice(),
         drawn.text.bytes(),
     )
 }
@@ -258,6 +260,7 @@ fn text_of(
             messages,
             closings,
             looks,
+            report.findings.as_slice(),
         )?,
         ReportForm::Json => write_objects(alloc, &mut text, report, looks, drawn.text.bytes())?,
         ReportForm::Page => write_page(alloc, &mut text, name, report, looks, drawn)?,

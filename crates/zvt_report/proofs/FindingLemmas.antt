@@ -1,0 +1,135 @@
+-- Findings: each bad message is found, and their objects are written and read back.
+use Rattle.std.proofs.Common.{◌≡◌, ℕ, zero, suc, ◌+◌, ◌-◌, ◌==◌, min, Bool, true, false, cond, List, [], ◌∷◌, ◌++◌, length, map, take, Option, Some, None, refl, sym, ◌∙◌, ap, ap₂, append_assoc, arith}
+use Rattle.std.proofs.lemmas.Bool.{eqb-true}
+use Rattle.std.proofs.lemmas.List.{length-take}
+use Rattle.std.proofs.lemmas.List.Sums.{sum_by-append, sum_by-cons}
+use Rattle.std.specs.List.{cons_option, sum_by}
+use Rattle.serde_json.specs.Data.{Data}
+use Rattle.serde_json.specs.Written.{members_text}
+use Rattle.zvt_stream.specs.declared.head.Head.{Head}
+use Rattle.zvt_stream.specs.declared.head.Head.TheVariants.{Empty, One, Two}
+use Rattle.zvt_trace.specs.TraceEvent.{At, TraceEvent, bad_count, bad_in}
+use Rattle.zvt_trace.specs.TraceEvent as trace_event
+use Rattle.zvt_trace.specs.declared.listener.Scope.{Scope}
+use Rattle.zvt_report.specs.FindingObjects.{FindingsReadBack, control_member, finding_told, line_member, weight_member}
+use Rattle.zvt_report.specs.FindingTexts.{finding_advice, finding_text, finding_title}
+use Rattle.zvt_report.specs.Findings.{EachBadMessageIsFound, bad_messages, counted_by, finding_at, finding_by, head_of, line_of, listed, more_refused, most_listed}
+use Rattle.zvt_report.specs.Hidden.{HiddenBytesAreNotFound, disclosed_at, disclosed_event}
+use Rattle.zvt_report.specs.LookObjects.{more_of, of_member, told, told_text}
+use Rattle.zvt_report.specs.Objects.{said_as}
+use Rattle.zvt_report.specs.declared.findings.Finding.{Finding}
+use Rattle.zvt_report.specs.declared.findings.Finding.TheVariants.{MoreRefused}
+use Rattle.zvt_report.specs.declared.members.Member.{Member}
+use Rattle.zvt_report.specs.declared.members.Name.{Name}
+use Rattle.zvt_report.specs.declared.members.Name.TheVariants as name
+use Rattle.zvt_report.specs.declared.members.Value.TheVariants as value
+use Rattle.zvt_report.specs.declared.members.Word.TheVariants as word
+use Rattle.zvt_report.proofs.LookObjectLemmas.{three_told}
+use Rattle.zvt_report.proofs.ReadLemmas.{IsNamed, read_told, sentence_told, told_of}
+
+-- ---- objects
+
+-- six parts one after another
+pub six_parts : (old t₁ t₂ t₃ t₄ t₅ p₁ p₂ p₃ p₄ p₅ p₆ : List ℕ)
+    → t₁ ≡ old ++ p₁ → t₂ ≡ t₁ ++ p₂ → t₃ ≡ t₂ ++ p₃ → t₄ ≡ t₃ ++ p₄ → t₅ ≡ t₄ ++ p₅
+    → t₅ ++ p₆ ≡ old ++ (p₁ ++ (p₂ ++ (p₃ ++ (p₄ ++ (p₅ ++ p₆)))))
+six_parts old t₁ t₂ t₃ t₄ t₅ p₁ p₂ p₃ p₄ p₅ p₆ first second third fourth fifth = simp (fifth, fourth, third, second, first, append_assoc)
+
+-- the members of a finding
+pub three_told_at : (k m n : Name) (c d e : Data) (ms vs : List (Option Member))
+    → told_text false k c ++ (more_of ms ++ (told_text true m d ++ (told_text true n e ++ (more_of vs ++ 125 ∷ []))))
+    ≡ members_text false (told (Some (k, c) ∷ (map of_member ms ++ (Some (m, d) ∷ (Some (n, e) ∷ map of_member vs)))))
+unfolding more_of
+three_told_at k m n c d e ms vs = three_told k m n c d e (map of_member ms) [] (map of_member vs)
+
+control_named : (head : Head) → IsNamed (control_member head) name.Control
+control_named Empty = tt
+control_named (One high) = tt
+control_named (Two high low) = refl
+
+line_named : (line : Option ℕ) → IsNamed (line_member line) name.Lines
+line_named None = tt
+line_named (Some line) = refl
+
+abbrev names_of_finding : List Name
+names_of_finding = name.Advice ∷ name.Case ∷ name.Control ∷ name.Lines ∷ name.Text ∷ name.Title ∷ name.Weight ∷ []
+
+pub findings_read_back : FindingsReadBack
+findings_read_back f =
+    read_told (finding_told f) names_of_finding
+    (sentence_told name.Advice (finding_advice f), (told_of (said_as name.Case (value.Word (word.Finding f))) name.Case refl, (told_of (control_member (head_of f)) name.Control (control_named (head_of f)), (told_of (line_member (line_of f)) name.Lines (line_named (line_of f)), (sentence_told name.Text (finding_text f), (sentence_told name.Title (finding_title f), (told_of (weight_member f) name.Weight refl, tt))))))) refl
+
+-- ---- each bad message is found
+
+abbrev IsOne : Option Finding → Type 0
+IsOne None = Unit {0}
+IsOne (Some f) = counted_by f ≡ 1
+
+one_each : (scope : Scope) (line : ℕ) (event : TraceEvent) → IsOne (finding_by scope line event)
+one_each scope line (trace_event.message from m) = tt
+one_each scope line (trace_event.refused from head byte place why) = refl
+one_each scope line (trace_event.unread from) = tt
+one_each scope line (trace_event.resumed from size) = tt
+one_each scope line (trace_event.cut_off from head have) = refl
+one_each scope line trace_event.lost = tt
+
+-- a message that is refused or cut off has a finding, and nothing else has
+one_found : (scope : Scope) (line : ℕ) (event : TraceEvent) (more : List Finding) → length (cons_option (finding_by scope line event) more) ≡ bad_count event + length more
+one_found scope line (trace_event.message from m) more = omega arith
+one_found scope line (trace_event.refused from head byte place why) more = refl
+one_found scope line (trace_event.unread from) more = omega arith
+one_found scope line (trace_event.resumed from size) more = omega arith
+one_found scope line (trace_event.cut_off from head have) more = refl
+one_found scope line trace_event.lost more = omega arith
+
+all_found : (scope : Scope) (events : List At) → length (bad_messages scope events) ≡ bad_in events
+all_found scope [] = refl
+all_found scope (event ∷ events) =
+    one_found scope event.line event.trace_event (bad_messages scope events) ∙ ap (λ (n : ℕ). bad_count event.trace_event + n) (all_found scope events)
+    ∙ sym (sum_by-cons (λ (e : At). bad_count e.trace_event) event events)
+
+-- each of the first ones counts once
+first_counted : (n : ℕ) (o : Option Finding) (more : List Finding) → IsOne o → ((k : ℕ) → sum_by counted_by (take k more) ≡ length (take k more))
+    → sum_by counted_by (take n (cons_option o more)) ≡ length (take n (cons_option o more))
+first_counted n None more one later = later n
+first_counted zero (Some f) more one later = refl
+first_counted (suc n) (Some f) more one later = let rest = later n in omega (arith, sum_by-cons counted_by f (take n more), one, rest)
+
+all_counted : (scope : Scope) (events : List At) (n : ℕ) → sum_by counted_by (take n (bad_messages scope events)) ≡ length (take n (bad_messages scope events))
+all_counted scope [] zero = refl
+all_counted scope [] (suc n) = refl
+all_counted scope (event ∷ events) n = first_counted n (finding_at scope event) (bad_messages scope events) (one_each scope event.line event.trace_event) (all_counted scope events)
+
+others_counted : (more : ℕ) → sum_by counted_by (more_refused more) ≡ more
+others_counted more = by (more == 0) refl
+  where
+    by : (none : Bool) → (more == 0) ≡ none → sum_by counted_by (cond none [] (MoreRefused more ∷ [])) ≡ more
+    by true is = sym (eqb-true more 0 is)
+    by false is = omega (arith, sum_by-cons counted_by (MoreRefused more) [])
+
+few_and_more : (m n a b : ℕ) → a ≡ min m n → b ≡ n - m → a + b ≡ n
+few_and_more m n a b few more = omega (arith, few, more)
+
+pub each_bad_message_is_found : EachBadMessageIsFound
+each_bad_message_is_found scope events =
+    let found = bad_messages scope events in
+    sum_by-append counted_by (take most_listed found) (more_refused (length found - most_listed))
+    ∙ few_and_more most_listed (length found) _ _ (all_counted scope events most_listed ∙ length-take most_listed found) (others_counted (length found - most_listed))
+    ∙ all_found scope events
+
+-- ---- bytes that are not shown
+
+found_alike : (scope : Scope) (line : ℕ) (event : TraceEvent) → finding_by scope line (disclosed_event event) ≡ finding_by scope line event
+found_alike scope line (trace_event.message from m) = refl
+found_alike scope line (trace_event.refused from head byte place why) = refl
+found_alike scope line (trace_event.unread from) = refl
+found_alike scope line (trace_event.resumed from size) = refl
+found_alike scope line (trace_event.cut_off from head have) = refl
+found_alike scope line trace_event.lost = refl
+
+all_alike : (scope : Scope) (events : List At) → bad_messages scope (map disclosed_at events) ≡ bad_messages scope events
+all_alike scope [] = refl
+all_alike scope (event ∷ events) = ap₂ cons_option (found_alike scope event.line event.trace_event) (all_alike scope events)
+
+pub hidden_bytes_are_not_found : HiddenBytesAreNotFound
+hidden_bytes_are_not_found scope events others same = ap listed (sym (all_alike scope events) ∙ ap (bad_messages scope) same ∙ all_alike scope others)

@@ -1,0 +1,128 @@
+-- What the findings about a trace say.
+use Rattle.std.specs.Prelude.{◌≡◌, ℕ, Bool, true, false, List, [], ◌∷◌, ◌++◌, codes, Option, Some, None, refl}
+use Rattle.std.specs.Fmt.{decimal, digits}
+use Rattle.hex.specs.Hex.{encode_upper, encode_with}
+use Rattle.zvt_grammar.specs.Names.{why_name}
+use Rattle.zvt_grammar.specs.declared.why.Why.{Why}
+use Rattle.zvt_grammar.specs.declared.why.Why.TheVariants.{NotShortest, DoesNotFit, LengthForm, TooDeep, TagTooLong, UnknownField, NotDigit, LengthDigit}
+use Rattle.zvt_apdu.specs.Kinds.{kind_at}
+use Rattle.zvt_apdu.specs.declared.kinds.Kind.{Kind}
+use Rattle.zvt_apdu.specs.declared.kinds.Kind.TheVariants as kind
+use Rattle.zvt_stream.specs.declared.head.Head.{Head}
+use Rattle.zvt_stream.specs.declared.head.Head.TheVariants.{Empty, One, Two}
+use Rattle.zvt_text.specs.Meanings.{command_name}
+use Rattle.zvt_trace.specs.declared.direction.Direction.{Direction}
+use Rattle.zvt_trace.specs.declared.direction.Direction.TheVariants.{FromTill, FromTerminal}
+use Rattle.zvt_report.specs.Amounts.{count_text}
+use Rattle.zvt_report.specs.declared.findings.Finding.{Finding}
+use Rattle.zvt_report.specs.declared.findings.Finding.TheVariants.{Refused, CutOff, MoreRefused}
+
+-- ---- a message
+
+abbrev pub side_name : Direction → List ℕ
+side_name FromTill = codes "till"
+side_name FromTerminal = codes "terminal"
+
+-- the name of a message by its control bytes, where it is known
+abbrev pub message_name : Kind → (high low : ℕ) → Option (List ℕ)
+message_name kind.Ack high low = Some (codes "acknowledgement")
+message_name kind.Nack high low = Some (codes "negative acknowledgement")
+message_name kind.Registration high low = Some (codes "registration")
+message_name kind.Authorisation high low = Some (codes "payment")
+message_name kind.Reversal high low = Some (codes "reversal")
+message_name kind.EndOfDay high low = Some (codes "end of day")
+message_name kind.AbortOrder high low = Some (codes "abort")
+message_name kind.Status high low = Some (codes "status information")
+message_name kind.Intermediate high low = Some (codes "intermediate status")
+message_name kind.PrintLine high low = Some (codes "print line")
+message_name kind.TextBlock high low = Some (codes "text block")
+message_name kind.Completion high low = Some (codes "completion")
+message_name kind.Abort high low = Some (codes "abort")
+message_name kind.Other high low = command_name high low
+
+abbrev pub bracketed : Option (List ℕ) → List ℕ
+bracketed None = []
+bracketed (Some name) = codes " (" ++ name ++ codes ")"
+
+-- the control bytes, as far as they have come
+unfoldable pub head_part : Head → List ℕ
+head_part Empty = []
+head_part (One high) = 32 ∷ encode_upper (high ∷ [])
+head_part (Two high low) = 32 ∷ encode_upper (high ∷ low ∷ []) ++ bracketed (message_name (kind_at high low) high low)
+
+unfoldable pub message_part : Direction → Head → List ℕ
+message_part from head = codes "The " ++ side_name from ++ codes "'s message" ++ head_part head
+
+-- ---- a refused one
+
+-- what is wrong with the fatal byte
+abbrev pub why_words : Why → List ℕ
+why_words NotShortest = codes "a length has a longer form than necessary"
+why_words DoesNotFit = codes "what it begins or counts does not fit"
+why_words LengthForm = codes "no length begins with it"
+why_words TooDeep = codes "objects are nested more than six levels deep"
+why_words TagTooLong = codes "a tag has more than three bytes"
+why_words UnknownField = codes "no known field begins with it"
+why_words NotDigit = codes "it must be two digits"
+why_words LengthDigit = codes "a digit of a length must be F0 to F9"
+
+-- how the report goes on
+abbrev pub goes_on : (reads_on : Bool) → List ℕ
+goes_on true = codes "The report goes on after the message."
+goes_on false = codes "The report goes on with the next connection."
+
+abbrev pub refused_text : (place : ℕ) → Why → (reads_on : Bool) → List ℕ
+refused_text place why goes = codes "Its byte " ++ decimal place ++ codes ", counted from 0, is refused: " ++ why_words why ++ codes " (" ++ why_name why ++ codes "). " ++ goes_on goes
+
+abbrev pub maker_advice : Direction → List ℕ
+maker_advice from = codes "Send this report to the maker of the " ++ side_name from ++ codes "."
+
+-- ---- one that is cut off
+
+abbrev pub cut_off_text : (have : ℕ) → List ℕ
+cut_off_text have = codes "It breaks off after " ++ count_text have (codes "byte") ++ codes ", where the trace or the connection ended."
+
+-- ---- a finding
+
+abbrev pub finding_title : Finding → List ℕ
+finding_title (Refused line from head place why goes) = message_part from head ++ codes " cannot be read"
+finding_title (CutOff line from head have) = message_part from head ++ codes " is incomplete"
+finding_title (MoreRefused count) = count_text count (codes "more message") ++ codes " refused or cut off"
+
+abbrev pub finding_text : Finding → List ℕ
+finding_text (Refused line from head place why goes) = refused_text place why goes
+finding_text (CutOff line from head have) = cut_off_text have
+finding_text (MoreRefused count) = codes "This list has only the first messages that were refused or cut off."
+
+abbrev pub finding_advice : Finding → List ℕ
+finding_advice (Refused line from head place why goes) = maker_advice from
+finding_advice (CutOff line from head have) = codes "If the trace was cut short, make this report again from the whole trace."
+finding_advice (MoreRefused count) = codes "'zvt show' names the others."
+
+-- ---- rows worked by hand
+
+abbrev a_refusal : Finding
+a_refusal = Refused 4 FromTerminal (Two 0x04 0x0F) 37 UnknownField true
+
+a_refused_status : finding_title a_refusal ++ 10 ∷ finding_text a_refusal ++ 10 ∷ finding_advice a_refusal
+    ≡ codes "The terminal's message 040F (status information) cannot be read\n"
+    ++ codes "Its byte 37, counted from 0, is refused: no known field begins with it (UnknownField). The report goes on after the message.\n"
+    ++ codes "Send this report to the maker of the terminal."
+unfolding digits encode_with head_part kind_at message_part
+a_refused_status = refl
+
+-- a message without a name, read strictly
+a_refused_order : finding_title (Refused 4 FromTill (Two 0x08 0x99) 2 DoesNotFit false) ++ 10 ∷ finding_text (Refused 4 FromTill (Two 0x08 0x99) 2 DoesNotFit false)
+    ≡ codes "The till's message 0899 cannot be read\n"
+    ++ codes "Its byte 2, counted from 0, is refused: what it begins or counts does not fit (DoesNotFit). The report goes on with the next connection."
+unfolding command_name digits encode_with head_part kind_at message_part
+a_refused_order = refl
+
+a_cut_message : finding_title (CutOff 12 FromTill (One 0x06) 1) ++ 10 ∷ finding_text (CutOff 12 FromTill (One 0x06) 1)
+    ≡ codes "The till's message 06 is incomplete\nIt breaks off after 1 byte, where the trace or the connection ended."
+unfolding count_text digits encode_with head_part message_part
+a_cut_message = refl
+
+the_others : finding_title (MoreRefused 3) ≡ codes "3 more messages refused or cut off"
+unfolding count_text digits
+the_others = refl

@@ -1,0 +1,200 @@
+//! Writes what the findings about a trace say.
+ghost use Rattle.std.specs.Prelude.{◌≡◌, ◌++◌, OnOk, option_map};
+ghost use Rattle.std.specs.Option.{option_copied};
+ghost use Rattle.zvt_report.specs.FindingTexts.{bracketed, cut_off_text, finding_advice, finding_text, finding_title};
+ghost use Rattle.zvt_report.specs.FindingTexts.{goes_on, head_part, maker_advice, message_name, message_part};
+ghost use Rattle.zvt_report.specs.FindingTexts.{refused_text, side_name, why_words};
+
+use crate::amounts::count;
+use crate::findings::Finding;
+use std::alloc::AllocError;
+use zvt_apdu::{Kind, kind_at};
+use zvt_grammar::Why;
+use zvt_text::{Text, command_name, hexadecimal};
+use zvt_trace::{Direction, Head};
+
+/// Returns the name of a side.
+fn side_name(from: Direction) -> &'static [u8]
+    ensures { result.now ≡ side_name from }
+{
+    match from {
+        Direction::FromTill => b"till",
+        Direction::FromTerminal => b"terminal",
+    }
+}
+
+/// Returns the name of a message of this kind with these control bytes, if it is known.
+fn message_name(kind: Kind, high: u8, low: u8) -> Option<&'static str>
+    ensures { option_map (λ name. name.now) result ≡ message_name kind high low }
+{
+    match kind {
+        Kind::Ack => Some("acknowledgement"),
+        Kind::Nack => Some("negative acknowledgement"),
+        Kind::Registration => Some("registration"),
+        Kind::Authorisation => Some("payment"),
+        Kind::Reversal => Some("reversal"),
+        Kind::EndOfDay => Some("end of day"),
+        Kind::AbortOrder => Some("abort"),
+        Kind::Status => Some("status information"),
+        Kind::Intermediate => Some("intermediate status"),
+        Kind::PrintLine => Some("print line"),
+        Kind::TextBlock => Some("text block"),
+        Kind::Completion => Some("completion"),
+        Kind::Abort => Some("abort"),
+        Kind::Other => command_name(high, low),
+    }
+}
+
+/// Writes a name in brackets, if there is one.
+fn bracketed(text: &mut Text, name: Option<&str>) -> Result<(), AllocError>
+    ensures { OnOk result (text.new ≡ text.old ++ bracketed (option_copied name.entry)) }
+{
+    match name {
+        Some(name) => {
+            text.word(b" (")?;
+            text.word(name.as_bytes())?;
+            text.word(b")")
+        }
+        None => Ok(()),
+    }
+}
+
+/// Writes the control bytes of a message, as far as they have come, and its name.
+#[tactic(auto, unfolding(crate::specs::FindingTexts::head_part))]
+fn head_part(text: &mut Text, head: Head) -> Result<(), AllocError>
+    ensures { OnOk result (text.new ≡ text.old ++ head_part head) }
+{
+    match head {
+        Head::Empty => Ok(()),
+        Head::One(high) => {
+            text.push(b' ')?;
+            hexadecimal(text, &[high])
+        }
+        Head::Two(high, low) => {
+            text.push(b' ')?;
+            hexadecimal(text, &[high, low])?;
+            bracketed(text, message_name(kind_at(high, low), high, low))
+        }
+    }
+}
+
+/// Writes which message of this side it is.
+#[tactic(auto, unfolding(crate::specs::FindingTexts::message_part))]
+fn message_part(text: &mut Text, from: Direction, head: Head) -> Result<(), AllocError>
+    ensures { OnOk result (text.new ≡ text.old ++ message_part from head) }
+{
+    text.word(b"The ")?;
+    text.word(side_name(from))?;
+    text.word(b"'s message")?;
+    head_part(text, head)
+}
+
+/// Returns what is wrong with the fatal byte of a message.
+fn why_words(why: Why) -> &'static [u8]
+    ensures { result.now ≡ why_words why }
+{
+    match why {
+        Why::NotShortest => b"a length has a longer form than necessary",
+        Why::DoesNotFit => b"what it begins or counts does not fit",
+        Why::LengthForm => b"no length begins with it",
+        Why::TooDeep => b"objects are nested more than six levels deep",
+        Why::TagTooLong => b"a tag has more than three bytes",
+        Why::UnknownField => b"no known field begins with it",
+        Why::NotDigit => b"it must be two digits",
+        Why::LengthDigit => b"a digit of a length must be F0 to F9",
+    }
+}
+
+/// Returns how the report goes on after a refused message.
+fn goes_on(reads_on: bool) -> &'static [u8]
+    ensures { result.now ≡ goes_on reads_on }
+{
+    if reads_on {
+        b"The report goes on after the message."
+    } else {
+        b"The report goes on with the next connection."
+    }
+}
+
+/// Writes where and why a message was refused.
+fn refused_text(text: &mut Text, place: usize, why: Why, reads_on: bool) -> Result<(), AllocError>
+    ensures { OnOk result (text.new ≡ text.old ++ refused_text place why reads_on) }
+{
+    text.word(b"Its byte ")?;
+    text.number(place)?;
+    text.word(b", counted from 0, is refused: ")?;
+    text.word(why_words(why))?;
+    text.word(b" (")?;
+    text.word(why.name().as_bytes())?;
+    text.word(b"). ")?;
+    text.word(goes_on(reads_on))
+}
+
+/// Writes who should know of a refused message.
+fn maker_advice(text: &mut Text, from: Direction) -> Result<(), AllocError>
+    ensures { OnOk result (text.new ≡ text.old ++ maker_advice from) }
+{
+    text.word(b"Send this report to the maker of the ")?;
+    text.word(side_name(from))?;
+    text.word(b".")
+}
+
+/// Writes where a message was cut off.
+fn cut_off_text(text: &mut Text, have: usize) -> Result<(), AllocError>
+    ensures { OnOk result (text.new ≡ text.old ++ cut_off_text have) }
+{
+    text.word(b"It breaks off after ")?;
+    count(text, have, b"byte")?;
+    text.word(b", where the trace or the connection ended.")
+}
+
+/// Writes the title of a finding.
+pub(crate) fn finding_title(text: &mut Text, finding: &Finding) -> Result<(), AllocError>
+    ensures { OnOk result (text.new ≡ text.old ++ finding_title finding.now) }
+{
+    match *finding {
+        Finding::Refused { from, head, .. } => {
+            message_part(text, from, head)?;
+            text.word(b" cannot be read")
+        }
+        Finding::CutOff { from, head, .. } => {
+            message_part(text, from, head)?;
+            text.word(b" is incomplete")
+        }
+        Finding::MoreRefused(more) => {
+            count(text, more, b"more message")?;
+            text.word(b" refused or cut off")
+        }
+    }
+}
+
+/// Writes what was found.
+pub(crate) fn finding_text(text: &mut Text, finding: &Finding) -> Result<(), AllocError>
+    ensures { OnOk result (text.new ≡ text.old ++ finding_text finding.now) }
+{
+    match *finding {
+        Finding::Refused {
+            place,
+            why,
+            reads_on,
+            ..
+        } => refused_text(text, place, why, reads_on),
+        Finding::CutOff { have, .. } => cut_off_text(text, have),
+        Finding::MoreRefused(_) => {
+            text.word(b"This list has only the first messages that were refused or cut off.")
+        }
+    }
+}
+
+/// Writes what to do about a finding.
+pub(crate) fn finding_advice(text: &mut Text, finding: &Finding) -> Result<(), AllocError>
+    ensures { OnOk result (text.new ≡ text.old ++ finding_advice finding.now) }
+{
+    match *finding {
+        Finding::Refused { from, .. } => maker_advice(text, from),
+        Finding::CutOff { .. } => text.word(
+            b"If the trace was cut short, make this report again from the whole trace.",
+        ),
+        Finding::MoreRefused(_) => text.word(b"'zvt show' names the others."),
+    }
+}

@@ -1,0 +1,184 @@
+//! What is wrong with a trace itself, apart from its orders.
+ghost use Rattle.std.specs.Prelude.{◌≡◌, ◌++◌, [], IfOk, OnOk};
+ghost use Rattle.std.specs.List.{cons_option};
+ghost use Rattle.zvt_trace.specs.TraceEvent.{event_of};
+ghost use Rattle.zvt_report.specs.Findings.{finding_by, listed, reads_on};
+
+use crate::cases::Weight;
+use std::alloc::{AllocError, Global};
+use zvt_grammar::Why;
+use zvt_trace::{Direction, Head, Listener, ListenerError, Scope, TraceEvent};
+
+/// The number of messages that were refused or cut off and that a report lists. Of the others it has the number.
+const MOST_LISTED: usize = 20;
+
+/// A finding about the trace itself, which belongs to no order.
+#[derive(Clone, Copy)]
+pub enum Finding {
+    /// A message cannot be read.
+    Refused {
+        line: u64,
+        from: Direction,
+        /// The control bytes of the message.
+        head: Head,
+        /// The offset of the first byte after which no message can follow.
+        place: usize,
+        why: Why,
+        /// Whether its side is read on after the message, and not only from the next connection.
+        reads_on: bool,
+    },
+    /// The trace ends, or the connection is lost, within a message.
+    CutOff {
+        line: u64,
+        from: Direction,
+        /// The control bytes of the message, as far as they have come.
+        head: Head,
+        /// The number of bytes that have come.
+        have: usize,
+    },
+    /// This many more messages are refused or cut off.
+    MoreRefused(usize),
+}
+
+impl Finding {
+    ghost use Rattle.std.specs.Prelude.{◌≡◌};
+    ghost use Rattle.zvt_report.specs.Findings.{head_of, line_of, weight_of};
+    ghost use Rattle.zvt_report.specs.Words.{finding_name};
+
+    /// Returns the name of the finding as every output writes it.
+    pub fn name(self) -> &'static str
+        ensures { result.now ≡ finding_name self }
+    {
+        match self {
+            Finding::Refused { .. } => "Refused",
+            Finding::CutOff { .. } => "CutOff",
+            Finding::MoreRefused(_) => "MoreRefused",
+        }
+    }
+
+    /// How urgent the finding is.
+    pub fn weight(self) -> Weight
+        ensures { result ≡ weight_of self }
+    {
+        match self {
+            Finding::Refused { .. } | Finding::CutOff { .. } | Finding::MoreRefused(_) => {
+                Weight::Note
+            }
+        }
+    }
+
+    /// Returns the control bytes of the message that the finding is about, as far as they are known.
+    pub(crate) fn head(self) -> Head
+        ensures { result ≡ head_of self }
+    {
+        match self {
+            Finding::Refused { head, .. } | Finding::CutOff { head, .. } => head,
+            Finding::MoreRefused(_) => Head::Empty,
+        }
+    }
+
+    /// Returns the line of the trace that the finding is about.
+    pub fn line(self) -> Option<u64>
+        ensures { result ≡ line_of self }
+    {
+        match self {
+            Finding::Refused { line, .. } | Finding::CutOff { line, .. } => Some(line),
+            Finding::MoreRefused(_) => None,
+        }
+    }
+}
+
+/// Finds the messages that are refused or cut off.
+#[derive(Drop)]
+pub(crate) struct Finder {
+    scope: Scope,
+    /// In the order of the trace.
+    pub(crate) found: Vec<Finding>,
+}
+
+impl Finder {
+    /// Starts before the first event of a trace that is read in this scope.
+    pub(crate) fn new(alloc: Global, scope: Scope) -> Finder
+        ensures scope { result.scope ≡ scope }
+        ensures found { result.found.items ≡ [] }
+    {
+        Finder {
+            scope,
+            found: Vec::new(alloc),
+        }
+    }
+
+    /// Adds a finding, if there is one.
+    fn take(&mut self, finding: Option<Finding>) -> Result<(), AllocError>
+        ensures { OnOk result ((self.new.scope ≡ self.old.scope)
+            × (self.new.found.items ≡ self.old.found.items ++ cons_option finding [])) }
+    {
+        if let Some(finding) = finding {
+            self.found.push(finding)?;
+        }
+        Ok(())
+    }
+}
+
+impl Listener for Finder {
+    ghost use Rattle.std.specs.Prelude.{◌≡◌};
+    ghost use Rattle.zvt_report.specs.Findings.{finds};
+    ghost use Rattle.zvt_trace.specs.declared.listener.ListenerError.TheVariants.{Memory};
+
+    ghost hears = { λ old event new. finds old event new };
+
+    ghost fails = { λ _ _ failure _. failure ≡ Memory };
+
+    fn hear(&mut self, line: u64, trace_event: &TraceEvent<'_>) -> Result<(), ListenerError> {
+        self.take(finding_by(self.scope, line, trace_event))?;
+        Ok(())
+    }
+}
+
+/// Whether a side is read on after a refused message.
+fn reads_on(scope: Scope) -> bool
+    ensures { result ≡ reads_on scope }
+{
+    match scope {
+        Scope::OneMessage => true,
+        Scope::OneSide | Scope::WholeLine => false,
+    }
+}
+
+/// Returns the finding about a message that is refused or cut off, if this event is one.
+fn finding_by(scope: Scope, line: u64, trace_event: &TraceEvent<'_>) -> Option<Finding>
+    ensures { result ≡ finding_by scope line (event_of trace_event.now) }
+{
+    match trace_event {
+        TraceEvent::Refused { from, refusal } => Some(Finding::Refused {
+            line,
+            from: *from,
+            head: refusal.head,
+            place: refusal.place,
+            why: refusal.why,
+            reads_on: reads_on(scope),
+        }),
+        TraceEvent::CutOff { from, head, have } => Some(Finding::CutOff {
+            line,
+            from: *from,
+            head: *head,
+            have: *have,
+        }),
+        TraceEvent::Message { .. }
+        | TraceEvent::Unread { .. }
+        | TraceEvent::Resumed { .. }
+        | TraceEvent::Lost => None,
+    }
+}
+
+/// Returns the first of these findings, and the number of the others.
+pub(crate) fn listed(mut found: Vec<Finding>) -> Result<Vec<Finding>, AllocError>
+    ensures { IfOk result (λ few. few.items ≡ listed found.items) }
+{
+    let more = found.len().saturating_sub(MOST_LISTED);
+    found.truncate(MOST_LISTED);
+    if more > 0 {
+        found.push(Finding::MoreRefused(more))?;
+    }
+    Ok(found)
+}
