@@ -169,7 +169,7 @@ def where_cases_lead(name, page):
     """Each case has a link to its first line, if the dialogue has an item of that line."""
     ids = page.values("id")
     for one in places(page):
-        target = "l" + re.search(r"lines (\d+)-\d+$", one["text"])[1]
+        target = "l" + re.search(r"lines? (\d+)(-\d+)?$", one["text"])[1]
         check(f"where {one['text']} of {name} leads", (one["tag"], one["attributes"].get("href")), ("a", "#" + target) if target in ids else ("span", None))
 
 
