@@ -13,7 +13,7 @@ use Rattle.zvt_till.specs.Till.{TillState, new_till, state_after, step}
 use Rattle.zvt_till.specs.TillHistory.{Stands}
 use Rattle.zvt_till.proofs.TillHistoryLemmas.{stands-more}
 use Rattle.zvt_kept.specs.declared.records.Entry.{Entry}
-use Rattle.zvt_kept.specs.Records.{Kept, ordered, heard, lost, kept_in}
+use Rattle.zvt_kept.specs.Records.{Kept, ordered, asked, heard, lost, kept_in}
 use Rattle.zvt_kept.specs.Logs.{Happens, HappenAll, HasOpening, LogsAreOne, StandsFor}
 use Rattle.zvt_kept.specs.Reading.{kept_of}
 use Rattle.zvt_kept.specs.Recovery.{IsFirstForeign, IsRecovered, Recovers, Relives}
@@ -31,6 +31,7 @@ use Rattle.zvt_kept.proofs.Relived.{prefix_from}
 
 once : (currency : ℕ) (one : Kept) (a b : List Happening) → Happens currency one a → Happens currency one b → a ≡ b
 once currency (ordered order note) a b p q = p ∙ sym q
+once currency (asked note) a b p q = p ∙ sym q
 once currency (heard bytes) a b p q =
     let same = same_message p.0 bytes p.1 (q.0, q.1) in
     p.2 ∙ ap (λ m. HeardIn (heard_as m) ∷ []) (sym same) ∙ sym q.2

@@ -27,7 +27,7 @@ use Rattle.zvt_till.specs.TillHistory.{Stands}
 use Rattle.zvt_till.proofs.Runs.{step-order}
 use Rattle.zvt_till.proofs.Steps.{steps_meet_log}
 use Rattle.zvt_till.proofs.TillHistoryLemmas.{stands-more}
-use Rattle.zvt_kept.specs.Records.{ordered, heard, lost}
+use Rattle.zvt_kept.specs.Records.{ordered, asked, heard, lost}
 use Rattle.zvt_kept.specs.Recovery.{Relives}
 use Rattle.zvt_kept.proofs.Steps.{heard_follows, order_follows}
 
@@ -72,6 +72,11 @@ order_taken order note old new none is settings log t up =
     stays (Reverse entry) = up
     stays CloseDay = up
     stays Cancel = up
+
+-- ---- an ask
+
+pub ask_passes : (note : List ℕ) (state : TillState) → Relives true (asked note) state state
+ask_passes note state settings log t up = ([], refl, subst (λ l. Stands settings l state) (sym (append-nil log)) t, up)
 
 -- ---- a message
 

@@ -25,7 +25,7 @@ use Rattle.zvt_till.specs.Till.{TillState, accept, book_after, entry_after, fini
 use Rattle.zvt_till.specs.TillHistory.{Stands}
 use Rattle.zvt_till.proofs.Runs.{step-order}
 use Rattle.zvt_kept.specs.declared.records.Entry.{Entry}
-use Rattle.zvt_kept.specs.Records.{Kept, ordered, heard, lost, kept_in}
+use Rattle.zvt_kept.specs.Records.{Kept, ordered, asked, heard, lost, kept_in}
 use Rattle.zvt_kept.specs.Logs.{Happens}
 use Rattle.zvt_kept.specs.Reading.{kept_of}
 use Rattle.zvt_kept.specs.Recovery.{Relives}
@@ -139,6 +139,7 @@ grew_by_order Cancel note s = by_any (ordered Cancel note) s s (grew_not s)
 grew_by : (currency : ℕ) (one : Kept) (happened : List Happening) (s : TillState) → Happens currency one happened → GrewBy one s (fold step s happened)
 grew_by currency (ordered order note) happened s is =
     subst (λ t. GrewBy (ordered order note) s t) (sym (ap (fold step s) is ∙ step-order currency s order)) (grew_by_order order note s)
+grew_by currency (asked note) happened s is = subst (λ l. GrewBy (asked note) s (fold step s l)) (sym is) (by_any (asked note) s s (grew_not s))
 grew_by currency (heard bytes) happened s is =
     subst (λ l. GrewBy (heard bytes) s (fold step s l)) (sym is.2) (by_any (heard bytes) s (heard_step s (heard_as is.0)) (grew_by_message s (HeardIn (heard_as is.0)) s.line_up))
 grew_by currency lost happened s is =
@@ -152,6 +153,7 @@ this_payment kept last (ordered (Pay amount) note) is = record { before = kept; 
 this_payment kept last (ordered (Reverse e) note) is = absurd cc
 this_payment kept last (ordered CloseDay note) is = absurd cc
 this_payment kept last (ordered Cancel note) is = absurd cc
+this_payment kept last (asked note) is = absurd cc
 this_payment kept last (heard message) is = absurd cc
 this_payment kept last lost is = absurd cc
 
@@ -161,6 +163,7 @@ same_note last (ordered (Pay amount) note) is = absurd cc
 same_note last (ordered (Reverse e) note) is = refl
 same_note last (ordered CloseDay note) is = refl
 same_note last (ordered Cancel note) is = refl
+same_note last (asked note) is = refl
 same_note last (heard message) is = refl
 same_note last lost is = refl
 

@@ -8,11 +8,12 @@ use Rattle.zvt_till.specs.declared.happenings.Happening.TheVariants.{Connected, 
 use Rattle.zvt_till.specs.Hearing.{heard_as}
 use Rattle.zvt_till.specs.Refusals.{sent_as}
 use Rattle.zvt_till.specs.Sending.{Settings}
-use Rattle.zvt_kept.specs.Records.{Kept, ordered, heard, lost, kept_in, opening}
+use Rattle.zvt_kept.specs.Records.{Kept, ordered, asked, heard, lost, kept_in, opening}
 
--- The events of one record. After a lost line, a new one is up.
+-- The events of one record. After a lost line, a new one is up. An ask is no event of the log.
 abbrev pub Happens : (currency : ℕ) → Kept → List Happening → Type 0
 Happens currency (ordered order note) happened = happened ≡ SentOut (sent_as currency order) ∷ []
+Happens currency (asked note) happened = happened ≡ []
 Happens currency (heard bytes) happened = (message : Message) × ∥ Spells padded message bytes ∥₁ × (happened ≡ HeardIn (heard_as message) ∷ [])
 Happens currency lost happened = happened ≡ Lost ∷ Connected ∷ []
 

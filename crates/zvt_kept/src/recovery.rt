@@ -121,6 +121,7 @@ fn relive(alloc: Global, till: &mut Till, entry: &Entry) -> Result<bool, AllocEr
 {
     match entry {
         Entry::Order { order, .. } => relive_order(till, order),
+        Entry::Ask(_) => Ok(true),
         Entry::Heard(message) => relive_message(alloc, till, message),
         Entry::Lost => {
             let _ = till.lost();
