@@ -73,7 +73,7 @@ rests b is = let none = by-rest b.till.running b.settling.asking is in record { 
 -- ---- whoever asks
 
 module _ {K : Type 0} {asked : K → Result (List ℕ) Untaken → K → Type 0} {hears : K → Message → Answered → K → Type 0} {loses malforms : K → K → Type 0} {is_resting : K → Bool}
-    {till : K → TillValue} {settling : K → Settling} {failed : K → Bool} (follows : IsAsker asked hears loses malforms is_resting till settling failed) where
+    {till : K → TillValue} {settling : K → Settling} {failed : K → Bool} (is_asker : IsAsker asked hears loses malforms is_resting till settling failed) where
   abbrev both : K → Both
   both k = both_as (till k) (settling k)
 
@@ -88,16 +88,16 @@ module _ {K : Type 0} {asked : K → Result (List ℕ) Untaken → K → Type 0}
       (λ heard. λ is. subst IsSilent (sym heard.0) (heard-silent (both old) (heard_as m) (stays (sym heard.1 ∙ is))))
       (λ lost. λ is. subst IsSilent (sym lost) (lost-silent (both old)))
       more)
-      (follows.hears_as old m a new h)
+      (is_asker.hears_as old m a new h)
 
   pub hearings-stay : (old new : K) (messages : List Message) (answers : List Answered) → Hears hears old messages answers new → Stays old → Stays new
   hearings-stay old new messages answers h stays = by-hearings hears Stays one-stays old new messages answers h stays
 
   loses-silent : (old new : K) → loses old new → IsSilent (both new)
-  loses-silent old new l = subst IsSilent (sym (follows.loses_as old new l)) (lost-silent (both old))
+  loses-silent old new l = subst IsSilent (sym (is_asker.loses_as old new l)) (lost-silent (both old))
 
   malforms-silent : (old new : K) → malforms old new → IsSilent (both new)
-  malforms-silent old new l = ⊎_elim (λ lost. subst IsSilent (sym lost) (lost-silent (both old))) (λ broke. subst IsSilent (sym broke) (malformed-silent (both old))) (follows.malforms_as old new l)
+  malforms-silent old new l = ⊎_elim (λ lost. subst IsSilent (sym lost) (lost-silent (both old))) (λ broke. subst IsSilent (sym broke) (malformed-silent (both old))) (is_asker.malforms_as old new l)
 
   pub reported-silent : (fault : LineFault) (old new : K) → Reported loses malforms fault old new → IsSilent (both new)
   reported-silent faults.Read old new r = loses-silent old new r
@@ -112,18 +112,18 @@ module _ {K : Type 0} {asked : K → Result (List ℕ) Untaken → K → Type 0}
   unsent-silent (OrderFault why) old new first last n = tt
   unsent-silent (BookBroke NoSpace) old new first last n = tt
   unsent-silent (BookBroke Failed) old new first last n =
-      let lost = (follows.fails old new n.0).0 in
+      let lost = (is_asker.fails old new n.0).0 in
       let begun : Both = record { till = (till old).state; settling = asks (settling old) } in
       let is : both new ≡ take begun (Line Lost) = ap₂ (λ (t : TillState) (s : Settling). record { till = t; settling = s }) lost.lost.0 lost.ended in
       subst IsSilent (sym is) (lost-silent begun)
   unsent-silent (LineBroke fault) old new first last n = loses-silent n.2 new n.4
 
   pub taken-stays : (old : K) (bytes : List ℕ) (new : K) → asked old (Ok bytes) new → Stays new
-  taken-stays old bytes new taken = λ is. absurd (never (failed new) is (follows.accepts old bytes new taken).1)
+  taken-stays old bytes new taken = λ is. absurd (never (failed new) is (is_asker.accepts old bytes new taken).1)
     where
       never : (b : Bool) → b ≡ true → b ≡ false → ⊥
       never true is isnt = absurd cc
       never false is isnt = absurd cc
 
   pub resting-rests : (k : K) → is_resting k ≡ true → Rests (both k)
-  resting-rests k is = rests (both k) (sym (follows.rests_as k) ∙ is)
+  resting-rests k is = rests (both k) (sym (is_asker.rests_as k) ∙ is)

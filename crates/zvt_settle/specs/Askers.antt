@@ -83,8 +83,8 @@ pub record IsAsker {K : Type 0} (asks : K → Result (List ℕ) Untaken → K �
   pub rests_as : (keeper : K) → is_resting keeper ≡ both_rest (both_as (till keeper) (settling keeper))
 
 -- a till that settles asks by itself
-pub settling_follows : IsAsker settling_asks settling_hears settling_loses settling_malforms settling_rests till_inside settling_of settling_failed
-settling_follows = record {
+pub settling_is_asker : IsAsker settling_asks settling_hears settling_loses settling_malforms settling_rests till_inside settling_of settling_failed
+settling_is_asker = record {
   accepts = λ old bytes new accepted. (accepted, refl);
   refuses = λ old why new refused. (refused.0, refused.1, refl);
   has_no_space = λ old new never. absurd never;

@@ -40,7 +40,7 @@ pub trait Asker: Machine {
         ensures { asks self.old result self.new };
 
     /// Whatever happens to the one that asks happens to its till, and to what it settles.
-    ghost follows: { IsAsker asks Self.hears Self.loses Self.malforms Self.is_resting till settling failed };
+    ghost is_asker: { IsAsker asks Self.hears Self.loses Self.malforms Self.is_resting till settling failed };
 
     /// Hearing a message never fails for lack of memory: a record that cannot be allocated makes the book fail.
     ghost frugal: { Self.wants_memory ≡ false };
@@ -49,7 +49,7 @@ pub trait Asker: Machine {
 /// A till alone has no book that could fail.
 impl Asker for SettlingTill {
     ghost use Rattle.std.specs.Prelude.{refl};
-    ghost use Rattle.zvt_settle.specs.Askers.{settling_asks, settling_failed, settling_follows};
+    ghost use Rattle.zvt_settle.specs.Askers.{settling_asks, settling_failed, settling_is_asker};
 
     ghost till = { till_inside };
 
@@ -59,7 +59,7 @@ impl Asker for SettlingTill {
 
     ghost asks = { settling_asks };
 
-    ghost follows = { settling_follows };
+    ghost is_asker = { settling_is_asker };
 
     ghost frugal = { refl };
 

@@ -18,13 +18,14 @@ impl SettlingTill {
     ghost use Rattle.zvt_till.specs.Sending.{reply_to};
     ghost use Rattle.zvt_till.specs.Till.{outcome_at};
     ghost use Rattle.zvt_settle.specs.Deciding.{decision};
-    ghost use Rattle.zvt_settle.specs.Inside.{both_of, settling_of, connects_inside, hears_inside};
+    ghost use Rattle.zvt_settle.specs.Inside.{both_of, settling_of, till_inside, connects_inside, hears_inside};
     ghost use Rattle.zvt_settle.specs.Settling.{Line, take, new_settling, used_traces, noted, ended_as};
     ghost use Rattle.zvt_settle.specs.Settling.{asked, unasked, meets, decided, answered};
 
     /// Creates a till with nothing to settle.
     pub fn new(alloc: Global, till: Till) -> SettlingTill
-        ensures { both_of result ≡ record { till = till.state; settling = new_settling } }
+        ensures both { both_of result ≡ record { till = till.state; settling = new_settling } }
+        ensures inside { till_inside result ≡ till }
     {
         SettlingTill {
             till,
@@ -62,6 +63,14 @@ impl SettlingTill {
         ensures { result ≡ is_some (settling_of self.now).pending }
     {
         self.pending.is_some()
+    }
+
+    /// Returns whether the status of the terminal's last transaction is known. Only then can an answer settle an order
+    /// that becomes unclear.
+    pub fn knows_last(&self) -> bool
+        ensures { result ≡ is_some (settling_of self.now).last }
+    {
+        self.last.is_some()
     }
 
     /// Returns whether an entry of the book, or a payment that was settled as paid, has this trace number.

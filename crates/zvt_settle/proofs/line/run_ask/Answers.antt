@@ -8,7 +8,7 @@ use Rattle.zvt_settle.proofs.line.run_ask.Goals as goal
 -- ---- the ask was not sent
 
 pub returns-in-Err-clause-over : goal.returns-in-Err-clause-over
-returns-in-Err-clause-over g c = unsent-silent g.met.K.Asker.follows c.in-Err.fault c.args.till.now c.send_ask.new.till _ _ c.in-Err.ensures.err
+returns-in-Err-clause-over g c = unsent-silent g.met.K.Asker.is_asker c.in-Err.fault c.args.till.now c.send_ask.new.till _ _ c.in-Err.ensures.err
 
 -- ---- the line broke
 
@@ -35,7 +35,7 @@ returns-in-Err-pump-clause-runs g c =
 pub returns-in-Err-pump-clause-over : goal.returns-in-Err-pump-clause-over
 returns-in-Err-pump-clause-over g c =
     let gave_up = c.in-Err-pump.ensures.pumps in
-    reported-silent g.met.K.Asker.follows c.in-Err-pump.fault gave_up.middle c.pump.new.machine gave_up.reported
+    reported-silent g.met.K.Asker.is_asker c.in-Err-pump.fault gave_up.middle c.pump.new.machine gave_up.reported
 
 pub returns-in-Err-pump-clause-reads : goal.returns-in-Err-pump-clause-reads
 returns-in-Err-pump-clause-reads g c = turns_read _ _ _ _ _ _ _ _ (Err c.in-Err-pump.fault) c.in-Err-pump.ensures.pumps.falls_short
@@ -51,11 +51,11 @@ returns-in-Err-pump-clause-writer_failures g c =
 
 pub returns-then-book_failed-clause-over : goal.returns-then-book_failed-clause-over
 returns-then-book_failed-clause-over g c =
-    let follows = g.met.K.Asker.follows in
+    let is_asker = g.met.K.Asker.is_asker in
     let sends = c.in_default.ensures.ok in
     let heard = (comes_there _ _ _ _ _ _ _ _ c.in_default-pump.ensures.pumps).1.course.heard in
-    hearings-stay follows c.send_ask.new.till c.pump.new.machine heard.messages heard.answers heard.heard
-    (taken-stays follows c.args.till.now sends.bytes c.send_ask.new.till sends.asked) (sym c.book_failed.ensures ∙ c.if-book_failed.true)
+    hearings-stay is_asker c.send_ask.new.till c.pump.new.machine heard.messages heard.answers heard.heard
+    (taken-stays is_asker c.args.till.now sends.bytes c.send_ask.new.till sends.asked) (sym c.book_failed.ensures ∙ c.if-book_failed.true)
 
 pub returns-then-book_failed-clause-reads : goal.returns-then-book_failed-clause-reads
 returns-then-book_failed-clause-reads g c = comes_read _ _ _ _ _ _ _ _ c.in_default-pump.ensures.pumps
@@ -69,7 +69,7 @@ returns-then-book_failed-clause-writer_failures g c = let none = comes_whole _ _
 -- ---- the line came to where nothing runs
 
 pub returns-clause-rests : goal.returns-clause-rests
-returns-clause-rests g c = resting-rests g.met.K.Asker.follows c.pump.new.machine (comes_there _ _ _ _ _ _ _ _ c.in_default-pump.ensures.pumps).2
+returns-clause-rests g c = resting-rests g.met.K.Asker.is_asker c.pump.new.machine (comes_there _ _ _ _ _ _ _ _ c.in_default-pump.ensures.pumps).2
 
 pub returns-clause-reads : goal.returns-clause-reads
 returns-clause-reads g c = comes_read _ _ _ _ _ _ _ _ c.in_default-pump.ensures.pumps
