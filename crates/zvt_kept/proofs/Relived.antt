@@ -97,7 +97,7 @@ if_up false x y is = absurd cc
 pub heard_up : (s : TillState) (message : Message) → s.line_up ≡ true → (step s (hears message)).line_up ≡ true
 heard_up s message up = ap (λ t. t.line_up) (if_up s.line_up (meet s (hears message)) s up) ∙ running_line s s.running (hears message) refl ∙ up
 
-whole_spells : (message : Message) (size : ℕ) (bytes : List ℕ) → size ≡ length bytes → Found padded bytes message size → Spells padded message bytes
+pub whole_spells : (message : Message) (size : ℕ) (bytes : List ℕ) → size ≡ length bytes → Found padded bytes message size → Spells padded message bytes
 whole_spells message size bytes is found = subst (Spells padded message) (take_all size bytes (omega (arith, is))) found.spelled
 
 pub message_heard : (message : Message) (size : ℕ) (bytes : List ℕ) (answer : Scan (Message × ℕ)) (old new : TillState) → Answers padded bytes answer → answer ≡ Whole (message, size) → size ≡ length bytes

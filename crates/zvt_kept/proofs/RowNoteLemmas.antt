@@ -30,9 +30,10 @@ use Rattle.zvt_kept.specs.Logs.{Happens}
 use Rattle.zvt_kept.specs.Reading.{kept_of}
 use Rattle.zvt_kept.specs.Recovery.{Relives}
 use Rattle.zvt_kept.specs.RowNotes.{AreNoted, HasNotes, IsLastPayment, IsNoteOf, LivedThrough, booked_rows, grown, is_payment, payment_note, unclear_rows}
-use Rattle.zvt_kept.proofs.Recovering.{SoFar, taken}
+use Rattle.zvt_kept.proofs.Recovering.{SoFar}
+use Rattle.zvt_kept.proofs.Replayed.{taken}
 use Rattle.zvt_kept.proofs.Relived.{line_lost}
-use Rattle.zvt_kept.proofs.Logged.{happen_more}
+use Rattle.zvt_kept.proofs.AskLemmas.{each_more}
 
 -- ---- what a step does to the rows of a till
 
@@ -296,7 +297,7 @@ noted_by : (settings : Settings) (kept : List Kept) (one : Kept) (old new : Till
 noted_by settings kept one old new last booked unclear lives up n =
     let so_far = n.lived.happened in
     let next = lives settings (Connected ∷ so_far) n.lived.stands up in
-    let lived : LivedThrough settings (kept ++ one ∷ []) new = record { happened = so_far ++ next.0; happens = happen_more settings.currency kept one so_far next.0 n.lived.happens next.1; stands = next.2 } in
+    let lived : LivedThrough settings (kept ++ one ∷ []) new = record { happened = so_far ++ next.0; happens = each_more (Happens settings.currency) kept one so_far next.0 n.lived.happens next.1; stands = next.2 } in
     noted_more settings kept one next.0 old new last booked unclear next.1 (went settings (Connected ∷ so_far) next.0 old new n.lived.stands.1 next.2.1) lived n
 
 -- one entry more, whose note was held, and whose rows were followed
