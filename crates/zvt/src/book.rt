@@ -15,6 +15,7 @@ use zvt_io::Over;
 use zvt_journal::{FileDevice, FileFailure, JournalFileError, Opened, open_file, read_book};
 use zvt_kept::{KeptTill, Recovered, RecoveryError, recover};
 use zvt_runs::{EndFault, write_book, write_records};
+use zvt_settle::SettlingTill;
 use zvt_text::Form;
 use zvt_till::{Rules, Till, TillSettings};
 use zvt_tool::statuses::{DONE, MEMORY, WORDS, of_device, of_file_error, of_recovery};
@@ -212,6 +213,7 @@ fn recovered_from(rt: &HostRuntime, text: &[u8]) -> Result<Recovered, RecoveryEr
     if text.is_empty() {
         return Ok(Recovered {
             till: Till::with_defaults(rt.alloc()),
+            settling: SettlingTill::new(rt.alloc(), Till::with_defaults(rt.alloc())),
             booked: Vec::new(rt.alloc()),
             unclear: Vec::new(rt.alloc()),
         });

@@ -48,7 +48,7 @@ small_sha256 : (text : List ℕ) → All IsSmall (sha256 text)
 unfolding sha256
 small_sha256 text = small_digest (final_hash initial_hash_256 text) 8
 
-bytes_if : (xs : List ℕ) → All IsSmall xs → IsBytes xs
+pub bytes_if : (xs : List ℕ) → All IsSmall xs → IsBytes xs
 bytes_if [] all i = omega arith
 bytes_if (x ∷ xs) all zero = All-head IsSmall x xs all
 bytes_if (x ∷ xs) all (suc i) = bytes_if xs (All-tail IsSmall x xs all) i

@@ -1,3 +1,4 @@
+mod AskLemmas
 mod Begun
 mod Bytes
 pub mod CallsOutlived
@@ -17,6 +18,7 @@ mod ReadLines
 pub mod Recovering
 pub mod Relived
 mod Remarked
+mod Replayed
 mod RowNoteLemmas
 mod Rows
 pub mod RunsOutlived

@@ -1,8 +1,17 @@
 -- What a till and its journal keep, one record further.
 use Rattle.std.proofs.Common.{◌≡◌, ⊎_elim, inl, inr, ℕ, Bool, true, false, List, [], ◌∷◌, ◌++◌, Option, Some, None, refl, sym, ap, subst, ◌∙◌, append_assoc, arith}
+use Rattle.std.specs.Prelude.{fold}
+use Rattle.std.proofs.lemmas.Option.{same_Some}
 use Rattle.std.proofs.lemmas.List.{append-nil, take_all}
+use Rattle.std.proofs.lemmas.List.Sums.{fold-append}
+use Rattle.zvt_grammar.specs.Reading.{padded}
+use Rattle.zvt_apdu.specs.Message.{Message}
+use Rattle.zvt_apdu.specs.Grammar.{Spells}
 use Rattle.zvt_till.specs.declared.happenings.Happening.{Happening}
-use Rattle.zvt_till.specs.declared.happenings.Happening.TheVariants.{Connected, Lost}
+use Rattle.zvt_till.specs.declared.happenings.Happening.TheVariants.{Connected, Sent as SentOut, Lost}
+use Rattle.zvt_till.specs.declared.orders.Order.{Order}
+use Rattle.zvt_till.specs.Events.{hears}
+use Rattle.zvt_till.specs.Refusals.{sent_as}
 use Rattle.zvt_till.specs.declared.statuses.Running.{Running}
 use Rattle.zvt_till.specs.Log.{CanFollow, facts_in, line_after, line_up}
 use Rattle.zvt_till.specs.Sending.{Settings}
@@ -15,39 +24,80 @@ use Rattle.zvt_till.proofs.TillHistoryLemmas.{stands-more}
 use Rattle.zvt_journal.specs.Text.{recovered, whole, IsWithOrWithout}
 use Rattle.zvt_journal.specs.Device.{LeavesOnly}
 use Rattle.zvt_journal.proofs.Lines.{recovered_whole}
-use Rattle.zvt_kept.specs.Records.{Kept, IsRecordOf, RecordsAreKept}
-use Rattle.zvt_kept.specs.Logs.{Happens, HappenAll, StandsFor, opening_of}
-use Rattle.zvt_kept.specs.KeptTill.{IsKept, Keeps, KeepsSome, LeavesLogs, Outlives, Standing, unless_up}
+use Rattle.zvt_settle.specs.Settling.{Note, Line, both_after, new_both, take}
+use Rattle.zvt_kept.specs.Records.{Kept, ordered, heard, lost, IsRecordOf, RecordsAreKept, kept_in}
+use Rattle.zvt_kept.specs.Logs.{CanTakeAll, Happens, IsIdle, MeanAll, Means, StandsFor, on_line, opening_of}
+use Rattle.zvt_kept.proofs.AskLemmas.{asks_more, each_last, each_more, line_idle, lost_idle, means_line}
+use Rattle.zvt_kept.specs.KeptTill.{HasLog, IsKept, Keeps, KeepsSome, LeavesLogs, Outlives, Standing, unless_up}
 
 -- ---- records
 
-pub happen_more : (currency : ℕ) (kept : List Kept) (one : Kept) (log happened : List Happening) → HappenAll currency kept log → Happens currency one happened → HappenAll currency (kept ++ one ∷ []) (log ++ happened)
-happen_more currency [] one log happened none h = (happened, [], h, refl, ap (λ l. l ++ happened) none ∙ sym (append-nil happened))
-happen_more currency (first ∷ kept) one log happened all h =
-    (all.0, all.1 ++ happened, all.2, happen_more currency kept one all.1 happened all.3 h, ap (λ l. l ++ happened) all.4 ∙ append_assoc all.0 all.1 happened)
+-- a till can have this record after those of a text
+abbrev pub CanRecord : (settings : Settings) (text : List ℕ) (log : List Happening) → Kept → StandsFor settings text log → Type 0
+CanRecord settings text log one s = (notes : List Note) × Means settings.currency one notes × CanTakeAll (both_after settings (Line Connected ∷ s.asks.notes)) notes
+
+pub order_can : (settings : Settings) (log : List Happening) (seen : List ℕ) (may_leave : List ℕ → Type 0) (gate : ℕ) (state : TillState) (order : Order) (note : List ℕ) → state.line_up ≡ true
+    → (k : Keeps settings log seen may_leave gate state) → CanRecord settings (recovered seen) log (ordered order note) k.recorded
+order_can settings log seen may_leave gate state order note up k =
+    let out = SentOut (sent_as settings.currency order) in
+    let s = k.recorded in
+    (on_line (out ∷ []), (out ∷ [], refl, refl), (k.idle up s.kept s.asks.notes s.read s.asks.means, tt))
+
+pub heard_can : (settings : Settings) (text : List ℕ) (log : List Happening) (message : Message) (bytes : List ℕ) → ∥ Spells padded message bytes ∥₁ → (s : StandsFor settings text log) → CanRecord settings text log (heard bytes) s
+heard_can settings text log message bytes spelled s = (on_line (hears message ∷ []), (hears message ∷ [], (message, spelled, refl), refl), (tt, tt))
+
+pub lost_can : (settings : Settings) (text : List ℕ) (log : List Happening) (s : StandsFor settings text log) → CanRecord settings text log lost s
+lost_can settings text log s = (on_line (Lost ∷ Connected ∷ []), (Lost ∷ Connected ∷ [], refl, refl), (tt, (tt, tt)))
 
 pub whole_text : (file : List ℕ) → recovered (recovered file) ≡ recovered file
 whole_text file = take_all (whole 0 (recovered file)) (recovered file) (omega (arith, recovered_whole file))
 
 module _ (records_are_kept : RecordsAreKept) where
   pub stands_more : (settings : Settings) (file : List ℕ) (log : List Happening) (one : Kept) (added : List ℕ) (happened : List Happening)
-      → StandsFor settings (recovered file) log → IsRecordOf one added → Happens settings.currency one happened → StandsFor settings (recovered file ++ added) (log ++ happened)
-  stands_more settings file log one added happened s is h = record {
+      → (s : StandsFor settings (recovered file) log) → IsRecordOf one added → Happens settings.currency one happened → CanRecord settings (recovered file) log one s → StandsFor settings (recovered file ++ added) (log ++ happened)
+  stands_more settings file log one added happened s is h can = record {
     opened = (s.opened.0 ++ added, ap (λ text. text ++ added) s.opened.1 ∙ append_assoc (opening_of settings) s.opened.0 added);
     kept = s.kept ++ one ∷ [];
     happened = s.happened ++ happened;
     read = records_are_kept (recovered file) s.kept one added (whole_text file) s.read is;
-    happens = happen_more settings.currency s.kept one s.happened happened s.happens h;
+    happens = each_more (Happens settings.currency) s.kept one s.happened happened s.happens h;
     begins = ap (λ l. l ++ happened) s.begins;
+    asks = asks_more settings s.kept one s.asks can.0 can.1 can.2;
   }
+
+  -- ---- whether an ask runs
+
+  idle_more : (settings : Settings) (file : List ℕ) (kept : List Kept) (one : Kept) (added : List ℕ) → kept_in (recovered file) ≡ Some kept → IsRecordOf one added
+      → ((notes more : List Note) → MeanAll settings.currency kept notes → Means settings.currency one more → (fold take (both_after settings (Line Connected ∷ notes)) more).settling.asking ≡ None)
+      → IsIdle settings (recovered file ++ added)
+  idle_more settings file kept one added read is still all notes told means =
+      let same : all ≡ kept ++ one ∷ [] = same_Some all (kept ++ one ∷ []) (sym told ∙ records_are_kept (recovered file) kept one added (whole_text file) read is) in
+      let cut = each_last (Means settings.currency) kept one notes (subst (λ k. MeanAll settings.currency k notes) same means) in
+      ap (λ l. (both_after settings (Line Connected ∷ l)).settling.asking) cut.4 ∙ ap (λ b. b.settling.asking) (fold-append take (new_both settings) (Line Connected ∷ cut.0) cut.1) ∙ still cut.0 cut.1 cut.2 cut.3
+
+  -- an event begins none
+  pub idle_on : (settings : Settings) (file : List ℕ) (kept : List Kept) (one : Kept) (added : List ℕ) (h : Happening) → kept_in (recovered file) ≡ Some kept → IsRecordOf one added → Happens settings.currency one (h ∷ [])
+      → IsIdle settings (recovered file) → IsIdle settings (recovered file ++ added)
+  idle_on settings file kept one added h read is happens idle =
+      idle_more settings file kept one added read is (λ notes more means m.
+      let b = both_after settings (Line Connected ∷ notes) in
+      ap (λ l. (fold take b l).settling.asking) (means_line settings.currency one h [] more happens m) ∙ line_idle b h (idle kept notes read means))
+
+  -- a lost line ends the one that runs
+  pub idle_lost : (settings : Settings) (file : List ℕ) (kept : List Kept) (one : Kept) (added : List ℕ) → kept_in (recovered file) ≡ Some kept → IsRecordOf one added → Happens settings.currency one (Lost ∷ Connected ∷ [])
+      → IsIdle settings (recovered file ++ added)
+  idle_lost settings file kept one added read is happens =
+      idle_more settings file kept one added read is (λ notes more means m.
+      let b = both_after settings (Line Connected ∷ notes) in
+      ap (λ l. (fold take b l).settling.asking) (means_line settings.currency one Lost (Connected ∷ []) more happens m) ∙ lost_idle b)
 
   -- with the record or without it
   pub leaves_logs : (settings : Settings) (file : List ℕ) (log : List Happening) (one : Kept) (added : List ℕ) (happened : List Happening)
-      → StandsFor settings (recovered file) log → IsRecordOf one added → Happens settings.currency one happened
+      → (s : StandsFor settings (recovered file) log) → IsRecordOf one added → Happens settings.currency one happened → CanRecord settings (recovered file) log one s
       → (left : List ℕ) → IsWithOrWithout (recovered file) added left → LeavesLogs settings log happened left
-  leaves_logs settings file log one added happened s is h left with_or_without = ⊎_elim
+  leaves_logs settings file log one added happened s is h can left with_or_without = ⊎_elim
       (λ without. inl (subst (λ text. StandsFor settings text log) (sym without) s))
-      (λ with_it. inr (subst (λ text. StandsFor settings text (log ++ happened)) (sym with_it) (stands_more settings file log one added happened s is h)))
+      (λ with_it. inr (subst (λ text. StandsFor settings text (log ++ happened)) (sym with_it) (stands_more settings file log one added happened s is h can)))
       with_or_without
 
   -- ---- a crash at any moment
@@ -62,11 +112,12 @@ module _ (records_are_kept : RecordsAreKept) where
 
     pub outlives : (old new : Standing D) (one : Kept) (added : List ℕ) (happened : Settings → List Happening)
         → IsRecordOf one added → ((settings : Settings) → Happens settings.currency one (happened settings))
+        → ((settings : Settings) (log : List Happening) (has : HasLog seen may_leave moment left_since faults settings log old) → CanRecord settings (recovered (seen old.device)) log one has.recorded)
         → LeavesOnly moment left_since old.device new.device (IsWithOrWithout (recovered (seen old.device)) added)
         → Outlives seen may_leave moment left_since faults happened old new
-    outlives old new one added happened is h leaves settings log has =
+    outlives old new one added happened is h can leaves settings log has =
         weaker old.device new.device (IsWithOrWithout (recovered (seen old.device)) added) (LeavesLogs settings log (happened settings)) leaves
-        (λ file. leaves_logs settings (seen old.device) log one added (happened settings) has.recorded is (h settings) file)
+        (λ file. leaves_logs settings (seen old.device) log one added (happened settings) has.recorded is (h settings) (can settings log has) file)
 
 -- ---- the till
 
@@ -116,7 +167,7 @@ lost_stands settings log state false t =
 
 pub keeps_lost : (settings : Settings) (log : List Happening) (seen : List ℕ) (may_leave : List ℕ → Type 0) (gate : ℕ) (state : TillState)
     → Keeps settings log seen may_leave gate state → Keeps settings log seen may_leave gate (step state Lost)
-keeps_lost settings log seen may_leave gate state k = record { settled = k.settled; recorded = k.recorded; stands = lost_stands settings log state state.line_up k.stands }
+keeps_lost settings log seen may_leave gate state k = record { settled = k.settled; recorded = k.recorded; stands = lost_stands settings log state state.line_up k.stands; idle = λ up. let down : false ≡ true = up in absurd cc }
 
 pub connected_stands : (settings : Settings) (log : List Happening) (state next : TillState) → state.line_up ≡ false → next ≡ step state Connected
     → Stands settings (log ++ unless_up state.line_up) state → Stands settings ((log ++ Lost ∷ Connected ∷ []) ++ unless_up next.line_up) next

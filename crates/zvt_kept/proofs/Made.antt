@@ -1,8 +1,10 @@
 -- The lines of records, and what they mean.
-use Rattle.std.proofs.Common.{◌≡◌, ℕ, Bool, ◌<◌, ◌≤◌, List, [], ◌∷◌, ◌++◌, All, length, drop, true, false, map, Option, Some, option_map, refl, ap, sym, ◌∙◌, subst, arith, append_assoc, length-append}
+use Rattle.std.proofs.Common.{◌≡◌, ℕ, Bool, ◌<◌, ◌≤◌, List, [], ◌∷◌, ◌++◌, All, length, drop, true, false, map, nat_lt, Option, Some, option_map, refl, ap, sym, ◌∙◌, subst, arith, append_assoc, length-append}
 use Rattle.std.specs.Prelude.{codes, decimal}
 use Rattle.std.proofs.lemmas.List.{append-nil}
 use Rattle.std.proofs.lemmas.List.Elements.{All-append, All-nil, All-cons, All-head, All-tail, All-weaker}
+use Rattle.std.proofs.lemmas.List.Sums.{AllPass-from_list_all}
+use borrow.Author.Tests.{ltb-true}
 use Rattle.std.specs.Str.{bytes_eq}
 use Rattle.std.specs.Str.Lines.{lines, strip_carriage_return}
 use Rattle.hex.specs.Hex.{IsBytes, encode_upper}
@@ -10,17 +12,19 @@ use Rattle.zvt_till.specs.declared.orders.Order.{Order}
 use Rattle.zvt_journal.specs.Text.{begins_marked, IsLine, IsRecord, recovered, text_of, whole}
 use Rattle.zvt_journal.proofs.Lines.{itself_whole, recovered_then, recovered_whole}
 use Rattle.zvt_journal.proofs.Meaning.{lines_are_recovered, record_if, recovered_is_lines}
+use Rattle.zvt_kept.specs.Masking.{masked_ask}
 use Rattle.zvt_kept.specs.Notes.{is_note}
 use Rattle.zvt_journal.specs.Files.{rule_words}
-use Rattle.zvt_kept.specs.Records.{Kept, ordered, heard, lost, IsPiece, IsOrderRecord, IsHeardRecord, IsRecordOf, IsSpelledOrder, OpeningIsTaken, RecordsAreKept, RecordsAreTaken, RecordsAreWhole, is_remark, kept_in, last_of, lost_record, meaning, meaning_behind, meanings, one_or_none, opening, noted_words, ordered_by, sent_lines, then_kept}
+use Rattle.zvt_kept.specs.Records.{Kept, ordered, asked, heard, lost, IsPiece, IsOrderRecord, IsHeardRecord, IsRecordOf, IsSpelledOrder, OpeningIsTaken, RecordsAreKept, RecordsAreTaken, RecordsAreWhole, ask_record, is_remark, kept_in, last_of, lost_record, meaning, meaning_behind, meanings, one_or_none, opening, named_by, noted_words, sent_lines, then_kept}
 use Rattle.zvt_kept.proofs.Bytes.{encode_plain, piece_back}
+use Rattle.zvt_kept.proofs.NoteLemmas.{note_plain}
 use Rattle.zvt_kept.proofs.LineLemmas.{IsPlain, lines_append, lines_plain, plain_line}
 use Rattle.zvt_kept.proofs.Numbers.{decimal_plain}
 use Rattle.zvt_kept.specs.Checks.{are_right, check_of, check_sign, checked, is_right, last_record, right_after, then_line, is_sent}
-use Rattle.zvt_kept.proofs.CheckLemmas.{and_true, check_plain, right_append, same_bytes, texts_append}
+use Rattle.zvt_kept.proofs.CheckLemmas.{and_true, bytes_if, check_plain, right_append, same_bytes, texts_append}
 use Rattle.zvt_kept.proofs.OpeningLemmas.{opens}
 use Rattle.zvt_kept.proofs.ReadLines.{kept_right, meanings_append, right_kept}
-use Rattle.zvt_kept.proofs.WordLemmas.{both_plain, order_back, order_reserved, word_plain, words_plain}
+use Rattle.zvt_kept.proofs.WordLemmas.{ask_back, ask_reserved, both_plain, order_back, order_reserved, word_plain, words_plain}
 
 -- a text is plain lines, and means this
 record IsMade (kept : List Kept) (text : List ℕ) : Type 0 where
@@ -44,6 +48,9 @@ heard_body bytes = codes "< " ++ encode_upper bytes
 
 abbrev order_body : Order → (note : List ℕ) → List ℕ
 order_body order note = codes "# " ++ noted_words order note
+
+abbrev ask_body : (note : List ℕ) → List ℕ
+ask_body note = codes "# ask" ++ note
 
 sent_text : (pieces : List (List ℕ)) → sent_lines pieces ≡ text_of (map sent_body pieces)
 sent_text [] = refl
@@ -133,7 +140,7 @@ order_plainly : (order : Order) (note : List ℕ) → is_note note ≡ true → 
 order_plainly order note noted = rw (order_reserved order note noted) refl
 
 order_means : (order : Order) (note : List ℕ) → IsSpelledOrder order → is_note note ≡ true → meaning (order_body order note) ≡ Some (ordered order note ∷ [])
-order_means order note spelled noted = rw (order_reserved order note noted) (ap (λ (o : Option Kept). ordered_by o (noted_words order note)) (order_back order note spelled noted))
+order_means order note spelled noted = rw (order_reserved order note noted) (ap (λ (o : Option Kept). named_by o (noted_words order note)) (order_back order note spelled noted))
 
 made_order : (order : Order) (note text : List ℕ) → IsOrderRecord order note text → IsMade (ordered order note ∷ []) text
 made_order order note text is =
@@ -142,6 +149,23 @@ made_order order note text is =
     made_checked (ordered order note ∷ []) (order_body order note) (one_or_none is.sent) text line pieces
     refl (order_plainly order note is.noted) (order_means order note is.spelled is.noted) (λ before. refl) (λ before. refl)
     (is.is ∙ ap checked (first_text (order_body order note) (one_or_none is.sent))) refl
+
+-- nor is the line of an ask
+ask_plainly : (note : List ℕ) → is_note note ≡ true → is_remark (ask_body note) ≡ false
+ask_plainly note noted = rw (ask_reserved note noted) refl
+
+ask_means : (note : List ℕ) → is_note note ≡ true → meaning (ask_body note) ≡ Some (asked note ∷ [])
+ask_means note noted = rw (ask_reserved note noted) (ap (λ (o : Option Kept). named_by o (codes "ask" ++ note)) (ask_back note noted))
+
+ask_piece : All IsPiece (masked_ask ∷ [])
+ask_piece = one_piece masked_ask (bytes_if masked_ask (All-weaker (λ b. nat_lt b 256 ≡ true) (λ b. b < 256) (λ b is. ltb-true b 256 is) masked_ask (AllPass-from_list_all (λ b. nat_lt b 256) masked_ask refl)))
+
+made_ask : (note text : List ℕ) → is_note note ≡ true → text ≡ ask_record note → IsMade (asked note ∷ []) text
+made_ask note text noted is =
+    let line : IsPlain (ask_body note) = record { some = omega arith; plain = both_plain (codes "# ask") note (word_plain (codes "# ask") refl) (note_plain note noted) } in
+    made_checked (asked note ∷ []) (ask_body note) (masked_ask ∷ []) text line ask_piece
+    refl (ask_plainly note noted) (ask_means note noted) (λ before. refl) (λ before. refl)
+    (is ∙ ap checked (first_text (ask_body note) (masked_ask ∷ []))) refl
 
 made_heard : (message text : List ℕ) → IsHeardRecord message text → IsMade (heard message ∷ []) text
 made_heard message text is =
@@ -156,6 +180,7 @@ made_lost text is =
 
 made : (one : Kept) (text : List ℕ) → IsRecordOf one text → IsMade (one ∷ []) text
 made (ordered order note) text is = made_order order note text is
+made (asked note) text is = made_ask note text is.0 is.1
 made (heard message) text is = made_heard message text is
 made lost text is = made_lost text is
 

@@ -3,20 +3,19 @@ use Rattle.std.proofs.Common.{◌≡◌, ℕ, ◌+◌, ◌<◌, Bool, true, fals
 use Rattle.std.proofs.lemmas.Option.{same_Some}
 use Rattle.std.proofs.lemmas.List.{append-nil, length-map, length-take-le, map-append, take-append-drop, take_all}
 use Rattle.std.proofs.Math.Seq.{take-suc}
-use Rattle.zvt_apdu.proofs.ViewLemmas.{same_message}
 use Rattle.zvt_till.specs.declared.happenings.Happening.{Happening}
-use Rattle.zvt_till.specs.declared.happenings.Happening.TheVariants.{Connected, Heard as HeardIn, Lost}
-use Rattle.zvt_till.specs.Hearing.{heard_as}
+use Rattle.zvt_till.specs.declared.happenings.Happening.TheVariants.{Connected, Lost}
 use Rattle.zvt_till.specs.Log.{IsLog}
 use Rattle.zvt_till.specs.Sending.{Settings}
 use Rattle.zvt_till.specs.Till.{TillState, new_till, state_after, step}
 use Rattle.zvt_till.specs.TillHistory.{Stands}
 use Rattle.zvt_till.proofs.TillHistoryLemmas.{stands-more}
 use Rattle.zvt_kept.specs.declared.records.Entry.{Entry}
-use Rattle.zvt_kept.specs.Records.{Kept, ordered, heard, lost, kept_in}
-use Rattle.zvt_kept.specs.Logs.{Happens, HappenAll, HasOpening, LogsAreOne, StandsFor}
+use Rattle.zvt_kept.specs.Records.{Kept, kept_in}
+use Rattle.zvt_settle.specs.Settling.{Line, Both, both_after, new_both}
+use Rattle.zvt_kept.specs.Logs.{CanAsk, CanTakeAll, Happens, HappenAll, HasOpening, LogsAreOne, Means, StandsFor}
 use Rattle.zvt_kept.specs.Reading.{kept_of}
-use Rattle.zvt_kept.specs.Recovery.{IsFirstForeign, IsRecovered, Recovers, Relives}
+use Rattle.zvt_kept.specs.Recovery.{IsFirstForeign, IsRecovered, Recovers, Relives, Replays}
 use Rattle.zvt_journal.specs.Text.{recovered, IsSettled}
 use Rattle.zvt_till.proofs.Segments.{fold-snoc}
 use Rattle.zvt_kept.specs.KeptTill.{Keeps, unless_up}
@@ -24,22 +23,12 @@ use Rattle.zvt_kept.specs.Outliving.{IsLostTill, LogsAreRecovered, TillsAreRecov
 use Rattle.zvt_kept.specs.declared.recovery.RecoveryError.TheVariants.{Opening, Check, Line, Record, Memory}
 use Rattle.zvt_till.specs.View.{TillValue}
 use Rattle.zvt_kept.specs.declared.recovery.RecoveryError.{RecoveryError}
-use Rattle.zvt_kept.proofs.Logged.{happen_more, lost_stands}
+use Rattle.zvt_kept.proofs.AskLemmas.{all_lines, asks_before, each_first, each_last, each_more, each_once, happens_once, means_once, takes_then, till_of_notes}
+use Rattle.zvt_kept.proofs.Logged.{lost_stands}
+use Rattle.zvt_kept.proofs.Replayed.{AskedSoFar, taken}
 use Rattle.zvt_kept.proofs.Relived.{prefix_from}
 
 -- ---- what happened by records is one log
-
-once : (currency : ℕ) (one : Kept) (a b : List Happening) → Happens currency one a → Happens currency one b → a ≡ b
-once currency (ordered order note) a b p q = p ∙ sym q
-once currency (heard bytes) a b p q =
-    let same = same_message p.0 bytes p.1 (q.0, q.1) in
-    p.2 ∙ ap (λ m. HeardIn (heard_as m) ∷ []) (sym same) ∙ sym q.2
-once currency lost a b p q = p ∙ sym q
-
-all_once : (currency : ℕ) (kept : List Kept) (a b : List Happening) → HappenAll currency kept a → HappenAll currency kept b → a ≡ b
-all_once currency [] a b p q = p ∙ sym q
-all_once currency (one ∷ kept) a b p q =
-    p.4 ∙ ap (λ l. l ++ p.1) (once currency one p.0 q.0 p.2 q.2) ∙ ap (λ l. q.0 ++ l) (all_once currency kept p.1 q.1 p.3 q.3) ∙ sym q.4
 
 same_kept : (a b : List Kept) → Some a ≡ Some b → a ≡ b
 same_kept a b is = same_Some a b is
@@ -50,14 +39,7 @@ none_is_some kept is = absurd cc
 pub logs_are_one : LogsAreOne
 logs_are_one settings text a b p q =
     let kept : p.kept ≡ q.kept = same_kept p.kept q.kept (sym p.read ∙ q.read) in
-    p.begins ∙ ap (λ l. Connected ∷ l) (all_once settings.currency q.kept p.happened q.happened (subst (λ k. HappenAll settings.currency k p.happened) kept p.happens) q.happens) ∙ sym q.begins
-
-split_last : (currency : ℕ) (kept : List Kept) (one : Kept) (log : List Happening) → HappenAll currency (kept ++ one ∷ []) log
-    → (before : List Happening) × (happened : List Happening) × HappenAll currency kept before × Happens currency one happened × (log ≡ before ++ happened)
-split_last currency [] one log all = ([], all.0, refl, all.2, all.4 ∙ ap (λ l. all.0 ++ l) all.3 ∙ append-nil all.0)
-split_last currency (first ∷ kept) one log all =
-    let more = split_last currency kept one all.1 all.3 in
-    (all.0 ++ more.0, more.1, (all.0, more.0, all.2, more.2, refl), more.3, all.4 ∙ ap (λ l. all.0 ++ l) more.4 ∙ sym (append_assoc all.0 more.0 more.1))
+    p.begins ∙ ap (λ l. Connected ∷ l) (each_once (Happens settings.currency) (happens_once settings.currency) q.kept p.happened q.happened (subst (λ k. HappenAll settings.currency k p.happened) kept p.happens) q.happens) ∙ sym q.begins
 
 -- ---- entries one after another
 
@@ -73,24 +55,20 @@ none_yet settings entries fresh state new is =
     let same : state ≡ step (new_till settings) Connected = is ∙ ap (λ s. step s Connected) new in
     record { happened = []; happens = refl; stands = ((tt, tt), same); up = ap (λ s. s.line_up) same }
 
-pub taken : (entries : List Entry) (i : ℕ) (entry : Entry) → i < length entries → entry ≡ get_or entries i entry → map kept_of (take (i + 1) entries) ≡ map kept_of (take i entries) ++ kept_of entry ∷ []
-taken entries i entry below is =
-    rw add-one (ap (map kept_of) (take-suc entries i entry below ∙ ap (λ y. take i entries ++ y ∷ []) (sym is)) ∙ map-append kept_of (take i entries) (entry ∷ []))
-
 pub one_more : (settings : Settings) (entries : List Entry) (i : ℕ) (entry : Entry) (old new : TillState) → i < length entries → entry ≡ get_or entries i entry
     → Relives true (kept_of entry) old new → SoFar settings entries i old → SoFar settings entries (i + 1) new
 one_more settings entries i entry old new below is lives s =
     let next = lives settings (Connected ∷ s.happened) s.stands s.up in
     record {
       happened = s.happened ++ next.0;
-      happens = subst (λ k. HappenAll settings.currency k (s.happened ++ next.0)) (sym (taken entries i entry below is)) (happen_more settings.currency (map kept_of (take i entries)) (kept_of entry) s.happened next.0 s.happens next.1);
+      happens = subst (λ k. HappenAll settings.currency k (s.happened ++ next.0)) (sym (taken entries i entry below is)) (each_more (Happens settings.currency) (map kept_of (take i entries)) (kept_of entry) s.happened next.0 s.happens next.1);
       stands = next.2;
       up = next.3;
     }
 
-pub foreign : (settings : Settings) (text : List ℕ) (entries : List Entry) (i : ℕ) (entry : Entry) (old new : TillState) → i < length entries → entry ≡ get_or entries i entry
-    → kept_in text ≡ Some (map kept_of entries) → Relives false (kept_of entry) old new → SoFar settings entries i old → IsFirstForeign settings text (i + 1)
-foreign settings text entries i entry old new below is read dies s =
+pub foreign : (settings : Settings) (text : List ℕ) (entries : List Entry) (i : ℕ) (entry : Entry) (old new : TillState) (both after : Both) → i < length entries → entry ≡ get_or entries i entry
+    → kept_in text ≡ Some (map kept_of entries) → Replays false (kept_of entry) old new both after → SoFar settings entries i old → AskedSoFar settings (map kept_of (take i entries)) both → IsFirstForeign settings text (i + 1)
+foreign settings text entries i entry old new both after below is read dies s a =
     let before = map kept_of (take i entries) in
     let cut : entries ≡ take i entries ++ entry ∷ drop (i + 1) entries =
     rw add-one (sym (take-append-drop i entries) ∙ ap (λ ys. take i entries ++ ys) (drop-cons entries i entry below ∙ ap (λ y. y ∷ drop (suc i) entries) (sym is))) in
@@ -100,37 +78,37 @@ foreign settings text entries i entry old new below is read dies s =
       after = map kept_of (drop (i + 1) entries);
       read = read ∙ ap (λ es. Some (map kept_of es)) cut ∙ ap Some (map-append kept_of (take i entries) (entry ∷ drop (i + 1) entries));
       number_is = omega (arith, length-map (take i entries) kept_of, length-take-le i entries (omega (arith, below)));
-      good = (s.happened, s.happens, s.stands.0);
+      good = (s.happened, s.happens, s.stands.0, a.asks);
       wrong = λ life.
-          let last = split_last settings.currency before (kept_of entry) life.0 life.1 in
-          let same : life.0 ≡ s.happened ++ last.1 = last.4 ∙ ap (λ l. l ++ last.1) (all_once settings.currency before last.0 s.happened last.2 s.happens) in
-          dies settings (Connected ∷ s.happened) last.1 s.stands last.3 (subst (λ l. IsLog settings (Connected ∷ l)) same life.2);
+          let last = each_last (Happens settings.currency) before (kept_of entry) life.0 life.1 in
+          let same : life.0 ≡ s.happened ++ last.1 = last.4 ∙ ap (λ l. l ++ last.1) (each_once (Happens settings.currency) (happens_once settings.currency) before last.0 s.happened last.2 s.happens) in
+          let noted = each_last (Means settings.currency) before (kept_of entry) life.3.notes life.3.means in
+          let alike : noted.0 ≡ a.asks.notes = each_once (Means settings.currency) (means_once settings.currency) before noted.0 a.asks.notes noted.2 a.asks.means in
+          let takes = takes_then (new_both settings) (Line Connected ∷ noted.0) noted.1 (subst (λ l. CanTakeAll (new_both settings) (Line Connected ∷ l)) noted.4 life.3.takes) in
+          let here : CanTakeAll both noted.1 = subst (λ b. CanTakeAll b noted.1) (ap (λ l. both_after settings (Line Connected ∷ l)) alike ∙ sym a.is) takes in
+          let inside : both.till ≡ old = ap (λ b. b.till) a.is ∙ till_of_notes settings a.asks.notes s.happened (all_lines settings.currency before a.asks.notes s.happened a.asks.means s.happens) ∙ sym s.stands.1 in
+          dies settings (Connected ∷ s.happened) last.1 noted.1 s.stands inside last.3 (subst (λ l. IsLog settings (Connected ∷ l)) same life.2) noted.3 here;
     }
 
 pub at_end : (settings : Settings) (text : List ℕ) (entries : List Entry) (old new : TillState) → HasOpening settings text → kept_in text ≡ Some (map kept_of entries)
-    → SoFar settings entries (length entries) old → new ≡ step old Lost → IsRecovered settings text new
-at_end settings text entries old new opened read s is =
+    → SoFar settings entries (length entries) old → CanAsk settings (map kept_of entries) → new ≡ step old Lost → IsRecovered settings text new
+at_end settings text entries old new opened read s asks is =
     let happens : HappenAll settings.currency (map kept_of entries) s.happened = subst (λ es. HappenAll settings.currency (map kept_of es) s.happened) (take_all (length entries) entries (omega arith)) s.happens in
     record {
       log = Connected ∷ s.happened;
-      recorded = record { opened = opened; kept = map kept_of entries; happened = s.happened; read = read; happens = happens; begins = refl };
+      recorded = record { opened = opened; kept = map kept_of entries; happened = s.happened; read = read; happens = happens; begins = refl; asks = asks };
       stands = subst (λ t. Stands settings ((Connected ∷ s.happened) ++ Lost ∷ []) t) (sym is) (stands-more settings (Connected ∷ s.happened) old Lost s.stands tt);
     }
 
 -- ---- what is recovered of a till's log
 
-split_first : (currency : ℕ) (a b : List Kept) (log : List Happening) → HappenAll currency (a ++ b) log → (x y : List Happening) × HappenAll currency a x × (log ≡ x ++ y)
-split_first currency [] b log all = ([], log, refl, refl)
-split_first currency (one ∷ a) b log all =
-    let more = split_first currency a b all.1 all.3 in
-    (all.0 ++ more.0, more.1, (all.0, more.0, all.2, more.2, refl), all.4 ∙ ap (λ l. all.0 ++ l) more.3 ∙ sym (append_assoc all.0 more.0 more.1))
-
 no_foreign : (settings : Settings) (text : List ℕ) (log : List Happening) (number : ℕ) → StandsFor settings text log → IsLog settings log → IsFirstForeign settings text number → ⊥
 no_foreign settings text log number s k f =
     let kept : s.kept ≡ (f.before ++ f.one ∷ []) ++ f.after = same_kept s.kept ((f.before ++ f.one ∷ []) ++ f.after) (sym s.read ∙ f.read ∙ ap Some (sym (append_assoc f.before (f.one ∷ []) f.after))) in
-    let cut = split_first settings.currency (f.before ++ f.one ∷ []) f.after s.happened (subst (λ ks. HappenAll settings.currency ks s.happened) kept s.happens) in
+    let cut = each_first (Happens settings.currency) (f.before ++ f.one ∷ []) f.after s.happened (subst (λ ks. HappenAll settings.currency ks s.happened) kept s.happens) in
     let whole : log ≡ (Connected ∷ cut.0) ++ cut.1 = s.begins ∙ ap (λ l. Connected ∷ l) cut.3 in
-    f.wrong (cut.0, cut.2, prefix_from settings [] (Connected ∷ cut.0) cut.1 (subst (λ l. IsLog settings l) whole k))
+    let asks = asks_before settings (f.before ++ f.one ∷ []) f.after (subst (CanAsk settings) kept s.asks) in
+    f.wrong (cut.0, cut.2, prefix_from settings [] (Connected ∷ cut.0) cut.1 (subst (λ l. IsLog settings l) whole k), asks)
 
 pub logs_are_recovered : LogsAreRecovered
 logs_are_recovered settings text log (Ok till) s k r = r.stands.1 ∙ ap (λ l. state_after settings (l ++ Lost ∷ [])) (logs_are_one settings text r.log log r.recorded s)
@@ -151,6 +129,7 @@ opened_keeps settings seen text may_leave gate state settled is r log s =
       settled = settled;
       recorded = subst (λ t. StandsFor settings t log) (sym is) s;
       stands = subst (λ l. Stands settings l state) (ap (λ l. l ++ Lost ∷ []) same ∙ ap (λ b. log ++ unless_up b) (sym down)) r.stands;
+      idle = λ up. let both : false ≡ true = sym down ∙ up in absurd cc;
     }
 
 -- what a till with its journal is, recovery finds

@@ -27,7 +27,7 @@ use Rattle.zvt_till.specs.TillHistory.{Stands}
 use Rattle.zvt_till.proofs.Runs.{step-order}
 use Rattle.zvt_till.proofs.Steps.{steps_meet_log}
 use Rattle.zvt_till.proofs.TillHistoryLemmas.{stands-more}
-use Rattle.zvt_kept.specs.Records.{ordered, heard, lost}
+use Rattle.zvt_kept.specs.Records.{ordered, asked, heard, lost}
 use Rattle.zvt_kept.specs.Recovery.{Relives}
 use Rattle.zvt_kept.proofs.Steps.{heard_follows, order_follows}
 
@@ -73,6 +73,11 @@ order_taken order note old new none is settings log t up =
     stays CloseDay = up
     stays Cancel = up
 
+-- ---- an ask
+
+pub ask_passes : (note : List ℕ) (state : TillState) → Relives true (asked note) state state
+ask_passes note state settings log t up = ([], refl, subst (λ l. Stands settings l state) (sym (append-nil log)) t, up)
+
 -- ---- a message
 
 either_line : (b : Bool) (x y : TillState) (up : Bool) → x.line_up ≡ up → y.line_up ≡ up → (cond b x y).line_up ≡ up
@@ -92,7 +97,7 @@ if_up false x y is = absurd cc
 pub heard_up : (s : TillState) (message : Message) → s.line_up ≡ true → (step s (hears message)).line_up ≡ true
 heard_up s message up = ap (λ t. t.line_up) (if_up s.line_up (meet s (hears message)) s up) ∙ running_line s s.running (hears message) refl ∙ up
 
-whole_spells : (message : Message) (size : ℕ) (bytes : List ℕ) → size ≡ length bytes → Found padded bytes message size → Spells padded message bytes
+pub whole_spells : (message : Message) (size : ℕ) (bytes : List ℕ) → size ≡ length bytes → Found padded bytes message size → Spells padded message bytes
 whole_spells message size bytes is found = subst (Spells padded message) (take_all size bytes (omega (arith, is))) found.spelled
 
 pub message_heard : (message : Message) (size : ℕ) (bytes : List ℕ) (answer : Scan (Message × ℕ)) (old new : TillState) → Answers padded bytes answer → answer ≡ Whole (message, size) → size ≡ length bytes

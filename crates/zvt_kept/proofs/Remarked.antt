@@ -163,6 +163,7 @@ moved settings before x y log opened same s = record {
   read = sym same ∙ s.read;
   happens = s.happens;
   begins = s.begins;
+  asks = s.asks;
 }
 
 pub remarks_mean_nothing : RemarksMeanNothing

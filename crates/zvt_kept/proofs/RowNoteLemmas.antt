@@ -25,14 +25,15 @@ use Rattle.zvt_till.specs.Till.{TillState, accept, book_after, entry_after, fini
 use Rattle.zvt_till.specs.TillHistory.{Stands}
 use Rattle.zvt_till.proofs.Runs.{step-order}
 use Rattle.zvt_kept.specs.declared.records.Entry.{Entry}
-use Rattle.zvt_kept.specs.Records.{Kept, ordered, heard, lost, kept_in}
+use Rattle.zvt_kept.specs.Records.{Kept, ordered, asked, heard, lost, kept_in}
 use Rattle.zvt_kept.specs.Logs.{Happens}
 use Rattle.zvt_kept.specs.Reading.{kept_of}
 use Rattle.zvt_kept.specs.Recovery.{Relives}
 use Rattle.zvt_kept.specs.RowNotes.{AreNoted, HasNotes, IsLastPayment, IsNoteOf, LivedThrough, booked_rows, grown, is_payment, payment_note, unclear_rows}
-use Rattle.zvt_kept.proofs.Recovering.{SoFar, taken}
+use Rattle.zvt_kept.proofs.Recovering.{SoFar}
+use Rattle.zvt_kept.proofs.Replayed.{taken}
 use Rattle.zvt_kept.proofs.Relived.{line_lost}
-use Rattle.zvt_kept.proofs.Logged.{happen_more}
+use Rattle.zvt_kept.proofs.AskLemmas.{each_more}
 
 -- ---- what a step does to the rows of a till
 
@@ -139,6 +140,7 @@ grew_by_order Cancel note s = by_any (ordered Cancel note) s s (grew_not s)
 grew_by : (currency : ℕ) (one : Kept) (happened : List Happening) (s : TillState) → Happens currency one happened → GrewBy one s (fold step s happened)
 grew_by currency (ordered order note) happened s is =
     subst (λ t. GrewBy (ordered order note) s t) (sym (ap (fold step s) is ∙ step-order currency s order)) (grew_by_order order note s)
+grew_by currency (asked note) happened s is = subst (λ l. GrewBy (asked note) s (fold step s l)) (sym is) (by_any (asked note) s s (grew_not s))
 grew_by currency (heard bytes) happened s is =
     subst (λ l. GrewBy (heard bytes) s (fold step s l)) (sym is.2) (by_any (heard bytes) s (heard_step s (heard_as is.0)) (grew_by_message s (HeardIn (heard_as is.0)) s.line_up))
 grew_by currency lost happened s is =
@@ -152,6 +154,7 @@ this_payment kept last (ordered (Pay amount) note) is = record { before = kept; 
 this_payment kept last (ordered (Reverse e) note) is = absurd cc
 this_payment kept last (ordered CloseDay note) is = absurd cc
 this_payment kept last (ordered Cancel note) is = absurd cc
+this_payment kept last (asked note) is = absurd cc
 this_payment kept last (heard message) is = absurd cc
 this_payment kept last lost is = absurd cc
 
@@ -161,6 +164,7 @@ same_note last (ordered (Pay amount) note) is = absurd cc
 same_note last (ordered (Reverse e) note) is = refl
 same_note last (ordered CloseDay note) is = refl
 same_note last (ordered Cancel note) is = refl
+same_note last (asked note) is = refl
 same_note last (heard message) is = refl
 same_note last lost is = refl
 
@@ -293,7 +297,7 @@ noted_by : (settings : Settings) (kept : List Kept) (one : Kept) (old new : Till
 noted_by settings kept one old new last booked unclear lives up n =
     let so_far = n.lived.happened in
     let next = lives settings (Connected ∷ so_far) n.lived.stands up in
-    let lived : LivedThrough settings (kept ++ one ∷ []) new = record { happened = so_far ++ next.0; happens = happen_more settings.currency kept one so_far next.0 n.lived.happens next.1; stands = next.2 } in
+    let lived : LivedThrough settings (kept ++ one ∷ []) new = record { happened = so_far ++ next.0; happens = each_more (Happens settings.currency) kept one so_far next.0 n.lived.happens next.1; stands = next.2 } in
     noted_more settings kept one next.0 old new last booked unclear next.1 (went settings (Connected ∷ so_far) next.0 old new n.lived.stands.1 next.2.1) lived n
 
 -- one entry more, whose note was held, and whose rows were followed

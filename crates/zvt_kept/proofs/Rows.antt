@@ -4,7 +4,7 @@ use Rattle.std.specs.Prelude.{codes}
 use Rattle.std.specs.Fmt.{digits}
 use Rattle.hex.proofs.OnLiterals.{hex_on_literals}
 use Rattle.zvt_till.specs.declared.orders.Order.TheVariants.{Register, Pay, Reverse, CloseDay, Cancel}
-use Rattle.zvt_kept.specs.Records.{ordered, heard, lost, heard_lines, kept_in, one_or_none, opening, order_lines}
+use Rattle.zvt_kept.specs.Records.{ordered, asked, heard, lost, ask_lines, heard_lines, kept_in, one_or_none, opening, order_lines}
 
 -- ---- texts
 
@@ -32,6 +32,11 @@ reversal_text = refl
 order_alone_text : order_lines CloseDay [] [] ≡ codes "# close\n"
 order_alone_text = refl
 
+-- the password is 00 00 00
+ask_text : ask_lines (codes " at 2026-11-28T09:14:03Z") ≡ codes "# ask at 2026-11-28T09:14:03Z\n> 062003000000\n"
+unfolding hex_on_literals
+ask_text = refl
+
 heard_text : heard_lines (6 ∷ 15 ∷ 0 ∷ []) (one_or_none (128 ∷ 0 ∷ 0 ∷ [])) ≡ codes "< 060F00\n> 800000\n"
 unfolding hex_on_literals
 heard_text = refl
@@ -57,6 +62,11 @@ reversal = refl
 restart : kept_in (codes "# zvt journal 1, currency 978\n# register\n> 060000\n!\n# register\n> 060000\n# cancel\n# close\n") ≡ Some (ordered Register [] ∷ lost ∷ ordered Register [] ∷ ordered Cancel [] ∷ ordered CloseDay [] ∷ [])
 unfolding hex_on_literals
 restart = refl
+
+-- the line is lost during a payment, and the till asks what became of it
+ask : kept_in (codes "# pay 1234\n> 060100\n!\n# register\n< 060F00\n> 800000\n# ask\n> 062003000000\n< 800000\n# ask ref A-1009\n") ≡ Some (ordered (Pay 1234) [] ∷ lost ∷ ordered Register [] ∷ heard (6 ∷ 15 ∷ 0 ∷ []) ∷ asked [] ∷ heard (128 ∷ 0 ∷ 0 ∷ []) ∷ asked (codes " ref A-1009") ∷ [])
+unfolding hex_on_literals
+ask = refl
 
 -- one carriage return before a line feed is no part of the line
 carriage_return : kept_in (codes "# pay 1234\r\n!\r\n") ≡ Some (ordered (Pay 1234) [] ∷ lost ∷ [])
@@ -117,6 +127,13 @@ empty_line = refl
 -- a reserved word, and no whole order
 no_order : kept_in (codes "# pay 12x\n") ≡ None
 no_order = refl
+
+no_ask : kept_in (codes "# ask the cashier\n") ≡ None
+no_ask = refl
+
+-- a longer first word is a remark
+asks : kept_in (codes "# asked the cashier\n") ≡ Some []
+asks = refl
 
 glued : kept_in (codes "# pay1234\n") ≡ None
 glued = refl

@@ -10,7 +10,8 @@ use Rattle.zvt_till.specs.declared.orders.Order.TheVariants.{Register, Pay, Reve
 use Rattle.sha2.specs.Sha256.{sha256}
 use Rattle.zvt_journal.specs.Files.{rule_words}
 use Rattle.zvt_kept.specs.Checks.{check_line, check_of, check_sign, checked}
-use Rattle.zvt_kept.specs.Records.{IsSpelledOrder, heard_line, heard_lines, heard_record, lost_line, lost_record, noted_words, one_or_none, opening, order_line, order_lines, order_record, order_words, sent_line, sent_lines}
+use Rattle.zvt_kept.specs.Masking.{masked_ask}
+use Rattle.zvt_kept.specs.Records.{IsSpelledOrder, ask_line, ask_lines, ask_record, heard_line, heard_lines, heard_record, lost_line, lost_record, noted_words, one_or_none, opening, order_line, order_lines, order_record, order_words, sent_line, sent_lines}
 
 pub few_taken : (n : ℕ) (bytes : List ℕ) → n ≤ 32 → length (take n bytes) ≤ 32
 few_taken n bytes few = let taken = length-take n bytes in omega (arith, taken, few)
@@ -78,6 +79,14 @@ order_short order note sent spelled least few =
     let lines = length-append (order_line order note) (sent_lines (one_or_none sent)) in
     let whole = checked_length (order_lines order note sent) in
     omega (arith, words, noted, line, bytes, lines, whole, few, least)
+
+pub ask_short : (note : List ℕ) → length note ≤ 69 → length (ask_record note) ≤ 2 ^ 18
+ask_short note least =
+    let line = line_length (codes "# ask") note in
+    let bytes = sent_length masked_ask in
+    let lines = length-append (ask_line note) (sent_lines (one_or_none masked_ask)) in
+    let whole = checked_length (ask_lines note) in
+    omega (arith, line, bytes, lines, whole, least)
 
 rule_short : (by_receipt : Bool) → length (rule_words by_receipt) ≤ 22
 rule_short false = omega arith

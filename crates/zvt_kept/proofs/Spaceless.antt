@@ -9,7 +9,7 @@ use Rattle.zvt_till.specs.Till.{TillState}
 use Rattle.zvt_journal.specs.Device.{LeavesOnly}
 use Rattle.zvt_journal.specs.Text.{recovered, IsSettled}
 use Rattle.zvt_kept.specs.KeptTill.{FindsNoSpace, HasLog, IsKept, KeepsSome, Standing, unless_up}
-use Rattle.zvt_kept.specs.Logs.{StandsFor}
+use Rattle.zvt_kept.specs.Logs.{IsIdle, StandsFor}
 use Rattle.zvt_kept.specs.Outliving.{IsBetween}
 use Rattle.zvt_kept.proofs.Logged.{keeps_some, weaker}
 use Rattle.zvt_kept.proofs.Made.{records_are_kept}
@@ -23,6 +23,7 @@ module _ {D : Type 0} (seen : D → List ℕ) (may_leave : D → List ℕ → Ty
     settled = f.settled;
     recorded = subst (λ (file : List ℕ). StandsFor settings (recovered file) log) (sym f.file) has.recorded;
     stands = subst (λ (s : TillState). Stands settings (log ++ unless_up s.line_up) s) (sym f.state) has.stands;
+    idle = λ up. subst (λ (file : List ℕ). IsIdle settings (recovered file)) (sym f.file) (has.idle (sym (ap (λ s. s.line_up) f.state) ∙ up));
   }
 
   pub still_kept : (failed : Bool) (order : Order) (old new : Standing D) → failed ≡ false → FindsNoSpace seen may_leave moment left_since faults order old new

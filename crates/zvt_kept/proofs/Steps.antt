@@ -14,9 +14,9 @@ use Rattle.zvt_till.proofs.Runs.{follows-order}
 use Rattle.zvt_till.proofs.Steps.{steps_meet_log}
 use Rattle.zvt_journal.specs.Text.{recovered, IsSettled}
 use Rattle.zvt_kept.specs.Records.{Kept, IsRecordOf}
-use Rattle.zvt_kept.specs.Logs.{Happens, StandsFor}
-use Rattle.zvt_kept.specs.KeptTill.{IsKept, Logs, Standing}
-use Rattle.zvt_kept.proofs.Logged.{connected_stands, keeps_some, line_is, stands_more, stays_up, up_stands}
+use Rattle.zvt_kept.specs.Logs.{Happens, IsIdle, StandsFor}
+use Rattle.zvt_kept.specs.KeptTill.{HasLog, IsKept, Logs, Standing}
+use Rattle.zvt_kept.proofs.Logged.{CanRecord, connected_stands, idle_lost, idle_on, keeps_some, line_is, stands_more, stays_up, up_stands}
 use Rattle.zvt_kept.proofs.Made.{records_are_kept}
 
 -- an order is taken on a line that is up alone
@@ -42,22 +42,26 @@ module _ {D : Type 0} (seen : D → List ℕ) (may_leave : D → List ℕ → Ty
       → ((settings : Settings) (log : List Happening) → Stands settings log old.till.state → CanFollow settings (facts_in settings.rules log) (h settings))
       → ((settings : Settings) → new.till.state ≡ step old.till.state (h settings))
       → IsRecordOf one added → ((settings : Settings) → Happens settings.currency one (h settings ∷ []))
+      → ((settings : Settings) (log : List Happening) (has : HasLog seen may_leave moment left_since faults settings log old) → CanRecord settings (recovered (seen old.device)) log one has.recorded)
       → recovered (seen new.device) ≡ recovered (seen old.device) ++ added → IsSettled (seen new.device) (may_leave new.device) new.gate
       → Logs seen may_leave moment left_since faults (λ settings. h settings ∷ []) old new
-  logs_one old new one added h up stays can goes is happens more settled settings log has = record {
+  logs_one old new one added h up stays can goes is happens records more settled settings log has = record {
     settled = settled;
-    recorded = subst (λ text. StandsFor settings text (log ++ h settings ∷ [])) (sym more) (stands_more records_are_kept settings (seen old.device) log one added (h settings ∷ []) has.recorded is (happens settings));
+    recorded = subst (λ text. StandsFor settings text (log ++ h settings ∷ [])) (sym more) (stands_more records_are_kept settings (seen old.device) log one added (h settings ∷ []) has.recorded is (happens settings) (records settings log has));
+    idle = λ line. subst (IsIdle settings) (sym more) (idle_on records_are_kept settings (seen old.device) has.recorded.kept one added (h settings) has.recorded.read is (happens settings) (has.idle up));
     stands = stays_up settings log old.till.state new.till.state (h settings) up (stays settings) (can settings log (up_stands settings log old.till.state up has.stands)) (goes settings) has.stands;
   }
 
   -- a new line
   pub logs_line : (old new : Standing D) (one : Kept) (added : List ℕ) → old.till.state.line_up ≡ false → new.till.state ≡ step old.till.state Connected
       → IsRecordOf one added → ((settings : Settings) → Happens settings.currency one (Lost ∷ Connected ∷ []))
+      → ((settings : Settings) (log : List Happening) (has : HasLog seen may_leave moment left_since faults settings log old) → CanRecord settings (recovered (seen old.device)) log one has.recorded)
       → recovered (seen new.device) ≡ recovered (seen old.device) ++ added → IsSettled (seen new.device) (may_leave new.device) new.gate
       → Logs seen may_leave moment left_since faults (λ settings. Lost ∷ Connected ∷ []) old new
-  logs_line old new one added down goes is happens more settled settings log has = record {
+  logs_line old new one added down goes is happens records more settled settings log has = record {
     settled = settled;
-    recorded = subst (λ text. StandsFor settings text (log ++ Lost ∷ Connected ∷ [])) (sym more) (stands_more records_are_kept settings (seen old.device) log one added (Lost ∷ Connected ∷ []) has.recorded is (happens settings));
+    recorded = subst (λ text. StandsFor settings text (log ++ Lost ∷ Connected ∷ [])) (sym more) (stands_more records_are_kept settings (seen old.device) log one added (Lost ∷ Connected ∷ []) has.recorded is (happens settings) (records settings log has));
+    idle = λ line. subst (IsIdle settings) (sym more) (idle_lost records_are_kept settings (seen old.device) has.recorded.kept one added has.recorded.read is (happens settings));
     stands = connected_stands settings log old.till.state new.till.state down goes has.stands;
   }
 

@@ -11,7 +11,7 @@ use borrow.Author.Tests.{ltb-true}
 use Rattle.zvt_till.specs.declared.orders.Order.{Order}
 use Rattle.zvt_till.specs.declared.orders.Order.TheVariants.{Register, Pay, Reverse, CloseDay, Cancel}
 use Rattle.zvt_kept.specs.Notes.{is_note}
-use Rattle.zvt_kept.specs.Records.{Kept, ordered, plain, IsSpelledOrder, is_reserved, noted_digits, noted_words, number_of, order_of, order_words, with_number, word_size}
+use Rattle.zvt_kept.specs.Records.{Kept, ordered, asked, entry_of, plain, IsSpelledOrder, is_reserved, noted_digits, noted_words, number_of, order_words, with_number, word_size}
 use Rattle.zvt_kept.proofs.NoteLemmas.{note_ends, note_plain}
 use Rattle.zvt_kept.proofs.Numbers.{decimal_plain, decimal_unspaced, number_back}
 
@@ -103,18 +103,18 @@ digits_noted tail word rest note size size_is front back read =
     let before : word ≡ first_in tail = front ∙ ap (λ (k : ℕ). take k tail) size_is in
     ap (λ (w : List ℕ). some_pair w note) before ∙ ap (some_pair (first_in tail)) (n.1 ∙ behind) ∙ sym (ap (λ (b : Bool). pair_if b tail) (ap is_note (sym behind) ∙ n.0))
 
-abbrev plain_if : Bool → Order → List ℕ → Option Kept
-plain_if b order rest = if b then Some (ordered order rest) else None
+abbrev plain_if : Bool → (List ℕ → Kept) → List ℕ → Option Kept
+plain_if b entry rest = if b then Some (entry rest) else None
 
-pub plain_noted : (order : Order) (rest note : List ℕ) → Some note ≡ note_if (is_note rest) rest → Some (ordered order note) ≡ plain order rest
-plain_noted order rest note read =
+pub plain_noted : (entry : List ℕ → Kept) (rest note : List ℕ) → Some note ≡ note_if (is_note rest) rest → Some (entry note) ≡ plain entry rest
+plain_noted entry rest note read =
     let n = note_is rest note read in
-    ap (λ (m : List ℕ). Some (ordered order m)) n.1 ∙ sym (ap (λ (b : Bool). plain_if b order rest) n.0)
+    ap (λ (m : List ℕ). Some (entry m)) n.1 ∙ sym (ap (λ (b : Bool). plain_if b entry rest) n.0)
 
 -- ---- orders
 
 -- an order is read back from its words, with any note behind them
-pub order_back : (order : Order) (note : List ℕ) → IsSpelledOrder order → is_note note ≡ true → order_of (noted_words order note) ≡ Some (ordered order note)
+pub order_back : (order : Order) (note : List ℕ) → IsSpelledOrder order → is_note note ≡ true → entry_of (noted_words order note) ≡ Some (ordered order note)
 order_back Register note spelled noted = ap (λ b. if b then Some (ordered Register note) else None) noted
 order_back (Pay amount) note spelled noted =
     number_noted Pay (decimal amount) note amount (decimal_unspaced amount (omega (arith, spelled.1))) noted (number_back amount (omega (arith, spelled.0)) spelled.1)
@@ -124,6 +124,13 @@ order_back (Reverse entry) note spelled noted =
     ∙ ap (λ (n : ℕ). Some (ordered (Reverse n) note)) same
 order_back CloseDay note spelled noted = ap (λ b. if b then Some (ordered CloseDay note) else None) noted
 order_back Cancel note spelled noted = ap (λ b. if b then Some (ordered Cancel note) else None) noted
+
+-- and so is an ask
+pub ask_back : (note : List ℕ) → is_note note ≡ true → entry_of (codes "ask" ++ note) ≡ Some (asked note)
+ask_back note noted = ap (λ b. if b then Some (asked note) else None) noted
+
+pub ask_reserved : (note : List ℕ) → is_note note ≡ true → is_reserved (codes "ask" ++ note) ≡ true
+ask_reserved note noted = rw ((note_ends note noted).ends) refl
 
 -- an order's first word is reserved
 pub order_reserved : (order : Order) (note : List ℕ) → is_note note ≡ true → is_reserved (noted_words order note) ≡ true

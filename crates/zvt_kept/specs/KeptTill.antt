@@ -23,7 +23,7 @@ use Rattle.zvt_journal.specs.Files.{IsRepairable}
 use Rattle.zvt_journal.specs.declared.device.DeviceError.{DeviceError}
 use Rattle.zvt_journal.specs.declared.device.DeviceError.TheVariants.{Memory, Failed, Full}
 use Rattle.zvt_kept.specs.Records.{Kept, IsRecordOf, order_record}
-use Rattle.zvt_kept.specs.Logs.{StandsFor, opening_of}
+use Rattle.zvt_kept.specs.Logs.{IsIdle, StandsFor, opening_of}
 
 -- a till, and the device and the gate of its journal
 pub record Standing (D : Type 0) : Type 0 where
@@ -58,11 +58,12 @@ abbrev pub unless_up : Bool → List Happening
 unless_up up = cond up [] (Lost ∷ [])
 
 -- The file is completely on the disk and represents this log. The till has the state after the log and, if its line is
--- down, after losing it.
+-- down, after losing it. While the line is up, no ask runs.
 pub record Keeps (settings : Settings) (log : List Happening) (seen : List ℕ) (may_leave : List ℕ → Type 0) (gate : ℕ) (state : TillState) : Type 0 where
   pub settled : IsSettled seen may_leave gate
   pub recorded : StandsFor settings (recovered seen) log
   pub stands : Stands settings (log ++ unless_up state.line_up) state
+  pub idle : state.line_up ≡ true → IsIdle settings (recovered seen)
 
 -- the journal keeps some log of the till
 abbrev pub KeepsSome : (seen : List ℕ) → (may_leave : List ℕ → Type 0) → (gate : ℕ) → TillState → Type 0

@@ -1,5 +1,5 @@
 -- Messages as a journal has them.
-use Rattle.std.specs.Prelude.{[], ◌∷◌}
+use Rattle.std.specs.Prelude.{ℕ, List, [], ◌∷◌}
 use Rattle.zvt_till.specs.declared.orders.Outgoing.{Outgoing}
 use Rattle.zvt_till.specs.Sending.{outgoing}
 use Rattle.zvt_apdu.specs.declared.brief.Brief.{Brief}
@@ -17,3 +17,7 @@ masked_message AbortOrder = AbortOrder
 
 abbrev pub masked : Outgoing → Outgoing
 masked o = outgoing (masked_message o.brief)
+
+-- the message of an ask, with 00 00 00 instead of its password
+abbrev pub masked_ask : List ℕ
+masked_ask = 6 ∷ 32 ∷ 3 ∷ 0 ∷ 0 ∷ 0 ∷ []

@@ -4,7 +4,7 @@ use Rattle.std.specs.Str.Lines.{lines}
 use Rattle.std.specs.declared.alloc.Global.{Global}
 use Rattle.zvt_io.specs.Devices.{IsPrefix}
 use Rattle.zvt_kept.specs.Checks.{IsFirstWrongCheck}
-use Rattle.zvt_kept.specs.Records.{Kept, ordered, heard, lost, kept_in, last_of, meaning_behind, meanings}
+use Rattle.zvt_kept.specs.Records.{Kept, ordered, asked, heard, lost, kept_in, last_of, meaning_behind, meanings}
 use Rattle.zvt_kept.specs.declared.records.Entry.{Entry}
 use Rattle.zvt_kept.specs.declared.records.Entry.TheVariants as entry
 use Rattle.zvt_kept.specs.declared.lines.Meaning.{Meaning}
@@ -15,6 +15,7 @@ use Rattle.zvt_kept.specs.declared.lines.RecordError.TheVariants.{Check, Line, M
 -- the meaning of an entry of the code
 abbrev pub kept_of : Entry → Kept
 kept_of (entry.Order order note) = ordered order note
+kept_of (entry.Ask note) = asked note
 kept_of (entry.Heard message) = heard message.items
 kept_of entry.Lost = lost
 

@@ -6,6 +6,7 @@ use Rattle.hex.specs.Hex.{IsBytes, decode_of, encode_upper}
 use Rattle.hex.specs.declared.error.FromHexError.{FromHexError}
 use Rattle.std.specs.List.{position_or_len}
 use Rattle.zvt_text.specs.Words.{number_in, trailing}
+use Rattle.zvt_kept.specs.Masking.{masked_ask}
 use Rattle.zvt_kept.specs.Notes.{is_note}
 use Rattle.zvt_till.specs.declared.orders.Order.{Order}
 use Rattle.zvt_till.specs.declared.orders.Order.TheVariants.{Register, Pay, Reverse, CloseDay, Cancel}
@@ -16,6 +17,7 @@ use Rattle.zvt_kept.specs.Checks.{are_right, checked, is_sent}
 -- an entry of a journal
 pub data Kept : Type 0 where
   ordered : (order : Order) → (note : List ℕ) → Kept
+  asked : (note : List ℕ) → Kept
   heard : (message : List ℕ) → Kept
   lost : Kept
 
@@ -50,12 +52,20 @@ noted_words order note = order_words order ++ note
 abbrev pub order_line : Order → (note : List ℕ) → List ℕ
 order_line order note = codes "# " ++ noted_words order note ++ 10 ∷ []
 
+-- an ask has no words but its note's
+abbrev pub ask_line : (note : List ℕ) → List ℕ
+ask_line note = codes "# ask" ++ note ++ 10 ∷ []
+
 abbrev pub heard_line : List ℕ → List ℕ
 heard_line message = codes "< " ++ encode_upper message ++ 10 ∷ []
 
 -- an order with its note, and the bytes that are sent for it
 abbrev pub order_lines : Order → (note sent : List ℕ) → List ℕ
 order_lines order note sent = order_line order note ++ sent_lines (one_or_none sent)
+
+-- an ask with its note, and the bytes that are sent for it
+abbrev pub ask_lines : (note : List ℕ) → List ℕ
+ask_lines note = ask_line note ++ sent_lines (masked_ask ∷ [])
 
 -- a message of the terminal, and the bytes of all replies to it
 abbrev pub heard_lines : List ℕ → List (List ℕ) → List ℕ
@@ -67,6 +77,9 @@ lost_line = codes "!" ++ 10 ∷ []
 -- A record is its lines and their check.
 abbrev pub order_record : Order → (note sent : List ℕ) → List ℕ
 order_record order note sent = checked (order_lines order note sent)
+
+abbrev pub ask_record : (note : List ℕ) → List ℕ
+ask_record note = checked (ask_lines note)
 
 abbrev pub heard_record : List ℕ → List ℕ → List ℕ
 heard_record message answers = checked (heard_lines message (one_or_none answers))
@@ -110,6 +123,7 @@ pub record IsHeardRecord (message text : List ℕ) : Type 0 where
 -- a text is the record of this entry
 abbrev pub IsRecordOf : Kept → List ℕ → Type 0
 IsRecordOf (ordered order note) text = IsOrderRecord order note text
+IsRecordOf (asked note) text = (is_note note ≡ true) × (text ≡ ask_record note)
 IsRecordOf (heard message) text = IsHeardRecord message text
 IsRecordOf lost text = text ≡ lost_record
 
@@ -130,9 +144,9 @@ word_size words = position_or_len (λ byte. byte == 32) words
 abbrev pub noted_digits : (tail : List ℕ) → Option (List ℕ × List ℕ)
 noted_digits tail = if is_note (drop (word_size tail) tail) then Some (take (word_size tail) tail, drop (word_size tail) tail) else None
 
--- an order, before its note
-abbrev pub plain : Order → (rest : List ℕ) → Option Kept
-plain order rest = if is_note rest then Some (ordered order rest) else None
+-- an entry whose words have no number, before its note
+abbrev pub plain : (List ℕ → Kept) → (rest : List ℕ) → Option Kept
+plain entry rest = if is_note rest then Some (entry rest) else None
 
 -- an order that has a number, before its note
 abbrev pub with_number : (ℕ → Order) → (tail : List ℕ) → Option Kept
@@ -149,22 +163,23 @@ by_rest (Some rest) found other = found rest
 abbrev pub by_word : (word words : List ℕ) → (List ℕ → Option Kept) → (other : Option Kept) → Option Kept
 by_word word words found other = by_rest (trailing word words) found other
 
--- the order that words name, with the note behind it
-abbrev pub order_of : List ℕ → Option Kept
-order_of words =
-    by_word (codes "register") words (plain Register)
-    (by_word (codes "close") words (plain CloseDay)
-    (by_word (codes "cancel") words (plain Cancel)
+-- the order or the ask that words name, with the note behind it
+abbrev pub entry_of : List ℕ → Option Kept
+entry_of words =
+    by_word (codes "register") words (plain (ordered Register))
+    (by_word (codes "close") words (plain (ordered CloseDay))
+    (by_word (codes "cancel") words (plain (ordered Cancel))
+    (by_word (codes "ask") words (plain asked)
     (by_word (codes "pay ") words (with_number Pay)
-    (by_word (codes "reverse ") words (with_number (λ n. Reverse (n - 1))) None))))
+    (by_word (codes "reverse ") words (with_number (λ n. Reverse (n - 1))) None)))))
 
 -- the first words of a journal
 abbrev pub format_name : List ℕ
 format_name = codes "zvt journal 1"
 
-abbrev pub ordered_by : Option Kept → (words : List ℕ) → Option (List Kept)
-ordered_by None words = option_map (λ rest. []) (trailing format_name words)
-ordered_by (Some one) words = Some (one ∷ [])
+abbrev pub named_by : Option Kept → (words : List ℕ) → Option (List Kept)
+named_by None words = option_map (λ rest. []) (trailing format_name words)
+named_by (Some one) words = Some (one ∷ [])
 
 -- a check means nothing
 abbrev pub check : (after_sign : List ℕ) → Option (List Kept)
@@ -184,16 +199,17 @@ ends_there (Some rest) = ends_word rest
 abbrev pub begins_with : (word words : List ℕ) → Bool
 begins_with word words = ends_there (trailing word words)
 
--- the first word begins an order or the opening of a journal
+-- the first word begins an order, an ask or the opening of a journal
 abbrev pub is_reserved : (words : List ℕ) → Bool
 is_reserved words =
     begins_with (codes "register") words || begins_with (codes "pay") words || begins_with (codes "reverse") words
-    || begins_with (codes "close") words || begins_with (codes "cancel") words || begins_with (codes "zvt") words
+    || begins_with (codes "close") words || begins_with (codes "cancel") words || begins_with (codes "ask") words
+    || begins_with (codes "zvt") words
 
--- the text after `# `: with a reserved word an order, or the opening of a journal, which has no meaning; any other
--- words are a remark, which a person may add, and have no meaning
+-- the text after `# `: with a reserved word an order, an ask, or the opening of a journal, which has no meaning; any
+-- other words are a remark, which a person may add, and have no meaning
 abbrev pub words_meaning : (words : List ℕ) → Option (List Kept)
-words_meaning words = if is_reserved words then ordered_by (order_of words) words else Some []
+words_meaning words = if is_reserved words then named_by (entry_of words) words else Some []
 
 -- a comment is words, or a check
 abbrev pub comment : (after_sign : List ℕ) → Option (List Kept)
@@ -211,8 +227,8 @@ abbrev pub bytes_in : (after_sign : List ℕ) → Option (List ℕ)
 bytes_in [] = None
 bytes_in (space ∷ digits) = if space == 32 then some_bytes (decode_of digits) else None
 
--- The meaning of a line. `#`, a space and the words of an order mean that order; an opening, a remark and a check have
--- no meaning of their own. `> ` and bytes have none either, `< ` and bytes mean a message, and `!` alone means a loss.
+-- The meaning of a line. `#`, a space and the words of an order mean that order, and the words of an ask mean an ask; an
+-- opening, a remark and a check have no meaning of their own. `> ` and bytes have none either, `< ` and bytes mean a message, and `!` alone means a loss.
 -- Any other line is invalid.
 abbrev pub meaning : (line : List ℕ) → Option (List Kept)
 meaning [] = None
@@ -238,7 +254,7 @@ is_remark (sign ∷ []) = false
 is_remark (sign ∷ space ∷ words) = sign == 35 && space == 32 && not (is_reserved words)
 
 -- The meaning of a line after another one. Sent bytes after a remark are invalid, because its line may be a damaged
--- order.
+-- order or ask.
 abbrev pub meaning_behind : (last line : List ℕ) → Option (List Kept)
 meaning_behind last line = if is_sent line && is_remark last then None else meaning line
 

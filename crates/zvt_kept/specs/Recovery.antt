@@ -1,5 +1,5 @@
 -- The till of a journal's records.
-use Rattle.std.specs.Prelude.{◌≡◌, ◌+◌, Bool, true, false, ℕ, List, [], ◌∷◌, ◌++◌, Some, None, length, Result, Ok, Err}
+use Rattle.std.specs.Prelude.{◌≡◌, ◌+◌, fold, Bool, true, false, ℕ, List, [], ◌∷◌, ◌++◌, Some, None, length, Result, Ok, Err}
 use Rattle.zvt_till.specs.declared.happenings.Happening.{Happening}
 use Rattle.zvt_till.specs.declared.happenings.Happening.TheVariants.{Connected, Lost}
 use Rattle.zvt_till.specs.Log.{IsLog}
@@ -7,9 +7,10 @@ use Rattle.zvt_till.specs.Sending.{Settings}
 use Rattle.zvt_till.specs.Till.{TillState}
 use Rattle.zvt_till.specs.TillHistory.{Stands}
 use Rattle.zvt_till.specs.View.{TillValue}
+use Rattle.zvt_settle.specs.Settling.{Note, Line, Both, both_after, take}
 use Rattle.zvt_kept.specs.Checks.{IsFirstWrongCheck}
 use Rattle.zvt_kept.specs.Records.{Kept, kept_in}
-use Rattle.zvt_kept.specs.Logs.{Happens, HappenAll, HasOpening, StandsFor}
+use Rattle.zvt_kept.specs.Logs.{CanAsk, CanTakeAll, Happens, HappenAll, HasOpening, Means, StandsFor}
 use Rattle.zvt_kept.specs.Reading.{IsFirstWrong}
 use Rattle.zvt_kept.specs.declared.recovery.RecoveryError.{RecoveryError}
 use Rattle.zvt_kept.specs.declared.recovery.RecoveryError.TheVariants.{Opening, Check, Line, Record, Memory}
@@ -20,9 +21,17 @@ pub record IsRecovered (settings : Settings) (text : List ℕ) (state : TillStat
   pub recorded : StandsFor settings text log
   pub stands : Stands settings (log ++ Lost ∷ []) state
 
--- a till with these settings can have these records
+-- A till that settles has the state after these records and a lost line: what was settled, what is pending, and the
+-- status of the terminal's last transaction.
+pub record HasSettled (settings : Settings) (text : List ℕ) (both : Both) : Type 0 where
+  pub kept : List Kept
+  pub read : kept_in text ≡ Some kept
+  pub asks : CanAsk settings kept
+  pub is : both ≡ both_after settings ((Line Connected ∷ asks.notes) ++ Line Lost ∷ [])
+
+-- a till with these settings can have these records, and make their asks
 abbrev pub IsLife : Settings → List Kept → Type 0
-IsLife settings kept = (happened : List Happening) × HappenAll settings.currency kept happened × IsLog settings (Connected ∷ happened)
+IsLife settings kept = (happened : List Happening) × HappenAll settings.currency kept happened × IsLog settings (Connected ∷ happened) × CanAsk settings kept
 
 -- The record with this number, counted from 1, is the first one that no till can have after the records before it.
 pub record IsFirstForeign (settings : Settings) (text : List ℕ) (number : ℕ) : Type 0 where
@@ -42,10 +51,18 @@ Recovers settings text (Err (Check number)) = (kept_in text ≡ None) × IsFirst
 Recovers settings text (Err (Record number)) = IsFirstForeign settings text number
 Recovers settings text (Err Memory) = Unit {0}
 
--- a till with some log, whose line is up, replayed a record; or it cannot have this record
+-- a till with some log, whose line is up, replayed a record; or it cannot have the events of this record
 abbrev pub Relives : Bool → Kept → (old new : TillState) → Type 0
 Relives true one old new =
     (settings : Settings) (log : List Happening) → Stands settings log old → old.line_up ≡ true
     → (happened : List Happening) × Happens settings.currency one happened × Stands settings (log ++ happened) new × (new.line_up ≡ true)
 Relives false one old new =
     (settings : Settings) (log happened : List Happening) → Stands settings log old → Happens settings.currency one happened → IsLog settings (log ++ happened) → ⊥
+
+-- A till replayed a record, and so did one that settles; or no till can have this record.
+abbrev pub Replays : Bool → Kept → (old new : TillState) → (before after : Both) → Type 0
+Replays true one old new before after =
+    Relives true one old new × ((currency : ℕ) → (notes : List Note) × Means currency one notes × CanTakeAll before notes × (after ≡ fold take before notes))
+Replays false one old new before after =
+    (settings : Settings) (log happened : List Happening) (notes : List Note) → Stands settings log old → before.till ≡ old
+    → Happens settings.currency one happened → IsLog settings (log ++ happened) → Means settings.currency one notes → CanTakeAll before notes → ⊥

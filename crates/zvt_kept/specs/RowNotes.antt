@@ -6,7 +6,7 @@ use Rattle.zvt_till.specs.declared.orders.Order.TheVariants.{Register, Pay, Reve
 use Rattle.zvt_till.specs.Sending.{Settings}
 use Rattle.zvt_till.specs.Till.{TillState}
 use Rattle.zvt_till.specs.TillHistory.{Stands}
-use Rattle.zvt_kept.specs.Records.{Kept, ordered, heard, lost, kept_in}
+use Rattle.zvt_kept.specs.Records.{Kept, ordered, asked, heard, lost, kept_in}
 use Rattle.zvt_kept.specs.Logs.{HappenAll}
 
 -- the state of a till after replaying these records; its line is up before the first of them
@@ -22,6 +22,7 @@ is_payment (ordered (Pay amount) note) = true
 is_payment (ordered (Reverse entry) note) = false
 is_payment (ordered CloseDay note) = false
 is_payment (ordered Cancel note) = false
+is_payment (asked note) = false
 is_payment (heard message) = false
 is_payment lost = false
 
@@ -78,6 +79,7 @@ payment_note before (ordered (Pay amount) note) = note
 payment_note before (ordered (Reverse entry) note) = before
 payment_note before (ordered CloseDay note) = before
 payment_note before (ordered Cancel note) = before
+payment_note before (asked note) = before
 payment_note before (heard message) = before
 payment_note before lost = before
 

@@ -25,5 +25,5 @@ pub use laws::{
 };
 pub use lines::{RecordError, read_records};
 pub use note::{MAX_REFERENCE_LEN, Note, is_reference};
-pub use records::{Entry, put_heard, put_lost, put_opening, put_order};
+pub use records::{Entry, put_ask, put_heard, put_lost, put_opening, put_order};
 pub use recovery::{Recovered, RecoveryError, recover};

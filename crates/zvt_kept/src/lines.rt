@@ -9,7 +9,7 @@ ghost use Rattle.zvt_kept.specs.declared.lines.RecordError.TheVariants.{Memory};
 
 use crate::check::{first_wrong_check, is_sent};
 use crate::records::Entry;
-use crate::words::{is_reserved, order_of};
+use crate::words::{entry_of, is_reserved};
 use hex::FromHexError;
 use std::alloc::{AllocError, Global};
 use thiserror::Error;
@@ -115,7 +115,7 @@ fn read_line(alloc: Global, line: &[u8]) -> Result<Meaning, AllocError>
 /// The first words of a journal.
 const FORMAT_NAME: &[u8] = b"zvt journal 1";
 
-/// Reads a comment, after its sign: an order, a check, the opening of a journal, or a remark.
+/// Reads a comment, after its sign: an order, an ask, a check, the opening of a journal, or a remark.
 fn comment(text: &[u8]) -> Meaning
     ensures { meant_by result ≡ comment text.now }
 {
@@ -127,7 +127,7 @@ fn comment(text: &[u8]) -> Meaning
     if !is_reserved(words) {
         return Meaning::Nothing;
     }
-    if let Some(entry) = order_of(words) {
+    if let Some(entry) = entry_of(words) {
         return Meaning::Kept(entry);
     }
     match trailing(FORMAT_NAME, words) {

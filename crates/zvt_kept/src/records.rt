@@ -3,7 +3,8 @@ ghost use Rattle.std.specs.Prelude.{◌≡◌, ◌++◌, ◌<◌, ◌≤◌, ◌
 ghost use Rattle.zvt_journal.specs.Files.{rule_words};
 ghost use Rattle.zvt_journal.specs.Text.{IsRecord};
 ghost use Rattle.zvt_kept.specs.Reading.{Extends};
-ghost use Rattle.zvt_kept.specs.Records.{IsRecordOf, IsSpelledOrder, heard, heard_lines, heard_record, kept_in};
+ghost use Rattle.zvt_kept.specs.Records.{IsRecordOf, IsSpelledOrder, ask_lines, ask_record, asked, heard};
+ghost use Rattle.zvt_kept.specs.Records.{heard_lines, heard_record, kept_in};
 ghost use Rattle.zvt_kept.specs.Records.{ordered, lost_record, one_or_none, opening, order_line, order_lines};
 ghost use Rattle.zvt_kept.specs.Records.{order_record, order_words, sent_lines};
 
@@ -14,11 +15,16 @@ use zvt_bcd::Currency;
 use zvt_text::{Text, hexadecimal};
 use zvt_till::Order;
 
+/// The message of an ask, as journals have it: without its password.
+const MASKED_ASK: [u8; 6] = [0x06, 0x20, 0x03, 0, 0, 0];
+
 /// An entry of a journal.
 #[derive(Drop)]
 pub enum Entry {
     /// An order of the till, and the note in its record.
     Order { order: Order, note: Note },
+    /// An ask of the till what became of an unclear order, with the note in its record.
+    Ask(Note),
     /// The bytes of one message of the terminal.
     Heard(Vec<u8>),
     /// The connection was lost.
@@ -59,6 +65,28 @@ fn put_order_line(text: &mut Text, order: &Order, note: &[u8]) -> Result<(), All
     put_words(text, order)?;
     text.word(note)?;
     text.push(b'\n')
+}
+
+/// Writes an ask with its note, and the bytes that are sent for it, with 00 00 00 instead of the password. After `Err` a
+/// prefix of the record is written.
+pub fn put_ask(text: &mut Text, note: &Note) -> Result<(), AllocError>
+    ensures written { Extends result text.old text.new (ask_record note.now) }
+    ensures kept { IsRecordOf (asked note.now) (ask_record note.now) }
+    ensures few { length note.now ≤ 69 }
+{
+    let start = text.size();
+    put_ask_lines(text, note.words())?;
+    put_check(text, start)
+}
+
+/// Writes the lines of an ask, without their check. After `Err` a prefix of them is written.
+fn put_ask_lines(text: &mut Text, note: &[u8]) -> Result<(), AllocError>
+    ensures { Extends result text.old text.new (ask_lines note.now) }
+{
+    text.word(b"# ask")?;
+    text.word(note)?;
+    text.push(b'\n')?;
+    put_sent(text, &MASKED_ASK)
 }
 
 /// Writes a message of the terminal and the bytes of all replies to it. After `Err` a prefix of the record is written.

@@ -2,11 +2,13 @@
 ghost use Rattle.std.specs.Prelude.{◌≡◌, ◌↔◌, ℕ, List, Err, IsTrue, IfOk, MatchResult, Ok};
 ghost use Rattle.zvt_kept.specs.Reading.{kept_of};
 ghost use Rattle.zvt_kept.specs.Logs.{HasOpening};
-ghost use Rattle.zvt_kept.specs.Records.{heard, ordered};
-ghost use Rattle.zvt_kept.specs.Recovery.{Recovers, Relives};
+ghost use Rattle.zvt_kept.specs.Records.{asked, heard, ordered};
+ghost use Rattle.zvt_kept.specs.Recovery.{HasSettled, Recovers, Replays};
 ghost use Rattle.zvt_kept.specs.RowNotes.{HasNotes};
 ghost use Rattle.zvt_kept.specs.declared.recovery.RecoveryError.TheVariants.{Memory};
+ghost use Rattle.zvt_settle.specs.Inside.{both_of};
 ghost use Rattle.zvt_till.specs.Settings.{settings_of};
+ghost use Rattle.zvt_till.specs.Till.{TillState};
 
 use crate::lines::{RecordError, read_records};
 use crate::note::Note;
@@ -16,6 +18,7 @@ use std::alloc::{AllocError, Global};
 use thiserror::Error;
 use zvt_apdu::scan_loose;
 use zvt_grammar::Scan;
+use zvt_settle::SettlingTill;
 use zvt_text::Text;
 use zvt_text::words::trailing;
 use zvt_till::{Order, OrderRefusal, Till, TillSettings, heard};
@@ -32,8 +35,8 @@ pub enum RecoveryError {
     /// This line, counted from 1, is a check that does not match the record before it.
     #[error("line {number} of the book is not the check of its record: the file was changed or damaged")]
     Check { number: usize },
-    /// This record, counted from 1, is the first that cannot follow the records before it: the till refuses its order,
-    /// or its bytes are not one message.
+    /// This record, counted from 1, is the first that cannot follow the records before it: the till refuses its order or
+    /// ask, or its bytes are not one message.
     #[error("record {number} of the book contradicts the records before it")]
     Record { number: usize },
     /// An allocation failed.
@@ -54,6 +57,8 @@ impl From<AllocError> for RecoveryError {
 pub struct Recovered {
     /// The till, which is not connected.
     pub till: Till,
+    /// The same till as one that settles: what the asks of the journal have settled, and what is pending.
+    pub settling: SettlingTill,
     /// The note of each payment in the till's book, in the order of the book.
     pub booked: Vec<Note>,
     /// The note of each unclear payment, in the order of [`Till::unclear`].
@@ -74,6 +79,8 @@ pub fn recover(
 ) -> Result<Recovered, RecoveryError>
     ensures till { MatchResult result (λ recovered. Recovers (settings_of settings.now) text.now (Ok recovered.till))
         (λ why. Recovers (settings_of settings.now) text.now (Err why)) }
+    ensures settling { IfOk result (λ recovered. HasSettled (settings_of settings.now) text.now
+        (both_of recovered.settling)) }
     ensures notes { IfOk result (λ recovered. HasNotes (settings_of settings.now) text.now recovered.till.state
         recovered.booked.items recovered.unclear.items) }
 {
@@ -88,18 +95,22 @@ pub fn recover(
     };
     let mut till = Till::with_settings(alloc, settings);
     till.connected();
+    let mut settling = SettlingTill::new(alloc, Till::with_settings(alloc, settings));
+    settling.connected();
     let mut notes = RowNotes::new(alloc);
     for (at, entry) in entries.iter().enumerate() {
         notes.hold(entry);
-        if !relive(alloc, &mut till, entry)? {
+        if !relive(alloc, &mut till, &mut settling, entry)? {
             return Err(RecoveryError::Record { number: at + 1 });
         }
         notes.follow(&till)?;
     }
     let _ = till.lost();
+    let _ = settling.lost();
     notes.follow(&till)?;
     Ok(Recovered {
         till,
+        settling,
         booked: notes.booked,
         unclear: notes.unclear,
     })
@@ -115,27 +126,56 @@ fn has_opening(alloc: Global, text: &[u8], settings: &TillSettings) -> Result<bo
     Ok(trailing(opening.bytes(), text).is_some())
 }
 
-/// Replays an entry. Returns whether the till accepts it; if not, do not use the till again.
-fn relive(alloc: Global, till: &mut Till, entry: &Entry) -> Result<bool, AllocError>
-    ensures { IfOk result (λ can. Relives can (kept_of entry.now) till.old.state till.new.state) }
+/// Replays an entry. Returns whether the till accepts it; if not, do not use either till again.
+fn relive(
+    alloc: Global,
+    till: &mut Till,
+    settling: &mut SettlingTill,
+    entry: &Entry,
+) -> Result<bool, AllocError>
+    ensures { IfOk result (λ can. Replays can (kept_of entry.now) till.old.state till.new.state (both_of settling.old)
+        (both_of settling.new)) }
 {
     match entry {
-        Entry::Order { order, .. } => relive_order(till, order),
-        Entry::Heard(message) => relive_message(alloc, till, message),
+        Entry::Order { order, .. } => relive_order(till, settling, order),
+        Entry::Ask(_) => relive_ask(settling),
+        Entry::Heard(message) => relive_message(alloc, till, settling, message),
         Entry::Lost => {
             let _ = till.lost();
             till.connected();
+            let _ = settling.lost();
+            settling.connected();
             Ok(true)
         }
     }
 }
 
 /// Replays an order. Returns whether the till accepts it.
-fn relive_order(till: &mut Till, order: &Order) -> Result<bool, AllocError>
-    ensures { IfOk result (λ can. (note : List ℕ) → Relives can (ordered order.now note) till.old.state
-        till.new.state) }
+fn relive_order(
+    till: &mut Till,
+    settling: &mut SettlingTill,
+    order: &Order,
+) -> Result<bool, AllocError>
+    ensures { IfOk result (λ can. (note : List ℕ) → Replays can (ordered order.now note) till.old.state till.new.state
+        (both_of settling.old) (both_of settling.new)) }
 {
-    match till.order(*order) {
+    match settling.order(*order) {
+        Ok(_) => match till.order(*order) {
+            Ok(_) => Ok(true),
+            Err(why) if why == OrderRefusal::Memory => Err(AllocError),
+            Err(_) => Ok(false),
+        },
+        Err(why) if why == OrderRefusal::Memory => Err(AllocError),
+        Err(_) => Ok(false),
+    }
+}
+
+/// Replays an ask. Returns whether the till accepts it.
+fn relive_ask(settling: &mut SettlingTill) -> Result<bool, AllocError>
+    ensures { IfOk result (λ can. (note : List ℕ) (state : TillState) → Replays can (asked note) state state
+        (both_of settling.old) (both_of settling.new)) }
+{
+    match settling.ask() {
         Ok(_) => Ok(true),
         Err(why) if why == OrderRefusal::Memory => Err(AllocError),
         Err(_) => Ok(false),
@@ -143,8 +183,14 @@ fn relive_order(till: &mut Till, order: &Order) -> Result<bool, AllocError>
 }
 
 /// Replays a message. Returns whether the bytes are exactly one message.
-fn relive_message(alloc: Global, till: &mut Till, bytes: &[u8]) -> Result<bool, AllocError>
-    ensures { IfOk result (λ can. Relives can (heard bytes.now) till.old.state till.new.state) }
+fn relive_message(
+    alloc: Global,
+    till: &mut Till,
+    settling: &mut SettlingTill,
+    bytes: &[u8],
+) -> Result<bool, AllocError>
+    ensures { IfOk result (λ can. Replays can (heard bytes.now) till.old.state till.new.state (both_of settling.old)
+        (both_of settling.new)) }
 {
     let Scan::Whole((apdu, size)) = scan_loose(alloc, bytes)? else {
         return Ok(false);
@@ -152,6 +198,7 @@ fn relive_message(alloc: Global, till: &mut Till, bytes: &[u8]) -> Result<bool, 
     if size != bytes.len() {
         return Ok(false);
     }
+    let _ = settling.hear(heard(&apdu));
     let _ = till.hear(heard(&apdu));
     Ok(true)
 }

@@ -1,8 +1,8 @@
 //! Reads the words of a comment.
 ghost use Rattle.std.specs.Prelude.{◌≡◌, ◌≤◌, ◌-◌, ℕ, IfSome, List, length, option_map};
 ghost use Rattle.zvt_kept.specs.Reading.{kept_of};
-ghost use Rattle.zvt_kept.specs.Records.{begins_with, ends_word, is_reserved, noted_digits, number_of, order_of, plain};
-ghost use Rattle.zvt_kept.specs.Records.{with_number};
+ghost use Rattle.zvt_kept.specs.Records.{asked, begins_with, ends_word, entry_of, is_reserved, noted_digits};
+ghost use Rattle.zvt_kept.specs.Records.{number_of, ordered, plain, with_number};
 
 use crate::note::Note;
 use crate::records::Entry;
@@ -13,7 +13,7 @@ use zvt_till::Order;
 /// Maximum number of digits in a number.
 const MAX_DIGITS: usize = 12;
 
-/// Returns whether the first word begins an order or the opening of a journal.
+/// Returns whether the first word begins an order, an ask or the opening of a journal.
 pub(crate) fn is_reserved(words: &[u8]) -> bool
     ensures { result ≡ is_reserved words.now }
 {
@@ -22,6 +22,7 @@ pub(crate) fn is_reserved(words: &[u8]) -> bool
         || begins_with(b"reverse", words)
         || begins_with(b"close", words)
         || begins_with(b"cancel", words)
+        || begins_with(b"ask", words)
         || begins_with(b"zvt", words)
 }
 
@@ -45,9 +46,9 @@ fn ends_word(rest: &[u8]) -> bool
     }
 }
 
-/// Reads the order that the words name, with the note after it.
-pub(crate) fn order_of(words: &[u8]) -> Option<Entry>
-    ensures { option_map kept_of result ≡ order_of words.now }
+/// Reads the order or the ask that the words name, with the note after it.
+pub(crate) fn entry_of(words: &[u8]) -> Option<Entry>
+    ensures { option_map kept_of result ≡ entry_of words.now }
 {
     if let Some(rest) = trailing(b"register", words) {
         return plain(Order::Register, rest);
@@ -57,6 +58,9 @@ pub(crate) fn order_of(words: &[u8]) -> Option<Entry>
     }
     if let Some(rest) = trailing(b"cancel", words) {
         return plain(Order::Cancel, rest);
+    }
+    if let Some(rest) = trailing(b"ask", words) {
+        return ask(rest);
     }
     if let Some(tail) = trailing(b"pay ", words) {
         return payment(tail);
@@ -85,10 +89,17 @@ fn reversal(tail: &[u8]) -> Option<Entry>
 
 /// Reads the note of an order without a number.
 fn plain(order: Order, rest: &[u8]) -> Option<Entry>
-    ensures { option_map kept_of result ≡ plain order rest.now }
+    ensures { option_map kept_of result ≡ plain (ordered order) rest.now }
 {
     let note = Note::read(rest)?;
     Some(Entry::Order { order, note })
+}
+
+/// Reads the note of an ask.
+fn ask(rest: &[u8]) -> Option<Entry>
+    ensures { option_map kept_of result ≡ plain asked rest.now }
+{
+    Some(Entry::Ask(Note::read(rest)?))
 }
 
 /// Returns the first word, and the note after it.

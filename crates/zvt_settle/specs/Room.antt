@@ -4,6 +4,10 @@ use Rattle.std.specs.Option.{ForSome}
 use Rattle.std.specs.Global.{Vec}
 use Rattle.zvt_settle.specs.declared.deciding.Settlement.{Settlement}
 
--- while an ask runs, there is room for what it settles
+-- there is room for what an ask settles
+abbrev pub CanSettle : Vec Settlement → Type 0
+CanSettle settled = vec_len settled < vec_capacity settled
+
+-- this holds while an ask runs
 abbrev pub HasRoom : Option Bool → Vec Settlement → Type 0
-HasRoom asking settled = ForSome asking (λ positive. vec_len settled < vec_capacity settled)
+HasRoom asking settled = ForSome asking (λ positive. CanSettle settled)

@@ -37,6 +37,35 @@ pub enum Settlement {
     NotReversed(usize),
 }
 
+impl Settlement {
+    ghost use Rattle.std.specs.Prelude.{◌≡◌};
+    ghost use Rattle.zvt_settle.specs.Names.{settlement_name, settlement_words};
+
+    /// Returns the name of the settlement as every output writes it.
+    pub fn name(self) -> &'static str
+        ensures { result.now ≡ settlement_name self }
+    {
+        match self {
+            Settlement::Paid(..) => "Paid",
+            Settlement::NotPaid(_) => "NotPaid",
+            Settlement::Reversed(_) => "Reversed",
+            Settlement::NotReversed(_) => "NotReversed",
+        }
+    }
+
+    /// Returns a sentence that says what became of the order.
+    pub fn words(self) -> &'static str
+        ensures { result.now ≡ settlement_words self }
+    {
+        match self {
+            Settlement::Paid(..) => "the terminal took the payment",
+            Settlement::NotPaid(_) => "the terminal did not take the payment",
+            Settlement::Reversed(_) => "the terminal reversed the payment",
+            Settlement::NotReversed(_) => "the terminal did not reverse the payment",
+        }
+    }
+}
+
 /// The status informations since the last order or ask.
 #[derive(Clone, Copy, Debug, PartialEq, Eq)]
 pub enum StatusSoFar {

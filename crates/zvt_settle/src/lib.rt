@@ -2,10 +2,14 @@
 #![tactic(auto)]
 
 mod answers;
+mod asking;
 mod deciding;
 pub mod laws;
+mod line;
 mod machine;
 mod settling;
 
+pub use asking::Asker;
 pub use deciding::{Pending, Settlement, StatusSoFar, What};
+pub use line::run_ask;
 pub use settling::SettlingTill;

@@ -5,6 +5,7 @@
 //! stands beside the book.
 ghost use Rattle.zvt_settle.specs.Room.{HasRoom};
 
+mod ordering;
 mod steps;
 
 use crate::deciding::{Pending, Settlement, StatusSoFar};

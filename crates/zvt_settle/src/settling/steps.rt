@@ -1,4 +1,4 @@
-//! The orders, asks and messages of a till that settles.
+//! The messages of a till that settles.
 ghost use Rattle.std.specs.Prelude.{◌≡◌};
 
 use super::SettlingTill;
@@ -6,29 +6,26 @@ use crate::answers::{
     answer_by, did_not, has_counted, has_trace, is_positive, opened_by, taken_back,
 };
 use crate::deciding::{Pending, Settlement, StatusSoFar, What, approved_as, is_same};
-use std::alloc::{AllocError, Global};
+use std::alloc::Global;
 use zvt_bcd::Trace;
-use zvt_till::{
-    Happening, Heard, Order, OrderRefusal, Outcome, Outgoing, Reply, StatusFacts, Till, ends,
-};
+use zvt_till::{Happening, Heard, Order, Outcome, Reply, StatusFacts, Till, ends};
 
 impl SettlingTill {
     ghost use Rattle.std.specs.Prelude.{◌≡◌, ◌⊎◌, true, IsSome, if◌then◌else◌, IsTrue, IsFalse, Some, None, nat_eq};
-    ghost use Rattle.std.specs.Prelude.{IfOk, IfErr, OnOk, OnErr};
     ghost use Rattle.std.specs.List.{list_any};
     ghost use Rattle.std.specs.Option.{is_some};
-    ghost use Rattle.zvt_till.specs.Refusals.{refusal};
-    ghost use Rattle.zvt_till.specs.Sending.{message_of, reply_to};
-    ghost use Rattle.zvt_till.specs.Till.{accept, facts_of, step, outcome_at};
+    ghost use Rattle.zvt_till.specs.Line.{till_loses, till_malforms};
+    ghost use Rattle.zvt_till.specs.Sending.{reply_to};
+    ghost use Rattle.zvt_till.specs.Till.{outcome_at};
     ghost use Rattle.zvt_settle.specs.Deciding.{decision};
-    ghost use Rattle.zvt_settle.specs.Inside.{both_of, settling_of};
-    ghost use Rattle.zvt_settle.specs.Settling.{Line, Asked, take, new_settling, used_traces, noted, ended_as, sent};
-    ghost use Rattle.zvt_settle.specs.Settling.{asked, unasked, meets, decided, answered, ask_refusal, ask_bytes};
-    ghost use Rattle.zvt_settle.specs.Settling.{IsOrderRefusal};
+    ghost use Rattle.zvt_settle.specs.Inside.{both_of, settling_of, till_inside, connects_inside, hears_inside};
+    ghost use Rattle.zvt_settle.specs.Settling.{Line, take, new_settling, used_traces, noted, ended_as};
+    ghost use Rattle.zvt_settle.specs.Settling.{asked, unasked, meets, decided, answered};
 
     /// Creates a till with nothing to settle.
     pub fn new(alloc: Global, till: Till) -> SettlingTill
-        ensures { both_of result ≡ record { till = till.state; settling = new_settling } }
+        ensures both { both_of result ≡ record { till = till.state; settling = new_settling } }
+        ensures inside { till_inside result ≡ till }
     {
         SettlingTill {
             till,
@@ -66,6 +63,14 @@ impl SettlingTill {
         ensures { result ≡ is_some (settling_of self.now).pending }
     {
         self.pending.is_some()
+    }
+
+    /// Returns whether the status of the terminal's last transaction is known. Only then can an answer settle an order
+    /// that becomes unclear.
+    pub fn knows_last(&self) -> bool
+        ensures { result ≡ is_some (settling_of self.now).last }
+    {
+        self.last.is_some()
     }
 
     /// Returns whether an entry of the book, or a payment that was settled as paid, has this trace number.
@@ -173,90 +178,10 @@ impl SettlingTill {
         }
     }
 
-    /// Notes that an order was sent.
-    fn sent(&mut self, order: &Order)
-        ensures settling { settling_of self.new ≡ sent (settling_of self.old) order.now }
-        ensures till { self.new.till ≡ self.old.till }
-    {
-        match order {
-            Order::Cancel => return,
-            Order::Register => {}
-            Order::Pay(_) | Order::Reverse(_) => self.pending = None,
-            Order::CloseDay => {
-                self.pending = None;
-                self.last = None;
-            }
-        }
-        self.so_far = StatusSoFar::Nothing;
-    }
-
-    /// Gives the till an order. If this is a payment, a reversal or an end of day, a pending order stays unclear for
-    /// good.
-    ///
-    /// Fails as the till does, and with `Busy` while an ask is running. Then nothing changes.
-    pub fn order(&mut self, order: Order) -> Result<Outgoing, OrderRefusal>
-        ensures sent { OnOk result (both_of self.new ≡ record {
-          till = accept self.old.till.state order;
-          settling = sent (settling_of self.old) order;
-        }) }
-        ensures taken { IfOk result (λ message. refusal (facts_of self.old.till.state) order ≡ None) }
-        ensures message { IfOk result (λ message. message_of self.old.till.state.settings self.old.till.state.book
-            order ≡ Some message) }
-        ensures refused { IfErr result (λ why. IsOrderRefusal self.old.asking (facts_of self.old.till.state)
-            self.old.till.spare order why) }
-        ensures idle { OnOk result ((settling_of self.old).asking ≡ None) }
-        ensures unchanged { OnErr result (both_of self.new ≡ both_of self.old) }
-    {
-        if self.asking.is_some() {
-            return Err(OrderRefusal::Busy);
-        }
-        match self.till.order(order) {
-            Ok(outgoing) => {
-                self.sent(&order);
-                Ok(outgoing)
-            }
-            Err(why) => Err(why),
-        }
-    }
-
-    /// Asks the terminal to repeat its last receipt, and returns the message to send: 06 20 with the password
-    /// (PA00P015, Repeat Receipt).
-    ///
-    /// Fails with `Offline`, `NotRegistered` or `Busy` as an end of day does, with `Busy` while an ask is running, and
-    /// with `Memory` if there is no room for what the answer settles. Then nothing changes.
-    pub fn ask(&mut self) -> Result<[u8; 6], OrderRefusal>
-        ensures asked { OnOk result (both_of self.new ≡ take (both_of self.old) Asked) }
-        ensures taken { IfOk result (λ bytes. ask_refusal (facts_of self.old.till.state)
-            (settling_of self.old).asking ≡ None) }
-        ensures refused { IfErr result (λ why. (why ≡ OrderRefusal.Memory)
-            ⊎ (ask_refusal (facts_of self.old.till.state) (settling_of self.old).asking ≡ Some why)) }
-        ensures unchanged { OnErr result (both_of self.new ≡ both_of self.old) }
-        ensures bytes { IfOk result (λ bytes. bytes ≡ ask_bytes self.old.till.state.settings.password) }
-    {
-        if !self.till.line_up() && self.asking.is_none() {
-            return Err(OrderRefusal::Offline);
-        }
-        if self.asking.is_some() {
-            return Err(OrderRefusal::Busy);
-        }
-        if !self.till.registered() {
-            return Err(OrderRefusal::NotRegistered);
-        }
-        if self.till.running().is_some() {
-            return Err(OrderRefusal::Busy);
-        }
-        if let Err(AllocError) = self.settled.reserve(1) {
-            return Err(OrderRefusal::Memory);
-        }
-        self.asking = Some(false);
-        self.so_far = StatusSoFar::Nothing;
-        let password = self.till.password();
-        Ok([0x06, 0x20, 0x03, password[0], password[1], password[2]])
-    }
-
     /// Notifies the till that it is connected.
     pub fn connected(&mut self)
-        ensures { both_of self.new ≡ take (both_of self.old) (Line Happening.Connected) }
+        ensures both { both_of self.new ≡ take (both_of self.old) (Line Happening.Connected) }
+        ensures inside { connects_inside self.old.till self.new.till }
     {
         self.till.connected();
     }
@@ -264,7 +189,7 @@ impl SettlingTill {
     /// Passes a message to the till while no ask is running.
     fn pass_on(&mut self, heard: Heard) -> Reply
         requires { self.old.till.state.line_up ≡ true }
-        ensures till { self.new.till.state ≡ step self.old.till.state (Happening.Heard heard) }
+        ensures inside { hears_inside self.old.till heard self.new.till }
         ensures settling { settling_of self.new ≡ unasked self.old.till.state (settling_of self.old)
             (Happening.Heard heard) }
         ensures send { result.send ≡ reply_to heard }
@@ -297,6 +222,7 @@ impl SettlingTill {
     /// ended it.
     pub fn hear(&mut self, heard: Heard) -> Reply
         ensures both { both_of self.new ≡ take (both_of self.old) (Line (Happening.Heard heard)) }
+        ensures inside { hears_inside self.old.till heard self.new.till }
         ensures send { result.send ≡ (if self.old.till.state.line_up then reply_to heard else None) }
         ensures outcome { result.outcome ≡ (if self.old.till.state.line_up then outcome_at self.old.till.state
             (Happening.Heard heard) else None) }
@@ -315,6 +241,7 @@ impl SettlingTill {
     /// Notifies the till that the connection was lost. A running order or ask ends with it.
     pub fn lost(&mut self) -> Option<Outcome>
         ensures both { both_of self.new ≡ take (both_of self.old) (Line Happening.Lost) }
+        ensures inside { till_loses self.old.till self.new.till }
         ensures outcome { result ≡ outcome_at self.old.till.state Happening.Lost }
     {
         let order = self.till.running();
@@ -331,6 +258,7 @@ impl SettlingTill {
     /// Gives up the line because its bytes were not a message. A running order or ask ends with it.
     pub fn malformed(&mut self) -> Option<Outcome>
         ensures both { both_of self.new ≡ take (both_of self.old) (Line Happening.Malformed) }
+        ensures inside { till_malforms self.old.till self.new.till }
         ensures outcome { result ≡ outcome_at self.old.till.state Happening.Malformed }
     {
         let order = self.till.running();

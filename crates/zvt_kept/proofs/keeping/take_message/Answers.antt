@@ -8,7 +8,8 @@ use Rattle.zvt_till.specs.Sending.{reply_to}
 use Rattle.zvt_till.specs.Till.{step}
 use Rattle.zvt_kept.specs.Records.{heard}
 use Rattle.zvt_kept.specs.KeptTill.{Standing, message_heard}
-use Rattle.zvt_kept.proofs.Logged.{outlives}
+use Rattle.zvt_journal.specs.Text.{recovered}
+use Rattle.zvt_kept.proofs.Logged.{heard_can, outlives}
 use Rattle.zvt_kept.proofs.Made.{records_are_kept}
 use Rattle.zvt_kept.proofs.Steps.{heard_follows, logs_one}
 use Rattle.zvt_kept.proofs.keeping.take_message.Goals as goal
@@ -27,8 +28,8 @@ returns-in-Ok g c =
     record {
       up = c.requires.up;
       heard = (goes, subst (λ o. Answers o c.answers_to-answers.result) replied c.answers_to-answers.ensures.answers, c.hear.ensures.room, named, c.hear.ensures.heard);
-      logs = logs_one V.seen V.may_leave V.moment V.left_since V.faults old new (heard kept.0) kept.2.added (λ settings. hears m) c.requires.up (λ settings. refl) (heard_follows state c.requires.up) (λ settings. goes) kept.2.is (λ settings. (m, kept.1, refl)) kept.2.adds.durable.0 kept.2.adds.durable.1;
-      outlives = outlives records_are_kept V.seen V.may_leave V.moment V.left_since V.faults old new (heard kept.0) kept.2.added (message_heard V.seen V.may_leave V.moment V.left_since V.faults m) kept.2.is (λ settings. (m, kept.1, refl)) kept.2.adds.leaves;
+      logs = logs_one V.seen V.may_leave V.moment V.left_since V.faults old new (heard kept.0) kept.2.added (λ settings. hears m) c.requires.up (λ settings. refl) (heard_follows state c.requires.up) (λ settings. goes) kept.2.is (λ settings. (m, kept.1, refl)) (λ settings log has. heard_can settings (recovered (V.seen old.device)) log m kept.0 kept.1 has.recorded) kept.2.adds.durable.0 kept.2.adds.durable.1;
+      outlives = outlives records_are_kept V.seen V.may_leave V.moment V.left_since V.faults old new (heard kept.0) kept.2.added (message_heard V.seen V.may_leave V.moment V.left_since V.faults m) kept.2.is (λ settings. (m, kept.1, refl)) (λ settings log has. heard_can settings (recovered (V.seen old.device)) log m kept.0 kept.1 has.recorded) kept.2.adds.leaves;
       later = kept.2.adds.later;
     }
 
@@ -44,5 +45,5 @@ returns-in-Err g c =
       stays = kept.2.adds.stays;
       up = c.requires.up;
       lost = (c.lost.ensures.state, c.lost.ensures.room, c.lost.ensures.numbers, c.lost.ensures.heard);
-      outlives = outlives records_are_kept V.seen V.may_leave V.moment V.left_since V.faults old new (heard kept.0) kept.2.added (message_heard V.seen V.may_leave V.moment V.left_since V.faults m) kept.2.is (λ settings. (m, kept.1, refl)) kept.2.adds.leaves;
+      outlives = outlives records_are_kept V.seen V.may_leave V.moment V.left_since V.faults old new (heard kept.0) kept.2.added (message_heard V.seen V.may_leave V.moment V.left_since V.faults m) kept.2.is (λ settings. (m, kept.1, refl)) (λ settings log has. heard_can settings (recovered (V.seen old.device)) log m kept.0 kept.1 has.recorded) kept.2.adds.leaves;
     }

@@ -1,7 +1,8 @@
 use Rattle.std.proofs.Common.{◌≡◌, Some, is_some, false, inr, refl, sym, ◌∙◌, subst}
 use Rattle.zvt_kept.specs.Records.{lost}
 use Rattle.zvt_kept.specs.KeptTill.{FailsOnlyBy, KeptValue, NewLine, Outlives, Standing, has_failed, line_changed}
-use Rattle.zvt_kept.proofs.Logged.{outlives}
+use Rattle.zvt_journal.specs.Text.{recovered}
+use Rattle.zvt_kept.proofs.Logged.{lost_can, outlives}
 use Rattle.zvt_kept.proofs.Made.{records_are_kept}
 use Rattle.zvt_kept.proofs.Steps.{kept_on, logs_line}
 use Rattle.zvt_kept.proofs.kept_till.KeptTill.connected.Goals as goal
@@ -15,7 +16,7 @@ returns-in-Err g c =
     let kept = c.keep_lost.ensures in
     inr
     (subst (λ (v : KeptValue g.row.D.Denot). (has_failed v ≡ false) × (Some c.in-Err.why ≡ Some c.in-Err.why) × (k.till ≡ v.standing.till) × FailsOnlyBy V.seen V.may_leave V.moment V.left_since V.faults c.in-Err.why v.standing new × (new.gate ≡ v.standing.gate) × Outlives V.seen V.may_leave V.moment V.left_since V.faults (line_changed V.seen V.may_leave V.moment V.left_since V.faults) v.standing new) c.self.view_is
-    (sym c.is_some.ensures ∙ c.if-is_some.false, refl, refl, c.in-Err.ensures.adds.cause, c.in-Err.ensures.adds.stays, outlives records_are_kept V.seen V.may_leave V.moment V.left_since V.faults old new lost kept.added (line_changed V.seen V.may_leave V.moment V.left_since V.faults) kept.is (λ settings. refl) kept.adds.leaves))
+    (sym c.is_some.ensures ∙ c.if-is_some.false, refl, refl, c.in-Err.ensures.adds.cause, c.in-Err.ensures.adds.stays, outlives records_are_kept V.seen V.may_leave V.moment V.left_since V.faults old new lost kept.added (line_changed V.seen V.may_leave V.moment V.left_since V.faults) kept.is (λ settings. refl) (λ settings log has. lost_can settings (recovered (V.seen old.device)) log has.recorded) kept.adds.leaves))
 
 pub invariant_of-self-2 : goal.invariant_of-self-2
 invariant_of-self-2 g c =
@@ -26,7 +27,7 @@ invariant_of-self-2 g c =
     let kept = c.in_default.ensures in
     let down = sym c.line_up.ensures ∙ c.if-line_up.false in
     kept_on V.seen V.may_leave V.moment V.left_since V.faults (is_some k.failure) (line_changed V.seen V.may_leave V.moment V.left_since V.faults) old new (sym c.is_some.ensures ∙ c.if-is_some.false)
-    (logs_line V.seen V.may_leave V.moment V.left_since V.faults old new lost kept.added down c.connected.ensures.state kept.is (λ settings. refl) kept.adds.durable.0 kept.adds.durable.1) c.self.invariant
+    (logs_line V.seen V.may_leave V.moment V.left_since V.faults old new lost kept.added down c.connected.ensures.state kept.is (λ settings. refl) (λ settings log has. lost_can settings (recovered (V.seen old.device)) log has.recorded) kept.adds.durable.0 kept.adds.durable.1) c.self.invariant
 
 pub returns : goal.returns
 returns g c =
@@ -40,8 +41,8 @@ returns g c =
       state = c.connected.ensures.state;
       numbers = c.connected.ensures.numbers;
       heard = c.connected.ensures.heard;
-      logs = logs_line V.seen V.may_leave V.moment V.left_since V.faults old new lost kept.added down c.connected.ensures.state kept.is (λ settings. refl) kept.adds.durable.0 kept.adds.durable.1;
-      outlives = outlives records_are_kept V.seen V.may_leave V.moment V.left_since V.faults old new lost kept.added (line_changed V.seen V.may_leave V.moment V.left_since V.faults) kept.is (λ settings. refl) kept.adds.leaves;
+      logs = logs_line V.seen V.may_leave V.moment V.left_since V.faults old new lost kept.added down c.connected.ensures.state kept.is (λ settings. refl) (λ settings log has. lost_can settings (recovered (V.seen old.device)) log has.recorded) kept.adds.durable.0 kept.adds.durable.1;
+      outlives = outlives records_are_kept V.seen V.may_leave V.moment V.left_since V.faults old new lost kept.added (line_changed V.seen V.may_leave V.moment V.left_since V.faults) kept.is (λ settings. refl) (λ settings log has. lost_can settings (recovered (V.seen old.device)) log has.recorded) kept.adds.leaves;
       later = kept.adds.later;
     } in
     inr
