@@ -1,11 +1,20 @@
-//! A payment whose line broke, and the ask that settles it.
+//! A payment whose line broke, and the ask that settles it: message by message, and over a line.
 use crate::assertions::assert_equal;
 use std::alloc::Global;
 use std::process::Abort;
 use std::test::Fail;
 use zvt_bcd::{Amount, Trace};
-use zvt_settle::{Settlement, SettlingTill};
+use zvt_io::Over;
+use zvt_settle::{Settlement, SettlingTill, run_ask};
+use zvt_stream::Stream;
 use zvt_till::{CurrencyFact, Heard, Order, Original, StatusFacts, Till};
+
+/// What a terminal answers to an ask: an acknowledgement, an approval of 10.00 under the trace number 2 and the receipt
+/// number 2, the completion.
+const REPEATED: [u8; 25] = [
+    0x80, 0x00, 0x00, 0x04, 0x0F, 0x10, 0x27, 0x00, 0x04, 0x00, 0x00, 0x00, 0x00, 0x10, 0x00, 0x0B,
+    0x00, 0x00, 0x02, 0x87, 0x00, 0x02, 0x06, 0x0F, 0x00,
+];
 
 fn price(rt: &impl Abort) -> Amount {
     Amount::new(1000).expect(rt, "an amount")
@@ -93,5 +102,32 @@ fn an_abort_leaves_it_pending(rt: HostRuntime) -> Result<(), Fail> {
     assert!(rt; till.settled().is_empty());
     assert!(rt; till.is_pending());
     assert!(rt; till.ask().is_ok());
+    Ok(())
+}
+
+#[test]
+fn an_ask_over_a_line_settles_it(rt: HostRuntime) -> Result<(), Fail> {
+    let mut till = cut_off(&rt, rt.alloc());
+    assert!(rt; !till.knows_last());
+    let mut written = [0; 12];
+    let mut reader = Over::new(REPEATED.as_slice());
+    let mut writer = Over::new(written.as_mut_slice());
+    let mut stream = Stream::new(rt.alloc());
+    let ended = run_ask(
+        rt.alloc(),
+        &mut reader,
+        &mut writer,
+        &mut stream,
+        &mut till,
+        9,
+    );
+    assert!(rt; ended.is_ok());
+    assert!(rt; till.knows_last());
+    let number = Trace::new(2).expect(&rt, "a trace number");
+    let paid = Settlement::Paid(0, number, Some([0, 2]));
+    assert_equal(&rt, &first_settled(&till), &Some(paid));
+    // The ask, and the acknowledgements of the status and of the completion.
+    let sent = [0x06, 0x20, 0x03, 0, 0, 0, 0x80, 0, 0, 0x80, 0, 0];
+    assert!(rt; written == sent);
     Ok(())
 }
