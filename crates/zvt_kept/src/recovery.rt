@@ -57,7 +57,7 @@ impl From<AllocError> for RecoveryError {
 pub struct Recovered {
     /// The till, which is not connected.
     pub till: Till,
-    /// The same till as one that settles: what the asks of the journal have settled, and what is pending.
+    /// What the asks of the journal have settled and what is pending, in a till that settles.
     pub settling: SettlingTill,
     /// The note of each payment in the till's book, in the order of the book.
     pub booked: Vec<Note>,
