@@ -1,11 +1,12 @@
 -- Findings: each bad message is found, and their objects are written and read back.
-use Rattle.std.proofs.Common.{◌≡◌, ℕ, zero, suc, ◌+◌, ◌-◌, ◌==◌, min, Bool, true, false, cond, List, [], ◌∷◌, ◌++◌, length, map, take, Option, Some, None, refl, sym, ◌∙◌, ap, ap₂, append_assoc, arith}
+use Rattle.std.proofs.Common.{◌≡◌, ℕ, zero, suc, ◌+◌, ◌-◌, ◌==◌, min, Bool, true, false, cond, List, [], ◌∷◌, ◌++◌, codes, length, map, take, Option, Some, None, refl, sym, ◌∙◌, ap, ap₂, append_assoc, arith}
 use Rattle.std.proofs.lemmas.Bool.{eqb-true}
 use Rattle.std.proofs.lemmas.List.{length-take}
 use Rattle.std.proofs.lemmas.List.Sums.{sum_by-append, sum_by-cons}
 use Rattle.std.specs.List.{cons_option, sum_by}
 use Rattle.serde_json.specs.Data.{Data}
 use Rattle.serde_json.specs.Written.{members_text}
+use Rattle.zvt_json.specs.Strings.{line_text}
 use Rattle.zvt_stream.specs.declared.head.Head.{Head}
 use Rattle.zvt_stream.specs.declared.head.Head.TheVariants.{Empty, One, Two}
 use Rattle.zvt_trace.specs.TraceEvent.{At, TraceEvent, bad_count, bad_in}
@@ -15,7 +16,7 @@ use Rattle.zvt_report.specs.FindingObjects.{FindingsReadBack, control_member, fi
 use Rattle.zvt_report.specs.FindingTexts.{finding_advice, finding_text, finding_title}
 use Rattle.zvt_report.specs.Findings.{EachBadMessageIsFound, bad_messages, counted_by, finding_at, finding_by, head_of, line_of, listed, more_refused, most_listed}
 use Rattle.zvt_report.specs.Hidden.{HiddenBytesAreNotFound, disclosed_at, disclosed_event}
-use Rattle.zvt_report.specs.LookObjects.{more_of, of_member, told, told_text}
+use Rattle.zvt_report.specs.LookObjects.{Told, look_value, more_of, of_member, told, told_text}
 use Rattle.zvt_report.specs.Objects.{said_as}
 use Rattle.zvt_report.specs.declared.findings.Finding.{Finding}
 use Rattle.zvt_report.specs.declared.findings.Finding.TheVariants.{MoreRefused}
@@ -24,7 +25,7 @@ use Rattle.zvt_report.specs.declared.members.Name.{Name}
 use Rattle.zvt_report.specs.declared.members.Name.TheVariants as name
 use Rattle.zvt_report.specs.declared.members.Value.TheVariants as value
 use Rattle.zvt_report.specs.declared.members.Word.TheVariants as word
-use Rattle.zvt_report.proofs.LookObjectLemmas.{three_told}
+use Rattle.zvt_report.proofs.LookObjectLemmas.{look_said, three_told}
 use Rattle.zvt_report.proofs.ReadLemmas.{IsNamed, read_told, sentence_told, told_of}
 
 -- ---- objects
@@ -41,6 +42,12 @@ pub three_told_at : (k m n : Name) (c d e : Data) (ms vs : List (Option Member))
     ≡ members_text false (told (Some (k, c) ∷ (map of_member ms ++ (Some (m, d) ∷ (Some (n, e) ∷ map of_member vs)))))
 unfolding more_of
 three_told_at k m n c d e ms vs = three_told k m n c d e (map of_member ms) [] (map of_member vs)
+
+-- the object around the members
+pub object_around : (old t u : List ℕ) (ts : List Told) → t ≡ old ++ codes "{\"look\":{" → u ≡ t ++ members_text false (told ts) → u ++ codes "}\n" ≡ old ++ line_text (look_value ts)
+object_around old t u ts first second =
+    let all : u ++ codes "}\n" ≡ old ++ (codes "{\"look\":{" ++ members_text false (told ts) ++ codes "}\n") = simp (second, first, append_assoc) in
+    all ∙ ap (λ (l : List ℕ). old ++ l) (look_said ts)
 
 control_named : (head : Head) → IsNamed (control_member head) name.Control
 control_named Empty = tt
@@ -76,10 +83,10 @@ one_each scope line trace_event.lost = tt
 -- a message that is refused or cut off has a finding, and nothing else has
 one_found : (scope : Scope) (line : ℕ) (event : TraceEvent) (more : List Finding) → length (cons_option (finding_by scope line event) more) ≡ bad_count event + length more
 one_found scope line (trace_event.message from m) more = omega arith
-one_found scope line (trace_event.refused from head byte place why) more = refl
+one_found scope line (trace_event.refused from head byte place why) more = omega arith
 one_found scope line (trace_event.unread from) more = omega arith
 one_found scope line (trace_event.resumed from size) more = omega arith
-one_found scope line (trace_event.cut_off from head have) more = refl
+one_found scope line (trace_event.cut_off from head have) more = omega arith
 one_found scope line trace_event.lost more = omega arith
 
 all_found : (scope : Scope) (events : List At) → length (bad_messages scope events) ≡ bad_in events
