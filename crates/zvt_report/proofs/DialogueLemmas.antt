@@ -180,12 +180,8 @@ pub walked_all : (r : Reading) (scope : Scope) (trace : List ℕ) (report : Repo
 walked_all r scope trace report looks tally old new drawn starts same walked is kept =
     let all = all_listed [] walked.0 old new starts walked.2 in
     let ranges = shown_lines report.tally report.books.orders looks in
-    let shown = ap (λ (v : Option (Vec (ℕ × ℕ) Global)). option_map (λ v. v.items) v) all.1 ∙ same in (
-      walked.0,
-      walked.1,
-      section_is new walked.0 ranges drawn.text shown all.0 is,
-      ap (λ (v : Vec ℕ Global). v.items) kept ∙ all.0.lines ∙ ap (λ (r : Option (List (ℕ × ℕ))). line_numbers (listed r walked.0)) shown,
-    )
+    let shown = ap (λ (v : Option (Vec (ℕ × ℕ) Global)). option_map (λ v. v.items) v) all.1 ∙ same in
+    (walked.0, walked.1, (section_is new walked.0 ranges drawn.text shown all.0 is, ap (λ (v : Vec ℕ Global). v.items) kept ∙ all.0.lines ∙ ap (λ (r : Option (List (ℕ × ℕ))). line_numbers (listed r walked.0)) shown))
 
 -- a dialogue writes nothing to a device, so no write fails
 no_write : {r : Reading} {scope : Scope} (lines : List (List ℕ)) (old new : Dialogue) → AnswersWalk r lists wants_memory scope lines old new (Err Write) → ⊥
