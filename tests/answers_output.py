@@ -188,14 +188,17 @@ def hold_loops(chance, folder):
 # ---- a till and a terminal
 
 def awaits_order(line):
-    """Reads until an order has come, and not only what acknowledges a message."""
+    """Reads until a whole order has come, and not only what acknowledges a message."""
     data = b""
-    while not data:
-        data = line.recv(4096)
-        if not data:
-            raise OSError("the till has gone")
+    while True:
         while data.startswith(ACK):
             data = data[len(ACK):]
+        if len(data) >= 3 and len(data) >= 3 + data[2]:
+            return
+        more = line.recv(4096)
+        if not more:
+            raise OSError("the till has gone")
+        data += more
 
 
 def serve(door, answers):
