@@ -23,7 +23,7 @@ const MASKED_ASK: [u8; 6] = [0x06, 0x20, 0x03, 0, 0, 0];
 pub enum Entry {
     /// An order of the till, and the note in its record.
     Order { order: Order, note: Note },
-    /// An ask of the till what became of an unclear order, with the note in its record.
+    /// The till asked its terminal to repeat the last receipt. The record has this note.
     Ask(Note),
     /// The bytes of one message of the terminal.
     Heard(Vec<u8>),
@@ -67,8 +67,8 @@ fn put_order_line(text: &mut Text, order: &Order, note: &[u8]) -> Result<(), All
     text.push(b'\n')
 }
 
-/// Writes an ask with its note, and the bytes that are sent for it, with 00 00 00 instead of the password. After `Err` a
-/// prefix of the record is written.
+/// Writes an ask with its note, and the bytes that are sent for it, with 00 00 00 instead of the password. After `Err`
+/// a prefix of the record is written.
 pub fn put_ask(text: &mut Text, note: &Note) -> Result<(), AllocError>
     ensures written { Extends result text.old text.new (ask_record note.now) }
     ensures kept { IsRecordOf (asked note.now) (ask_record note.now) }

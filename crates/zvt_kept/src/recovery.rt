@@ -35,8 +35,8 @@ pub enum RecoveryError {
     /// This line, counted from 1, is a check that does not match the record before it.
     #[error("line {number} of the book is not the check of its record: the file was changed or damaged")]
     Check { number: usize },
-    /// This record, counted from 1, is the first that cannot follow the records before it: the till refuses its order or
-    /// ask, or its bytes are not one message.
+    /// This record, counted from 1, is the first that cannot follow the records before it: the till refuses its order
+    /// or ask, or its bytes are not one message.
     #[error("record {number} of the book contradicts the records before it")]
     Record { number: usize },
     /// An allocation failed.

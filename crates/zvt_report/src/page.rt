@@ -152,7 +152,8 @@ pub(crate) fn sections(
     closings_section(page, note, decimals, closings, books.orders.as_slice())
 }
 
-/// Writes the body of a page with this dialogue, which shows these lines. The texts are put together in `note`, whose own text is lost.
+/// Writes the body of a page with this dialogue, which shows these lines. The texts are put together in `note`, whose
+/// own text is lost.
 #[tactic(auto, unfolding(crate::specs::Page::page_with))]
 fn page_with(
     page: &mut Text,
@@ -204,8 +205,8 @@ pub(crate) fn write(
     dialogue: &[u8],
 ) -> Result<(), AllocError>
     ensures { OnOk result (page.new ≡ page.old
-        ++ report_page shown.now name.now tally currency terminal times.now books.now messages.now closings.now looks.now
-        findings.now dialogue.now) }
+        ++ report_page shown.now name.now tally currency terminal times.now books.now messages.now closings.now
+        looks.now findings.now dialogue.now) }
 {
     let mut note = Text::new(alloc);
     let money = money_of(currency);

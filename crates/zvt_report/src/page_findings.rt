@@ -87,7 +87,8 @@ fn finding_item(
     end(page, Element::Li)
 }
 
-/// Writes findings, with links to the lines that the dialogue shows. The sentences are put together in `note`, whose own text is lost.
+/// Writes findings, with links to the lines that the dialogue shows. The sentences are put together in `note`, whose
+/// own text is lost.
 pub(crate) fn finding_items(
     page: &mut Text,
     note: &mut Text,

@@ -224,7 +224,8 @@ fn listed_items(
     findings: &[Finding],
 ) -> Result<(), AllocError>
     ensures { OnOk result (page.new ≡ page.old
-        ++ render (listed_items shown.now decimals book.now closings.now messages.now rows.now looks.now findings.now)) }
+        ++ render (listed_items shown.now decimals book.now closings.now messages.now rows.now looks.now
+        findings.now)) }
 {
     start(page, Element::Ol, b"look", None)?;
     items(
@@ -251,7 +252,8 @@ fn items_or_none(
     findings: &[Finding],
 ) -> Result<(), AllocError>
     ensures { OnOk result (page.new ≡ page.old
-        ++ render (items_or_none shown.now decimals book.now closings.now messages.now rows.now looks.now findings.now)) }
+        ++ render (items_or_none shown.now decimals book.now closings.now messages.now rows.now looks.now
+        findings.now)) }
 {
     if is_nothing(looks, findings) {
         return leaf(
@@ -292,7 +294,8 @@ pub(crate) fn looks_section(
     findings: &[Finding],
 ) -> Result<(), AllocError>
     ensures { OnOk result (page.new ≡ page.old
-        ++ render (looks_section id.now shown.now decimals books.now closings.now messages.now looks.now findings.now)) }
+        ++ render (looks_section id.now shown.now decimals books.now closings.now messages.now looks.now
+        findings.now)) }
 {
     look_heading(page, id)?;
     let book = books.book.as_slice();

@@ -99,8 +99,8 @@ impl Reporter {
     ghost use Rattle.std.specs.Prelude.{IfOk};
     ghost use Rattle.zvt_report.specs.Reports.{Finds};
 
-    /// Ends the day, and returns the report with this tally, this number of messages that were passed over, the times of
-    /// these moments, and these findings.
+    /// Ends the day, and returns the report with this tally, this number of messages that were passed over, the times
+    /// of these moments, and these findings.
     fn finish(
         self,
         tally: Tally,
