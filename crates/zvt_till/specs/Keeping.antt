@@ -13,6 +13,7 @@ use Rattle.zvt_till.specs.declared.keeper.Untaken.TheVariants.{Order as Refused,
 use Rattle.zvt_till.specs.declared.line.RunFault.{RunFault}
 use Rattle.zvt_till.specs.declared.orders.Order.{Order}
 use Rattle.zvt_till.specs.declared.orders.OrderRefusal.{OrderRefusal}
+use Rattle.zvt_till.specs.declared.orders.OrderRefusal.TheVariants.{Busy}
 use Rattle.zvt_till.specs.declared.orders.Outgoing.{Outgoing}
 use Rattle.zvt_till.specs.declared.outcomes.Outcome.{Outcome}
 use Rattle.zvt_till.specs.Line.{BreaksOff, Fails, NotSent, Runs, Sends, till_hears, till_loses, till_malforms, till_rests}
@@ -94,26 +95,30 @@ abbrev pub HearsAs : (old : TillValue) (was_failed : Bool) → Message → Answe
 HearsAs old was_failed message answered new is_failed =
     ((new ≡ old) × (is_failed ≡ was_failed)) ⊎ (till_hears old message answered new × (is_failed ≡ was_failed)) ⊎ till_loses old new
 
+-- An order is refused as the till refuses it, or with Busy while the keeper is not at rest.
+abbrev pub IsRefusalOf : (resting : Bool) → TillValue → Order → OrderRefusal → Type 0
+IsRefusalOf resting till order why = IsRefusedAs (facts_of till.state) till.spare order why ⊎ ((why ≡ Busy) × (resting ≡ false))
+
 pub record Follows {K : Type 0} (orders : K → Order → Result Outgoing Untaken → K → Type 0) (hears : K → Message → Answered → K → Type 0) (loses malforms : K → K → Type 0) (is_resting : K → Bool)
     (till : K → TillValue) (failed : K → Bool) : Type 0 where
   pub accepts : (old : K) (order : Order) (outgoing : Outgoing) (new : K) → orders old order (Ok outgoing) new → Accepts order outgoing (till old) (till new) × (failed new ≡ false)
-  pub refuses : (old : K) (order : Order) (why : OrderRefusal) (new : K) → orders old order (Err (Refused why)) new → IsRefusedAs (facts_of (till old).state) (till old).spare order why × (new ≡ old)
+  pub refuses : (old : K) (order : Order) (why : OrderRefusal) (new : K) → orders old order (Err (Refused why)) new → IsRefusalOf (is_resting old) (till old) order why × (new ≡ old)
   pub has_no_space : (old : K) (order : Order) (new : K) → orders old order (Err (Unkept NoSpace)) new → LacksSpace order (till old) (till new) × (failed new ≡ failed old)
   pub fails : (old : K) (order : Order) (new : K) → orders old order (Err (Unkept Failed)) new → LosesOrder order (till old) (till new) × (failed new ≡ true)
   pub hears_as : (old : K) (message : Message) (answered : Answered) (new : K) → hears old message answered new → HearsAs (till old) (failed old) message answered (till new) (failed new)
   pub loses_as : (old new : K) → loses old new → till_loses (till old) (till new)
   pub malforms_as : (old new : K) → malforms old new → till_loses (till old) (till new) ⊎ till_malforms (till old) (till new)
-  pub rests_as : (keeper : K) → is_resting keeper ≡ till_rests (till keeper)
+  pub rests_as : (keeper : K) → is_resting keeper ≡ true → till_rests (till keeper) ≡ true
 
 -- a till alone is its own keeper
 pub till_follows : Follows till_orders till_hears till_loses till_malforms till_rests itself never_failed
 till_follows = record {
   accepts = λ old order outgoing new taken. (taken, refl);
-  refuses = λ old order why new refused. refused;
+  refuses = λ old order why new refused. (inl refused.0, refused.1);
   has_no_space = λ old order new never. absurd never;
   fails = λ old order new never. absurd never;
   hears_as = λ old message answered new heard. inr (inl (heard, refl));
   loses_as = λ old new lost. lost;
   malforms_as = λ old new broke. inr broke;
-  rests_as = λ keeper. refl;
+  rests_as = λ keeper rests. rests;
 }

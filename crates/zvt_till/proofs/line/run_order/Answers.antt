@@ -145,6 +145,6 @@ returns-in-None g c =
     let known = taken-known follows c.args.till.now c.args.order sends.outgoing c.send_order.new.till sends.ordered in
     let pumped = comes_there _ _ _ _ _ _ _ _ c.in_default-pump.ensures.pumps in
     let heard = pumped.1.course.heard in
-    absurd (rests-known (g.K.Keeper.till c.pump.new.machine).state (sym (follows.rests_as c.pump.new.machine) ∙ pumped.2)
+    absurd (rests-known (g.K.Keeper.till c.pump.new.machine).state (follows.rests_as c.pump.new.machine pumped.2)
     (hearings-known follows c.send_order.new.till c.pump.new.machine heard.messages heard.answers heard.heard known)
     (ap (λ (t : TillValue). t.state.last_outcome) (sym c.look.ensures) ∙ sym c.last_outcome.ensures ∙ c.in-None.is))
