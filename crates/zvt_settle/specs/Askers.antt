@@ -16,6 +16,7 @@ use Rattle.zvt_till.specs.Till.{facts_of}
 use Rattle.zvt_till.specs.View.{TillValue}
 use Rattle.zvt_settle.specs.declared.settling.SettlingTill.{SettlingTill}
 use Rattle.zvt_settle.specs.Inside.{settling_of, till_inside}
+use Rattle.zvt_settle.specs.Keeping.{never_fails}
 use Rattle.zvt_settle.specs.OnLine.{asks_nothing, settling_hears, settling_loses, settling_malforms, settling_rests}
 use Rattle.zvt_settle.specs.Settling.{Both, Line, Settling, ask_bytes, ask_refusal, asks, settles, take}
 
@@ -52,10 +53,6 @@ pub record KeepsAll (old : TillValue) (before : Settling) (new : TillValue) (aft
 
 -- ---- a till that settles, alone
 
--- there is no book that could fail
-abbrev pub settling_failed : SettlingTill → Bool
-settling_failed t = false
-
 abbrev pub settling_asks : SettlingTill → Result (List ℕ) Untaken → SettlingTill → Type 0
 settling_asks old (Ok bytes) new = AcceptsAsk bytes old.till (settling_of old) new.till (settling_of new)
 settling_asks old (Err (Refused why)) new = IsAskRefusedAs (facts_of old.till.state) old.asking why × KeepsAll old.till (settling_of old) new.till (settling_of new)
@@ -83,7 +80,7 @@ pub record IsAsker {K : Type 0} (asks : K → Result (List ℕ) Untaken → K �
   pub rests_as : (keeper : K) → is_resting keeper ≡ both_rest (both_as (till keeper) (settling keeper))
 
 -- a till that settles asks by itself
-pub settling_is_asker : IsAsker settling_asks settling_hears settling_loses settling_malforms settling_rests till_inside settling_of settling_failed
+pub settling_is_asker : IsAsker settling_asks settling_hears settling_loses settling_malforms settling_rests till_inside settling_of never_fails
 settling_is_asker = record {
   accepts = λ old bytes new accepted. (accepted, refl);
   refuses = λ old why new refused. (refused.0, refused.1, refl);

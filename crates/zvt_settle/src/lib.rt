@@ -4,6 +4,7 @@
 mod answers;
 mod asking;
 mod deciding;
+mod keeping;
 pub mod laws;
 mod line;
 mod machine;

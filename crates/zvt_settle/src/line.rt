@@ -65,7 +65,7 @@ pub fn run_ask<R: Source, W: Sink, K: Asker>(
     if let Err(fault) = pump(alloc, reader, writer, stream, till, Until::Rest, turns) {
         return Err(RunFault::Line(fault));
     }
-    if till.book_failed() {
+    if till.has_failed() {
         return Err(RunFault::Book(BookFault::Failed));
     }
     Ok(())

@@ -13,3 +13,7 @@ pub mod World
 pub mod Simulation
 pub mod Orderly
 pub mod Returned
+pub mod AskedWorld
+pub mod AskedTurns
+pub mod Ledgers
+pub mod AskedRows

@@ -1,6 +1,10 @@
-//! Laws of both ends together, and of orders beyond the profile. Each is stated as the contract of an empty function.
+//! Laws of both ends together, of tills that ask, and of orders beyond the profile. Each is stated as the contract of
+//! an empty function.
 ghost use Rattle.zvt_term.specs.Extended.{ExtrasKeepLedger, HeldIsAnswered, HeldKeepsLedger, PlainIsServed};
 ghost use Rattle.zvt_term.specs.Extended.{RepeatsChangeNothing};
+ghost use Rattle.zvt_term.specs.AskedRows.{RowsHold};
+ghost use Rattle.zvt_term.specs.AskedWorld.{Complete, Exact, Sound, WorldsCountOnce};
+ghost use Rattle.zvt_term.specs.Ledgers.{OnePaymentDecides, OneReversalDecides, SameLedgerDecides};
 ghost use Rattle.zvt_term.specs.World.{WorldsMatch};
 ghost use Rattle.zvt_term.specs.Orderly.{OrderlyWorldsAccount};
 ghost use Rattle.zvt_term.specs.Returned.{OrderlyWorldsKeepReversals};
@@ -52,4 +56,49 @@ pub fn held_keeps_ledger()
 /// status stands in place of a status, and then that very status is due.
 pub fn withheld_is_due()
     ensures { WithheldIsDue }
+{}
+
+/// Three days of a till whose line is lost during an order, up to the answer that settles it.
+pub fn rows_hold()
+    ensures { RowsHold }
+{}
+
+/// With the simulated terminal, and whatever arrives late, repeatedly or never, no trace number counts twice.
+pub fn worlds_count_once()
+    ensures { WorldsCountOnce }
+{
+    zvt_till::laws::traces_stay_distinct();
+}
+
+/// With the simulated terminal, and over lines that keep the order of messages, the ledger agrees with every
+/// settlement: it grew by the row of the order and no other, or by none if the order did not happen.
+pub fn settlements_are_sound()
+    ensures { Sound }
+{}
+
+/// With the simulated terminal, and over lines that keep the order of messages, an ask that ends by a message while an
+/// order is pending settles that order.
+pub fn settlements_are_complete()
+    ensures { Complete }
+{}
+
+/// With the simulated terminal, and over lines that keep the order of messages, and once each unclear payment was
+/// settled: the ledger has an approval for each entry and each payment settled as paid, and no other.
+pub fn settlements_are_exact()
+    ensures { Exact }
+{}
+
+/// If the ledger of the simulated terminal did not grow, its answer settles the order as not having happened.
+pub fn same_ledger_decides()
+    ensures { SameLedgerDecides }
+{}
+
+/// If the ledger grew by an approval of the amount, its answer settles the payment as paid under that trace number.
+pub fn one_payment_decides()
+    ensures { OnePaymentDecides }
+{}
+
+/// If the ledger grew by a row that reverses the entry, its answer settles the reversal as having happened.
+pub fn one_reversal_decides()
+    ensures { OneReversalDecides }
 {}

@@ -44,6 +44,14 @@ impl SettlingTill {
         &self.till
     }
 
+    /// Returns the till inside, and forgets what was settled.
+    pub fn into_till(self) -> Till
+        ensures { result ≡ till_inside self }
+    {
+        let SettlingTill { till, .. } = self;
+        till
+    }
+
     /// Returns what was settled, in the order of the answers.
     pub fn settled(&self) -> &[Settlement]
         ensures { result.now ≡ (settling_of self.now).settled }

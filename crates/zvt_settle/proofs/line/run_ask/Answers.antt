@@ -49,22 +49,22 @@ returns-in-Err-pump-clause-writer_failures g c =
 
 -- ---- the book failed
 
-pub returns-then-book_failed-clause-over : goal.returns-then-book_failed-clause-over
-returns-then-book_failed-clause-over g c =
+pub returns-then-has_failed-clause-over : goal.returns-then-has_failed-clause-over
+returns-then-has_failed-clause-over g c =
     let is_asker = g.met.K.Asker.is_asker in
     let sends = c.in_default.ensures.ok in
     let heard = (comes_there _ _ _ _ _ _ _ _ c.in_default-pump.ensures.pumps).1.course.heard in
     hearings-stay is_asker c.send_ask.new.till c.pump.new.machine heard.messages heard.answers heard.heard
-    (taken-stays is_asker c.args.till.now sends.bytes c.send_ask.new.till sends.asked) (sym c.book_failed.ensures ∙ c.if-book_failed.true)
+    (taken-stays is_asker c.args.till.now sends.bytes c.send_ask.new.till sends.asked) (sym c.has_failed.ensures ∙ c.if-has_failed.true)
 
-pub returns-then-book_failed-clause-reads : goal.returns-then-book_failed-clause-reads
-returns-then-book_failed-clause-reads g c = comes_read _ _ _ _ _ _ _ _ c.in_default-pump.ensures.pumps
+pub returns-then-has_failed-clause-reads : goal.returns-then-has_failed-clause-reads
+returns-then-has_failed-clause-reads g c = comes_read _ _ _ _ _ _ _ _ c.in_default-pump.ensures.pumps
 
-pub returns-then-book_failed-clause-reader_failures : goal.returns-then-book_failed-clause-reader_failures
-returns-then-book_failed-clause-reader_failures g c = let none = comes_whole _ _ _ _ _ _ _ _ c.in_default-pump.ensures.pumps in omega (arith, none.reads)
+pub returns-then-has_failed-clause-reader_failures : goal.returns-then-has_failed-clause-reader_failures
+returns-then-has_failed-clause-reader_failures g c = let none = comes_whole _ _ _ _ _ _ _ _ c.in_default-pump.ensures.pumps in omega (arith, none.reads)
 
-pub returns-then-book_failed-clause-writer_failures : goal.returns-then-book_failed-clause-writer_failures
-returns-then-book_failed-clause-writer_failures g c = let none = comes_whole _ _ _ _ _ _ _ _ c.in_default-pump.ensures.pumps in omega (arith, none.writes, c.in_default.ensures.failures)
+pub returns-then-has_failed-clause-writer_failures : goal.returns-then-has_failed-clause-writer_failures
+returns-then-has_failed-clause-writer_failures g c = let none = comes_whole _ _ _ _ _ _ _ _ c.in_default-pump.ensures.pumps in omega (arith, none.writes, c.in_default.ensures.failures)
 
 -- ---- the line came to where nothing runs
 
