@@ -160,7 +160,7 @@ fn show_one(
         answer => answer,
     };
     match &answer {
-        Ok(()) => listing.add(settings_in(text.as_slice()), recovered.till.total()),
+        Ok(()) => listing.add(settings_in(text.as_slice()), recovered.till.till().total()),
         Err(EndFault::Write) => listing.is_output_lost = true,
         Err(_) => {}
     }
@@ -212,8 +212,7 @@ fn report_left(rt: &HostRuntime, path: &str, records: usize) -> io::Result<()> {
 fn recovered_from(rt: &HostRuntime, text: &[u8]) -> Result<Recovered, RecoveryError> {
     if text.is_empty() {
         return Ok(Recovered {
-            till: Till::with_defaults(rt.alloc()),
-            settling: SettlingTill::new(rt.alloc(), Till::with_defaults(rt.alloc())),
+            till: SettlingTill::new(rt.alloc(), Till::with_defaults(rt.alloc())),
             booked: Vec::new(rt.alloc()),
             unclear: Vec::new(rt.alloc()),
         });

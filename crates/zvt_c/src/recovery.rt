@@ -42,7 +42,7 @@ fn recover_end(alloc: Global, end: &mut Session, text: &[u8]) -> ZvtAnswer
 {
     match recover(alloc, &settings(&end.till), text) {
         Ok(recovered) => {
-            end.till = recovered.till;
+            end.till = recovered.till.into_till();
             end.stream = Stream::new(alloc);
             end.card = Card::none();
             bare(statuses::OK)

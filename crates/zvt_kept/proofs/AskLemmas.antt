@@ -1,5 +1,5 @@
 -- The notes that records stand for, and the asks among them.
-use Rattle.std.proofs.Common.{◌≡◌, ℕ, Bool, true, false, cond, List, [], ◌∷◌, ◌++◌, map, Option, Some, None, option_map, length, refl, sym, ap, subst, ◌∙◌, append_assoc}
+use Rattle.std.proofs.Common.{◌≡◌, ℕ, Bool, true, false, cond, List, [], ◌∷◌, ◌++◌, Option, Some, None, option_map, length, refl, sym, ap, subst, ◌∙◌, append_assoc}
 use Rattle.std.specs.Prelude.{fold}
 use Rattle.std.proofs.lemmas.List.{append-nil}
 use Rattle.zvt_apdu.proofs.ViewLemmas.{same_message}
@@ -12,11 +12,11 @@ use Rattle.zvt_till.specs.declared.outcomes.Outcome.TheVariants.{Registered, Pai
 use Rattle.zvt_till.specs.Hearing.{heard_as}
 use Rattle.zvt_till.specs.Refusals.{order_in, sent_as}
 use Rattle.zvt_till.specs.Sending.{Settings}
-use Rattle.zvt_till.specs.Till.{TillState, accept, new_till, outcome_at, state_after, step}
+use Rattle.zvt_till.specs.Till.{TillState, accept, outcome_at, state_after, step}
 use Rattle.zvt_settle.specs.declared.deciding.What.{What}
-use Rattle.zvt_settle.specs.Settling.{Note, Line, Asked, Both, Settling, both_after, ended, ended_as, meets, met, new_both, noted, opened, opened_by, sent, sent_if, take, unasked}
+use Rattle.zvt_settle.specs.Settling.{Note, Line, Asked, Both, Settling, both_after, ended, ended_as, meets, met, new_both, noted, opened, opened_by, sent, sent_if, take}
 use Rattle.zvt_settle.specs.Story.{lines}
-use Rattle.zvt_kept.specs.Records.{Kept, ordered, asked, heard, lost, kept_in}
+use Rattle.zvt_kept.specs.Records.{Kept, ordered, asked, heard, lost}
 use Rattle.zvt_kept.specs.Logs.{CanAsk, CanTakeAll, EachOf, Happens, Means, on_line}
 
 -- ---- records one after another

@@ -1,11 +1,15 @@
--- What a crash leaves of a journal over many orders and lines.
+-- What a crash leaves of a journal over many orders, asks and lines.
 use Rattle.std.proofs.Common.{◌≡◌, ⊎_elim, inl, inr, ℕ, Bool, true, false, List, [], ◌∷◌, ◌++◌, map, Option, None, Result, Ok, Err, refl, sym, ap, subst, ◌∙◌, append_assoc}
 use Rattle.std.proofs.lemmas.List.{append-nil}
+use Rattle.zvt_stream.specs.EndState.{EndState}
 use Rattle.zvt_stream.specs.LineRun.{Reported}
 use Rattle.zvt_stream.specs.StreamState.{StreamState}
 use Rattle.zvt_stream.specs.declared.line.LineFault.{LineFault}
 use Rattle.zvt_stream.specs.declared.line.LineFault.TheVariants.{Read, Write, Ended, Turns, Malformed, Memory, Stopped}
+use Rattle.zvt_stream.specs.declared.line.Until.TheVariants.{Rest}
+use Rattle.zvt_stream.proofs.PumpLemmas.{comes_there}
 use Rattle.zvt_till.specs.Line.{NotSent}
+use Rattle.zvt_till.specs.View.{TillValue}
 use Rattle.zvt_till.specs.declared.keeper.BookFault.TheVariants.{NoSpace, Failed as BookFailed}
 use Rattle.zvt_till.specs.declared.line.RunFault.{RunFault}
 use Rattle.zvt_till.specs.declared.line.RunFault.TheVariants.{Order as OrderFault, Line as LineBroke, Book as BookBroke}
@@ -23,17 +27,21 @@ use Rattle.zvt_journal.specs.Device.{LeavesOnly}
 use Rattle.zvt_journal.specs.Text.{recovered}
 use Rattle.zvt_journal.specs.declared.device.DeviceError.{DeviceError}
 use Rattle.zvt_journal.proofs.Moments.{and_then}
-use Rattle.zvt_kept.specs.Keeping.{kept_orders}
-use Rattle.zvt_kept.specs.KeptTill.{Connects, HasLog, Hears, IsKept, Keeps, KeptValue, LeavesLogs, LosesLine, Ordered, has_failed, with_note}
+use Rattle.zvt_kept.specs.Keeping.{kept_asks, kept_orders}
+use Rattle.zvt_settle.specs.AskRuns.{AskComes, AskRuns, NotAsked}
+use Rattle.zvt_settle.specs.Settling.{Line, ask_refusal, take}
+use Rattle.zvt_kept.specs.KeptTill.{Connects, HasLog, Hears, IsKept, Keeps, KeptValue, LeavesLogs, LosesLine, Ordered, both_in, has_failed, kept_rests, with_note}
 use Rattle.zvt_kept.specs.Logs.{StandsFor}
-use Rattle.zvt_kept.specs.Outliving.{CallsOutlive, Did, DidAll, HappenInAll, HappensIn, IsBetween, KeptStep, connects, loses, runs}
+use Rattle.zvt_kept.specs.Outliving.{CallsOutlive, Did, DidAll, HappenInAll, HappensIn, IsBetween, KeptStep, asks, connects, loses, runs}
 use Rattle.zvt_kept.specs.Runs.{RanKept}
+use Rattle.zvt_kept.proofs.AsksOutlived.{after_answers, after_ask}
 use Rattle.zvt_kept.proofs.Logged.{keeps_lost, weaker}
 use Rattle.zvt_kept.proofs.Made.{records_are_kept}
+use Rattle.zvt_kept.proofs.Ordered.{same_both}
 use Rattle.zvt_kept.proofs.Outlived.{at_first, failed_alike, failed_by, not_both, quiet}
 use Rattle.zvt_kept.proofs.RunsOutlived.{after_messages, unsent_outlives}
 use Rattle.zvt_kept.proofs.Spaceless.{leaves_the_log, same_log}
-use Rattle.zvt_kept.proofs.Steps.{taken_up}
+use Rattle.zvt_kept.proofs.Steps.{asked_up, taken_up}
 
 -- ---- files between two logs
 
@@ -71,10 +79,11 @@ module _ {D : Type 0} (seen : D → List ℕ) (may_leave : D → List ℕ → Ty
   lost_log settings log old new l has =
       let d = old.standing.device in
       let g = old.standing.gate in
-      let lost : Keeps settings log (seen d) (may_leave d) g (step old.standing.till.state Lost) = keeps_lost settings log (seen d) (may_leave d) g old.standing.till.state has in
-      let state : Keeps settings log (seen d) (may_leave d) g new.standing.till.state = subst (λ s. Keeps settings log (seen d) (may_leave d) g s) (sym l.0.0) lost in
-      let gate : Keeps settings log (seen d) (may_leave d) new.standing.gate new.standing.till.state = subst (λ n. Keeps settings log (seen d) (may_leave d) n new.standing.till.state) (sym l.2) state in
-      subst (λ (e : D). Keeps settings log (seen e) (may_leave e) new.standing.gate new.standing.till.state) (sym l.1) gate
+      let both = both_in new.standing in
+      let lost : Keeps settings log (seen d) (may_leave d) g (take (both_in old.standing) (Line Lost)) = keeps_lost settings log (seen d) (may_leave d) g (both_in old.standing) has in
+      let state : Keeps settings log (seen d) (may_leave d) g both = subst (λ b. Keeps settings log (seen d) (may_leave d) g b) (sym l.4) lost in
+      let gate : Keeps settings log (seen d) (may_leave d) new.standing.gate both = subst (λ n. Keeps settings log (seen d) (may_leave d) n both) (sym l.2) state in
+      subst (λ (e : D). Keeps settings log (seen e) (may_leave e) new.standing.gate both) (sym l.1) gate
 
   -- ---- once the journal failed
 
@@ -104,11 +113,36 @@ module _ {D : Type 0} (seen : D → List ℕ) (may_leave : D → List ℕ → Ty
       more)
       ran
 
+  -- nor an ask
+  asked_down : (asking : Option Bool) (state : TillState) → state.line_up ≡ false → ask_refusal (facts_of state) asking ≡ None → ⊥
+  asked_down asking state down none = not_both state.line_up (asked_up state asking none) down
+
+  stuck_unasked : (fault : RunFault) (old new : KeptValue D) (first last : Option (List ℕ)) → old.standing.till.state.line_up ≡ false
+      → NotAsked (kept_asks seen may_leave moment left_since faults) (LosesLine seen may_leave moment left_since faults) fault old new first last → new ≡ old
+  stuck_unasked (OrderFault why) old new first last down n = n.0.1
+  stuck_unasked (BookBroke NoSpace) old new first last down n = absurd (asked_down old.standing.settling.asking old.standing.till.state down n.0.0.taken)
+  stuck_unasked (BookBroke BookFailed) old new first last down n = absurd (asked_down old.standing.settling.asking old.standing.till.state down n.0.2.loses.taken)
+  stuck_unasked (LineBroke fault) old new first last down n = absurd (asked_down old.standing.settling.asking old.standing.till.state down n.3.0.0.accepts.taken)
+
+  stuck_ask : (old new : KeptValue D) (before after : EndState) (turns : ℕ) (result : Result Unit RunFault) → old.standing.till.state.line_up ≡ false
+      → AskRuns (kept_asks seen may_leave moment left_since faults) (Hears seen may_leave moment left_since faults) kept_rests turns Loses Loses has_failed result before after old new → new ≡ old
+  stuck_ask old new before after turns (Ok done) down ran = absurd (asked_down old.standing.settling.asking old.standing.till.state down ran.0.begins.sends.asked.0.0.accepts.taken)
+  stuck_ask old new before after turns (Err fault) down ran = ⊎_elim
+      (λ unsent. stuck_unasked fault old new before.written after.written down unsent.0)
+      (λ more. ⊎_elim
+      (λ broke. absurd (asked_down old.standing.settling.asking old.standing.till.state down broke.2.begins.sends.asked.0.0.accepts.taken))
+      (λ failed. absurd (asked_down old.standing.settling.asking old.standing.till.state down failed.2.begins.sends.asked.0.0.accepts.taken))
+      more)
+      ran
+
   -- a till whose journal failed leaves its file alone
   stuck : (step : KeptStep) (old new : KeptValue D) → has_failed old ≡ true → old.standing.till.state.line_up ≡ false → Did seen may_leave moment left_since faults step old new
       → (has_failed new ≡ true) × (new.standing.device ≡ old.standing.device)
   stuck (runs order) old new failed down did =
       let same = stuck_run order (with_note old did.0) new did.1 did.2 did.3 did.4 did.5 did.6 did.7 did.8 did.9 did.10 down did.11 in
+      (ap (λ (k : KeptValue D). has_failed k) same ∙ failed, ap (λ (k : KeptValue D). k.standing.device) same)
+  stuck asks old new failed down did =
+      let same = stuck_ask (with_note old did.0) new did.1 did.2 did.3 did.4 down did.5 in
       (ap (λ (k : KeptValue D). has_failed k) same ∙ failed, ap (λ (k : KeptValue D). k.standing.device) same)
   stuck connects old new failed down did = by_result did.0 did.1
     where
@@ -122,7 +156,7 @@ module _ {D : Type 0} (seen : D → List ℕ) (may_leave : D → List ℕ → Ty
   all_stuck [] old new failed did = (ap (λ (k : KeptValue D). has_failed k) (sym did) ∙ failed, ap (λ (k : KeptValue D). k.standing.device) (sym did))
   all_stuck (step ∷ more) old new failed did =
       let S = old.standing in
-      let down : S.till.state.line_up ≡ false = subst (λ b. IsKept b (seen S.device) (may_leave S.device) S.gate S.till.state) failed did.0 in
+      let down : S.till.state.line_up ≡ false = subst (λ b. IsKept b (seen S.device) (may_leave S.device) S.gate (both_in S)) failed did.0 in
       let one = stuck step old did.1 failed down did.2 in
       let rest = all_stuck more did.1 new one.0 did.3 in
       (rest.0, rest.1 ∙ one.1)
@@ -153,8 +187,8 @@ module _ {D : Type 0} (seen : D → List ℕ) (may_leave : D → List ℕ → Ty
     unsent_outlived settings log order (BookBroke NoSpace) old new first last has n = record {
       happened = [];
       by = inl refl;
-      leaves = leaves_the_log seen may_leave moment left_since faults order old.standing new.standing n.0.0 settings log [] has;
-      then = λ whole. subst (λ l. HasLog seen may_leave moment left_since faults settings l new.standing) (sym (append-nil log)) (same_log seen may_leave moment left_since faults order old.standing new.standing n.0.0 settings log has);
+      leaves = leaves_the_log seen may_leave moment left_since faults old.standing new.standing n.0.0.full settings log [] has;
+      then = λ whole. subst (λ l. HasLog seen may_leave moment left_since faults settings l new.standing) (sym (append-nil log)) (same_log seen may_leave moment left_since faults old.standing new.standing (same_both seen may_leave moment left_since faults old.standing new.standing n.0.0.state n.0.0.settling) n.0.0.full settings log has);
     }
     unsent_outlived settings log order (BookBroke BookFailed) old new first last has n = record {
       happened = SentOut (sent_as settings.currency order) ∷ [];
@@ -198,6 +232,63 @@ module _ {D : Type 0} (seen : D → List ℕ) (may_leave : D → List ℕ → Ty
         more)
         ran
 
+    -- an ask that was not sent
+    unasked_outlived : (settings : Settings) (log : List Happening) (fault : RunFault) (old new : KeptValue D) (first last : Option (List ℕ))
+        → HasLog seen may_leave moment left_since faults settings log old.standing → NotAsked (kept_asks seen may_leave moment left_since faults) (LosesLine seen may_leave moment left_since faults) fault old new first last → Outlived settings log asks old new
+    unasked_outlived settings log (OrderFault why) old new first last has n = unchanged settings log asks old new ([], refl) has n.0.1
+    unasked_outlived settings log (BookBroke NoSpace) old new first last has n =
+        let same = same_both seen may_leave moment left_since faults old.standing new.standing (ap (λ (t : TillValue). t.state) n.0.0.inside) n.0.0.settling in
+        record {
+          happened = [];
+          by = ([], refl);
+          leaves = leaves_the_log seen may_leave moment left_since faults old.standing new.standing n.0.0.full settings log [] has;
+          then = λ whole. subst (λ l. HasLog seen may_leave moment left_since faults settings l new.standing) (sym (append-nil log)) (same_log seen may_leave moment left_since faults old.standing new.standing same n.0.0.full settings log has);
+        }
+    unasked_outlived settings log (BookBroke BookFailed) old new first last has n = record {
+      happened = [];
+      by = ([], refl);
+      leaves = after_ask seen may_leave moment left_since faults settings log [] old.standing.device new.standing.device (n.0.2.outlives settings log has);
+      then = λ whole. absurd (not_both (has_failed new) (failed_by new n.0.0 n.0.1) whole);
+    }
+    unasked_outlived settings log (LineBroke fault) old new first last has n = record {
+      happened = [];
+      by = ([], refl);
+      leaves = subst (λ (d : D). LeavesOnly moment left_since old.standing.device d (IsBetween settings log [])) (sym n.4.1) (after_ask seen may_leave moment left_since faults settings log [] old.standing.device n.2.standing.device (n.3.0.0.outlives settings log has));
+      then = lost_after settings (log ++ []) n.2 new n.4 (λ whole. n.3.0.0.logs settings log has);
+    }
+
+    -- an ask that was sent, and the messages that were heard then
+    ask_heard : (settings : Settings) (log : List Happening) (turns : ℕ) (before after : EndState) (old new : KeptValue D)
+        → HasLog seen may_leave moment left_since faults settings log old.standing → AskComes (kept_asks seen may_leave moment left_since faults) (Hears seen may_leave moment left_since faults) kept_rests turns before after old new → Outlived settings log asks old new
+    ask_heard settings log turns before after old new has comes =
+        let asked = comes.begins.sends in
+        let heard = (comes_there (Hears seen may_leave moment left_since faults) kept_rests Rest turns comes.middle after comes.asking new comes.comes).1.course.heard in
+        let all = after_answers seen may_leave moment left_since faults only_now settings log asked.bytes old.note old comes.asking new heard.messages heard.answers has asked.asked.0.0 heard.heard in
+        record { happened = map hears heard.messages; by = (heard.messages, refl); leaves = all.0; then = all.1 }
+
+    ask_outlived : (settings : Settings) (log : List Happening) (old new : KeptValue D) (before after : EndState) (turns : ℕ) (result : Result Unit RunFault)
+        → HasLog seen may_leave moment left_since faults settings log old.standing → AskRuns (kept_asks seen may_leave moment left_since faults) (Hears seen may_leave moment left_since faults) kept_rests turns Loses Loses has_failed result before after old new → Outlived settings log asks old new
+    ask_outlived settings log old new before after turns (Ok done) has ran = ask_heard settings log turns before after old new has ran.0
+    ask_outlived settings log old new before after turns (Err fault) has ran = ⊎_elim
+        (λ unsent. unasked_outlived settings log fault old new before.written after.written has unsent.0)
+        (λ more. ⊎_elim
+        (λ broke.
+        let b = broke.2 in
+        let up = b.gives_up in
+        let short = up.falls_short.broken in
+        let h = heard-before (Hears seen may_leave moment left_since faults) broke.0 b.middle.stream after.stream short.read short.written b.asking up.middle short.breaks in
+        let all = after_answers seen may_leave moment left_since faults only_now settings log b.begins.sends.bytes old.note old b.asking up.middle h.0 h.1 has b.begins.sends.asked.0.0 h.2 in
+        let gone = loses_by broke.0 up.middle new up.reported in
+        record {
+          happened = map hears h.0;
+          by = (h.0, refl);
+          leaves = subst (λ (d : D). LeavesOnly moment left_since old.standing.device d (IsBetween settings log (map hears h.0))) (sym gone.1) all.0;
+          then = lost_after settings (log ++ map hears h.0) up.middle new gone all.1;
+        })
+        (λ failed. ask_heard settings log turns before after old new has failed.2)
+        more)
+        ran
+
     all_or_none : (settings : Settings) (log happened : List Happening) (file : List ℕ) → LeavesLogs settings log happened file → IsBetween settings log happened file
     all_or_none settings log happened file left = ⊎_elim
         (λ s. at_first settings log happened file s)
@@ -224,7 +315,7 @@ module _ {D : Type 0} (seen : D → List ℕ) (may_leave : D → List ℕ → Ty
         (λ broke. record {
           happened = Lost ∷ Connected ∷ [];
           by = inr refl;
-          leaves = new_line settings log old.standing.device new.standing.device (broke.5 settings log has);
+          leaves = new_line settings log old.standing.device new.standing.device (broke.6 settings log has);
           then = λ whole. absurd (not_both (has_failed new) (failed_by new why broke.1) whole);
         })
         c
@@ -232,6 +323,9 @@ module _ {D : Type 0} (seen : D → List ℕ) (may_leave : D → List ℕ → Ty
     call_outlived : (settings : Settings) (log : List Happening) (step : KeptStep) (old new : KeptValue D) → HasLog seen may_leave moment left_since faults settings log old.standing → Did seen may_leave moment left_since faults step old new → Outlived settings log step old new
     call_outlived settings log (runs order) old new has did =
         let o = run_outlived settings log order (with_note old did.0) new did.1 did.2 did.3 did.4 did.5 did.6 did.7 did.8 did.9 did.10 has did.11 in
+        record { happened = o.happened; by = o.by; leaves = o.leaves; then = o.then }
+    call_outlived settings log asks old new has did =
+        let o = ask_outlived settings log (with_note old did.0) new did.1 did.2 did.3 did.4 has did.5 in
         record { happened = o.happened; by = o.by; leaves = o.leaves; then = o.then }
     call_outlived settings log connects old new has did = connect_outlived settings log old new did.0 has did.1
     call_outlived settings log loses old new has did = record {
@@ -252,6 +346,7 @@ module _ {D : Type 0} (seen : D → List ℕ) (may_leave : D → List ℕ → Ty
     none_happened : (currency : ℕ) (steps : List KeptStep) → HappenInAll currency steps []
     none_happened currency [] = refl
     none_happened currency (runs order ∷ more) = ([], [], inl refl, none_happened currency more, refl)
+    none_happened currency (asks ∷ more) = ([], [], ([], refl), none_happened currency more, refl)
     none_happened currency (connects ∷ more) = ([], [], inl refl, none_happened currency more, refl)
     none_happened currency (loses ∷ more) = ([], [], refl, none_happened currency more, refl)
 

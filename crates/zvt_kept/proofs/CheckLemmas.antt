@@ -1,6 +1,6 @@
 -- Checks of records.
-use Rattle.std.proofs.Common.{◌≡◌, ℕ, zero, suc, ◌+◌, ◌/◌, ◌%◌, ◌^◌, ◌<◌, Bool, true, false, List, [], ◌∷◌, ◌++◌, All, length, map, take, Option, Some, None, Result, Ok, Err, drop, refl, ap, sym, ◌∙◌, subst, arith, append_assoc, length-append, fold}
-use Rattle.std.specs.Prelude.{codes, cond, ◌&&◌, IsErrAnd, is_some, nat_eq}
+use Rattle.std.proofs.Common.{◌≡◌, ℕ, zero, suc, ◌+◌, ◌/◌, ◌%◌, ◌^◌, ◌<◌, Bool, true, false, List, [], ◌∷◌, ◌++◌, All, length, take, Option, Some, None, Result, Ok, Err, drop, refl, ap, sym, ◌∙◌, subst, arith, append_assoc, length-append, fold}
+use Rattle.std.specs.Prelude.{cond, ◌&&◌, IsErrAnd, is_some, nat_eq}
 use Rattle.std.specs.Str.Lines.{lines}
 use Rattle.std.specs.Int.{byte_at, bytes_high_first, to_be_bytes, w32}
 use Rattle.std.proofs.lemmas.List.{append-nil}

@@ -10,7 +10,7 @@ use Rattle.zvt_journal.proofs.Lines.{recovered_whole}
 use Rattle.zvt_journal.proofs.Moments.{started}
 use Rattle.zvt_journal.proofs.Repairable.{repairable_at_rest}
 use Rattle.zvt_till.specs.declared.orders.Order.{Order}
-use Rattle.zvt_kept.specs.Records.{Kept, IsRecordOf, order_record}
+use Rattle.zvt_kept.specs.Records.{Kept, IsRecordOf, ask_record, order_record}
 use Rattle.zvt_io.specs.Devices.{IsPrefix}
 use Rattle.zvt_kept.specs.Reading.{Extends}
 use Rattle.zvt_kept.specs.KeptTill.{Adds, HasCause, HasNoted, Recorded}
@@ -35,6 +35,11 @@ pub noted : {D : Type 0} (seen : D → List ℕ) (old new : D) (order : Order) (
     → OnOk result (recovered (seen new) ≡ recovered (seen old) ++ text) → OnOk result (HasNoted seen order note old new)
 noted seen old new order note sent text (Ok done) is more = (sent, more ∙ ap (λ t. recovered (seen old) ++ t) is)
 noted seen old new order note sent text (Err why) is more = tt
+
+-- so has the record of an ask
+pub ask_noted : {D : Type 0} (seen : D → List ℕ) (old new : D) (note text : List ℕ) (result : Result Unit DeviceError) → text ≡ ask_record note
+    → OnOk result (recovered (seen new) ≡ recovered (seen old) ++ text) → OnOk result (recovered (seen new) ≡ recovered (seen old) ++ ask_record note)
+ask_noted seen old new note text result is more = subst (λ t. OnOk result (recovered (seen new) ≡ recovered (seen old) ++ t)) is more
 
 module _ {D : Type 0} (seen : D → List ℕ) (may_leave : D → List ℕ → Type 0) (moment : D → ℕ) (left_since : D → ℕ → List ℕ → Type 0) (faults : D → ℕ) where
   -- nothing was written

@@ -1,4 +1,5 @@
 mod AskLemmas
+mod AsksOutlived
 mod Begun
 mod Bytes
 pub mod CallsOutlived

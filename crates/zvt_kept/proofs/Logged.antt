@@ -1,5 +1,5 @@
 -- What a till and its journal keep, one record further.
-use Rattle.std.proofs.Common.{◌≡◌, ⊎_elim, inl, inr, ℕ, Bool, true, false, List, [], ◌∷◌, ◌++◌, Option, Some, None, refl, sym, ap, subst, ◌∙◌, append_assoc, arith}
+use Rattle.std.proofs.Common.{◌≡◌, ⊎_elim, inl, inr, ℕ, Bool, true, false, List, [], ◌∷◌, ◌++◌, length, Option, Some, None, option_map, refl, sym, ap, ap₂, subst, ◌∙◌, append_assoc, arith}
 use Rattle.std.specs.Prelude.{fold}
 use Rattle.std.proofs.lemmas.Option.{same_Some}
 use Rattle.std.proofs.lemmas.List.{append-nil, take_all}
@@ -15,7 +15,7 @@ use Rattle.zvt_till.specs.Refusals.{sent_as}
 use Rattle.zvt_till.specs.declared.statuses.Running.{Running}
 use Rattle.zvt_till.specs.Log.{CanFollow, facts_in, line_after, line_up}
 use Rattle.zvt_till.specs.Sending.{Settings}
-use Rattle.zvt_till.specs.Till.{TillState, facts_of, meet, meet_running, line_down, new_till, state_after, step}
+use Rattle.zvt_till.specs.Till.{TillState, facts_of, meet, meet_running, line_down, new_till, outcome_at, state_after, step}
 use Rattle.zvt_till.specs.TillHistory.{Stands}
 use Rattle.zvt_till.proofs.BookStepLemmas.{settings-kept}
 use Rattle.zvt_till.proofs.Segments.{fold-snoc}
@@ -24,11 +24,11 @@ use Rattle.zvt_till.proofs.TillHistoryLemmas.{stands-more}
 use Rattle.zvt_journal.specs.Text.{recovered, whole, IsWithOrWithout}
 use Rattle.zvt_journal.specs.Device.{LeavesOnly}
 use Rattle.zvt_journal.proofs.Lines.{recovered_whole}
-use Rattle.zvt_settle.specs.Settling.{Note, Line, both_after, new_both, take}
-use Rattle.zvt_kept.specs.Records.{Kept, ordered, heard, lost, IsRecordOf, RecordsAreKept, kept_in}
-use Rattle.zvt_kept.specs.Logs.{CanTakeAll, Happens, IsIdle, MeanAll, Means, StandsFor, on_line, opening_of}
-use Rattle.zvt_kept.proofs.AskLemmas.{asks_more, each_last, each_more, line_idle, lost_idle, means_line}
-use Rattle.zvt_kept.specs.KeptTill.{HasLog, IsKept, Keeps, KeepsSome, LeavesLogs, Outlives, Standing, unless_up}
+use Rattle.zvt_settle.specs.Settling.{Note, Line, Asked, Both, Settling, ask_refusal, both_after, ended_as, met, new_both, noted as note_of, settles as settles_by, take}
+use Rattle.zvt_kept.specs.Records.{Kept, ordered, asked, heard, lost, IsRecordOf, RecordsAreKept, kept_in}
+use Rattle.zvt_kept.specs.Logs.{CanTakeAll, Happens, MeanAll, Means, StandsFor, on_line, opening_of}
+use Rattle.zvt_kept.proofs.AskLemmas.{asks_more, each_last, each_more, lost_idle, means_once}
+use Rattle.zvt_kept.specs.KeptTill.{HasLog, IsKept, Keeps, KeepsSome, LeavesLogs, Outlives, Settles, Standing, unless_up}
 
 -- ---- records
 
@@ -36,12 +36,27 @@ use Rattle.zvt_kept.specs.KeptTill.{HasLog, IsKept, Keeps, KeepsSome, LeavesLogs
 abbrev pub CanRecord : (settings : Settings) (text : List ℕ) (log : List Happening) → Kept → StandsFor settings text log → Type 0
 CanRecord settings text log one s = (notes : List Note) × Means settings.currency one notes × CanTakeAll (both_after settings (Line Connected ∷ s.asks.notes)) notes
 
-pub order_can : (settings : Settings) (log : List Happening) (seen : List ℕ) (may_leave : List ℕ → Type 0) (gate : ℕ) (state : TillState) (order : Order) (note : List ℕ) → state.line_up ≡ true
-    → (k : Keeps settings log seen may_leave gate state) → CanRecord settings (recovered seen) log (ordered order note) k.recorded
-order_can settings log seen may_leave gate state order note up k =
-    let out = SentOut (sent_as settings.currency order) in
+-- while the line is up, it has the state after its records
+up_settles : (settings : Settings) (both : Both) (notes : List Note) → both.till.line_up ≡ true → both ≡ both_after settings ((Line Connected ∷ notes) ++ on_line (unless_up both.till.line_up))
+    → both ≡ both_after settings (Line Connected ∷ notes)
+up_settles settings both notes up is = is ∙ ap (λ b. both_after settings ((Line Connected ∷ notes) ++ on_line (unless_up b))) up ∙ ap (both_after settings) (append-nil (Line Connected ∷ notes))
+
+at_records : (settings : Settings) (log : List Happening) (seen : List ℕ) (may_leave : List ℕ → Type 0) (gate : ℕ) (both : Both) → both.till.line_up ≡ true
+    → (k : Keeps settings log seen may_leave gate both) → both ≡ both_after settings (Line Connected ∷ k.recorded.asks.notes)
+at_records settings log seen may_leave gate both up k =
     let s = k.recorded in
-    (on_line (out ∷ []), (out ∷ [], refl, refl), (k.idle up s.kept s.asks.notes s.read s.asks.means, tt))
+    up_settles settings both s.asks.notes up (k.settles s.kept s.asks.notes s.read s.asks.means)
+
+pub order_can : (settings : Settings) (log : List Happening) (seen : List ℕ) (may_leave : List ℕ → Type 0) (gate : ℕ) (both : Both) (order : Order) (note : List ℕ) → both.till.line_up ≡ true → both.settling.asking ≡ None
+    → (k : Keeps settings log seen may_leave gate both) → CanRecord settings (recovered seen) log (ordered order note) k.recorded
+order_can settings log seen may_leave gate both order note up idle k =
+    let out = SentOut (sent_as settings.currency order) in
+    (on_line (out ∷ []), (out ∷ [], refl, refl), (sym (ap (λ b. b.settling.asking) (at_records settings log seen may_leave gate both up k)) ∙ idle, tt))
+
+pub ask_can : (settings : Settings) (log : List Happening) (seen : List ℕ) (may_leave : List ℕ → Type 0) (gate : ℕ) (both : Both) (note : List ℕ) → both.till.line_up ≡ true → ask_refusal (facts_of both.till) both.settling.asking ≡ None
+    → (k : Keeps settings log seen may_leave gate both) → CanRecord settings (recovered seen) log (asked note) k.recorded
+ask_can settings log seen may_leave gate both note up taken k =
+    (Asked ∷ [], refl, (subst (λ b. ask_refusal (facts_of b.till) b.settling.asking ≡ None) (at_records settings log seen may_leave gate both up k) taken, tt))
 
 pub heard_can : (settings : Settings) (text : List ℕ) (log : List Happening) (message : Message) (bytes : List ℕ) → ∥ Spells padded message bytes ∥₁ → (s : StandsFor settings text log) → CanRecord settings text log (heard bytes) s
 heard_can settings text log message bytes spelled s = (on_line (hears message ∷ []), (hears message ∷ [], (message, spelled, refl), refl), (tt, tt))
@@ -65,31 +80,36 @@ module _ (records_are_kept : RecordsAreKept) where
     asks = asks_more settings s.kept one s.asks can.0 can.1 can.2;
   }
 
-  -- ---- whether an ask runs
+  -- ---- what was settled
 
-  idle_more : (settings : Settings) (file : List ℕ) (kept : List Kept) (one : Kept) (added : List ℕ) → kept_in (recovered file) ≡ Some kept → IsRecordOf one added
-      → ((notes more : List Note) → MeanAll settings.currency kept notes → Means settings.currency one more → (fold take (both_after settings (Line Connected ∷ notes)) more).settling.asking ≡ None)
-      → IsIdle settings (recovered file ++ added)
-  idle_more settings file kept one added read is still all notes told means =
+  -- one more record, after which the line is up
+  settles_more : (settings : Settings) (file : List ℕ) (kept : List Kept) (one : Kept) (added : List ℕ) (meant : List Note) (new : Both) → kept_in (recovered file) ≡ Some kept → IsRecordOf one added
+      → Means settings.currency one meant → new.till.line_up ≡ true
+      → ((notes : List Note) → MeanAll settings.currency kept notes → new ≡ fold take (both_after settings (Line Connected ∷ notes)) meant)
+      → Settles settings (recovered file ++ added) new
+  settles_more settings file kept one added meant new read is m up goes all notes told means =
       let same : all ≡ kept ++ one ∷ [] = same_Some all (kept ++ one ∷ []) (sym told ∙ records_are_kept (recovered file) kept one added (whole_text file) read is) in
       let cut = each_last (Means settings.currency) kept one notes (subst (λ k. MeanAll settings.currency k notes) same means) in
-      ap (λ l. (both_after settings (Line Connected ∷ l)).settling.asking) cut.4 ∙ ap (λ b. b.settling.asking) (fold-append take (new_both settings) (Line Connected ∷ cut.0) cut.1) ∙ still cut.0 cut.1 cut.2 cut.3
+      let last : cut.1 ≡ meant = means_once settings.currency one cut.1 meant cut.3 m in
+      let whole : notes ≡ cut.0 ++ meant = cut.4 ∙ ap (λ l. cut.0 ++ l) last in
+      let here : new ≡ both_after settings (Line Connected ∷ notes) =
+      goes cut.0 cut.2 ∙ sym (fold-append take (new_both settings) (Line Connected ∷ cut.0) meant) ∙ ap (λ l. both_after settings (Line Connected ∷ l)) (sym whole) in
+      here ∙ sym (ap (λ b. both_after settings ((Line Connected ∷ notes) ++ on_line (unless_up b))) up ∙ ap (both_after settings) (append-nil (Line Connected ∷ notes)))
 
-  -- an event begins none
-  pub idle_on : (settings : Settings) (file : List ℕ) (kept : List Kept) (one : Kept) (added : List ℕ) (h : Happening) → kept_in (recovered file) ≡ Some kept → IsRecordOf one added → Happens settings.currency one (h ∷ [])
-      → IsIdle settings (recovered file) → IsIdle settings (recovered file ++ added)
-  idle_on settings file kept one added h read is happens idle =
-      idle_more settings file kept one added read is (λ notes more means m.
-      let b = both_after settings (Line Connected ∷ notes) in
-      ap (λ l. (fold take b l).settling.asking) (means_line settings.currency one h [] more happens m) ∙ line_idle b h (idle kept notes read means))
+  -- on a line that is up and stays up
+  pub settles_on : (settings : Settings) (file : List ℕ) (kept : List Kept) (one : Kept) (added : List ℕ) (meant : List Note) (old new : Both) → kept_in (recovered file) ≡ Some kept → IsRecordOf one added
+      → Means settings.currency one meant → old.till.line_up ≡ true → new.till.line_up ≡ true → new ≡ fold take old meant
+      → Settles settings (recovered file) old → Settles settings (recovered file ++ added) new
+  settles_on settings file kept one added meant old new read is m was up goes s =
+      settles_more settings file kept one added meant new read is m up (λ notes means. goes ∙ ap (λ b. fold take b meant) (up_settles settings old notes was (s kept notes read means)))
 
-  -- a lost line ends the one that runs
-  pub idle_lost : (settings : Settings) (file : List ℕ) (kept : List Kept) (one : Kept) (added : List ℕ) → kept_in (recovered file) ≡ Some kept → IsRecordOf one added → Happens settings.currency one (Lost ∷ Connected ∷ [])
-      → IsIdle settings (recovered file ++ added)
-  idle_lost settings file kept one added read is happens =
-      idle_more settings file kept one added read is (λ notes more means m.
-      let b = both_after settings (Line Connected ∷ notes) in
-      ap (λ l. (fold take b l).settling.asking) (means_line settings.currency one Lost (Connected ∷ []) more happens m) ∙ lost_idle b)
+  -- a new line
+  pub settles_anew : (settings : Settings) (file : List ℕ) (kept : List Kept) (added : List ℕ) (old new : Both) → kept_in (recovered file) ≡ Some kept → IsRecordOf lost added
+      → old.till.line_up ≡ false → new.till.line_up ≡ true → new ≡ take old (Line Connected)
+      → Settles settings (recovered file) old → Settles settings (recovered file ++ added) new
+  settles_anew settings file kept added old new read is was up goes s =
+      settles_more settings file kept lost added (on_line (Lost ∷ Connected ∷ [])) new read is (Lost ∷ Connected ∷ [], refl, refl) up (λ notes means.
+      goes ∙ ap (λ b. take b (Line Connected)) (s kept notes read means ∙ ap (λ b. both_after settings ((Line Connected ∷ notes) ++ on_line (unless_up b))) was ∙ fold-snoc take (new_both settings) (Line Connected ∷ notes) (Line Lost)))
 
   -- with the record or without it
   pub leaves_logs : (settings : Settings) (file : List ℕ) (log : List Happening) (one : Kept) (added : List ℕ) (happened : List Happening)
@@ -134,12 +154,12 @@ stands_up settings log state up t = subst (λ l. Stands settings l state) (sym (
 -- what happens on a line that is up, and doesn't end it
 pub stays_up : (settings : Settings) (log : List Happening) (state next : TillState) (h : Happening)
     → state.line_up ≡ true → (line_after true h ≡ true) → CanFollow settings (facts_in settings.rules log) h → next ≡ step state h
-    → Stands settings (log ++ unless_up state.line_up) state → Stands settings ((log ++ h ∷ []) ++ unless_up next.line_up) next
+    → Stands settings (log ++ unless_up state.line_up) state → (next.line_up ≡ true) × Stands settings ((log ++ h ∷ []) ++ unless_up next.line_up) next
 stays_up settings log state next h up stays can is t =
     let now : Stands settings log state = up_stands settings log state up t in
     let then : Stands settings (log ++ h ∷ []) next = subst (λ s. Stands settings (log ++ h ∷ []) s) (sym is) (stands-more settings log state h now can) in
     let line : next.line_up ≡ true = line_is settings (log ++ h ∷ []) next then ∙ fold-snoc line_after false log h ∙ ap (λ b. line_after b h) (sym (line_is settings log state now) ∙ up) ∙ stays in
-    stands_up settings (log ++ h ∷ []) next line then
+    (line, stands_up settings (log ++ h ∷ []) next line then)
 
 -- ---- the line
 
@@ -165,9 +185,35 @@ lost_stands settings log state false t =
     let is : state ≡ step before Lost = t.1 ∙ fold-snoc step (new_till settings) log Lost in
     subst (λ s. Stands settings (log ++ Lost ∷ []) s) (is ∙ sym (lost_twice before) ∙ ap (λ s. step s Lost) (sym is)) t
 
-pub keeps_lost : (settings : Settings) (log : List Happening) (seen : List ℕ) (may_leave : List ℕ → Type 0) (gate : ℕ) (state : TillState)
-    → Keeps settings log seen may_leave gate state → Keeps settings log seen may_leave gate (step state Lost)
-keeps_lost settings log seen may_leave gate state k = record { settled = k.settled; recorded = k.recorded; stands = lost_stands settings log state state.line_up k.stands; idle = λ up. let down : false ≡ true = up in absurd cc }
+-- what a till that rests has settled stays as it is
+rests_still : (t : TillState) (s : Settling) → t.running ≡ None → s.asking ≡ None → settles_by t s Lost ≡ s
+rests_still t s none idle =
+    ap (λ a. met t (note_of s Lost) a Lost) idle ∙ ap (λ (r : Option Running). ended_as (note_of s Lost) (option_map (λ x. x.order) r) (outcome_at t Lost) (length t.unclear)) none
+
+-- a line that is lost twice is lost once
+both_lost_twice : (b : Both) → take (take b (Line Lost)) (Line Lost) ≡ take b (Line Lost)
+both_lost_twice b =
+    let gone = take b (Line Lost) in
+    ap₂ (λ (t : TillState) (s : Settling). record { till = t; settling = s }) (lost_twice b.till) (rests_still gone.till gone.settling (running_lost b.till b.till.running refl) (lost_idle b))
+
+-- what a lost line leaves to settle
+pub settles_lost : (settings : Settings) (text : List ℕ) (both : Both) → Settles settings text both → Settles settings text (take both (Line Lost))
+settles_lost settings text both s kept notes read means = by_line both.till.line_up (s kept notes read means)
+  where
+    by_line : (up : Bool) → both ≡ both_after settings ((Line Connected ∷ notes) ++ on_line (unless_up up)) → take both (Line Lost) ≡ both_after settings ((Line Connected ∷ notes) ++ Line Lost ∷ [])
+    by_line true is = ap (λ b. take b (Line Lost)) (is ∙ ap (both_after settings) (append-nil (Line Connected ∷ notes))) ∙ sym (fold-snoc take (new_both settings) (Line Connected ∷ notes) (Line Lost))
+    by_line false is =
+        let here : both ≡ take (both_after settings (Line Connected ∷ notes)) (Line Lost) = is ∙ fold-snoc take (new_both settings) (Line Connected ∷ notes) (Line Lost) in
+        ap (λ b. take b (Line Lost)) here ∙ both_lost_twice (both_after settings (Line Connected ∷ notes)) ∙ sym (fold-snoc take (new_both settings) (Line Connected ∷ notes) (Line Lost))
+
+pub keeps_lost : (settings : Settings) (log : List Happening) (seen : List ℕ) (may_leave : List ℕ → Type 0) (gate : ℕ) (both : Both)
+    → Keeps settings log seen may_leave gate both → Keeps settings log seen may_leave gate (take both (Line Lost))
+keeps_lost settings log seen may_leave gate both k = record {
+  settled = k.settled;
+  recorded = k.recorded;
+  stands = lost_stands settings log both.till both.till.line_up k.stands;
+  settles = settles_lost settings (recovered seen) both k.settles;
+}
 
 pub connected_stands : (settings : Settings) (log : List Happening) (state next : TillState) → state.line_up ≡ false → next ≡ step state Connected
     → Stands settings (log ++ unless_up state.line_up) state → Stands settings ((log ++ Lost ∷ Connected ∷ []) ++ unless_up next.line_up) next
@@ -179,14 +225,14 @@ connected_stands settings log state next down is t =
 
 -- ---- the settings
 
-pub keeps_some : (settings : Settings) (log : List Happening) (seen : List ℕ) (may_leave : List ℕ → Type 0) (gate : ℕ) (state : TillState)
-    → Keeps settings log seen may_leave gate state → KeepsSome seen may_leave gate state
-keeps_some settings log seen may_leave gate state k =
-    let own : state.settings ≡ settings = ap (λ s. s.settings) k.stands.1 ∙ settings-kept settings (log ++ unless_up state.line_up) in
-    (log, subst (λ x. Keeps x log seen may_leave gate state) (sym own) k)
+pub keeps_some : (settings : Settings) (log : List Happening) (seen : List ℕ) (may_leave : List ℕ → Type 0) (gate : ℕ) (both : Both)
+    → Keeps settings log seen may_leave gate both → KeepsSome seen may_leave gate both
+keeps_some settings log seen may_leave gate both k =
+    let own : both.till.settings ≡ settings = ap (λ s. s.settings) k.stands.1 ∙ settings-kept settings (log ++ unless_up both.till.line_up) in
+    (log, subst (λ x. Keeps x log seen may_leave gate both) (sym own) k)
 
-pub kept_lost : (failed : Bool) (seen : List ℕ) (may_leave : List ℕ → Type 0) (gate : ℕ) (state next : TillState) → next ≡ step state Lost
-    → IsKept failed seen may_leave gate state → IsKept failed seen may_leave gate next
-kept_lost true seen may_leave gate state next is k = ap (λ s. s.line_up) is
-kept_lost false seen may_leave gate state next is k =
-    keeps_some state.settings k.0 seen may_leave gate next (subst (λ s. Keeps state.settings k.0 seen may_leave gate s) (sym is) (keeps_lost state.settings k.0 seen may_leave gate state k.1))
+pub kept_lost : (failed : Bool) (seen : List ℕ) (may_leave : List ℕ → Type 0) (gate : ℕ) (both next : Both) → next ≡ take both (Line Lost)
+    → IsKept failed seen may_leave gate both → IsKept failed seen may_leave gate next
+kept_lost true seen may_leave gate both next is k = ap (λ b. b.till.line_up) is
+kept_lost false seen may_leave gate both next is k =
+    keeps_some both.till.settings k.0 seen may_leave gate next (subst (λ b. Keeps both.till.settings k.0 seen may_leave gate b) (sym is) (keeps_lost both.till.settings k.0 seen may_leave gate both k.1))

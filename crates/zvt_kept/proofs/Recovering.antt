@@ -1,8 +1,7 @@
 -- A till that lives through the records of a journal again.
 use Rattle.std.proofs.Common.{◌≡◌, ℕ, ◌+◌, ◌<◌, Bool, true, false, List, [], ◌∷◌, ◌++◌, length, take, drop, map, Some, None, Result, Ok, Err, refl, sym, ap, subst, ◌∙◌, append_assoc, arith, get_or, suc, add-one, drop-cons}
 use Rattle.std.proofs.lemmas.Option.{same_Some}
-use Rattle.std.proofs.lemmas.List.{append-nil, length-map, length-take-le, map-append, take-append-drop, take_all}
-use Rattle.std.proofs.Math.Seq.{take-suc}
+use Rattle.std.proofs.lemmas.List.{length-map, length-take-le, map-append, take-append-drop, take_all}
 use Rattle.zvt_till.specs.declared.happenings.Happening.{Happening}
 use Rattle.zvt_till.specs.declared.happenings.Happening.TheVariants.{Connected, Lost}
 use Rattle.zvt_till.specs.Log.{IsLog}
@@ -13,18 +12,18 @@ use Rattle.zvt_till.proofs.TillHistoryLemmas.{stands-more}
 use Rattle.zvt_kept.specs.declared.records.Entry.{Entry}
 use Rattle.zvt_kept.specs.Records.{Kept, kept_in}
 use Rattle.zvt_settle.specs.Settling.{Line, Both, both_after, new_both}
-use Rattle.zvt_kept.specs.Logs.{CanAsk, CanTakeAll, Happens, HappenAll, HasOpening, LogsAreOne, Means, StandsFor}
+use Rattle.zvt_kept.specs.Logs.{CanAsk, CanTakeAll, Happens, HappenAll, HasOpening, LogsAreOne, MeanAll, Means, StandsFor, on_line}
 use Rattle.zvt_kept.specs.Reading.{kept_of}
-use Rattle.zvt_kept.specs.Recovery.{IsFirstForeign, IsRecovered, Recovers, Relives, Replays}
+use Rattle.zvt_kept.specs.Recovery.{HasSettled, IsFirstForeign, IsRecovered, Recovers, Relives, Replays}
 use Rattle.zvt_journal.specs.Text.{recovered, IsSettled}
 use Rattle.zvt_till.proofs.Segments.{fold-snoc}
-use Rattle.zvt_kept.specs.KeptTill.{Keeps, unless_up}
-use Rattle.zvt_kept.specs.Outliving.{IsLostTill, LogsAreRecovered, TillsAreRecovered}
+use Rattle.zvt_kept.specs.KeptTill.{Keeps, Settles, both_in, unless_up}
+use Rattle.zvt_kept.specs.Outliving.{IsLostTill, LogsAreRecovered, SettlingIsRecovered, TillsAreRecovered}
 use Rattle.zvt_kept.specs.declared.recovery.RecoveryError.TheVariants.{Opening, Check, Line, Record, Memory}
 use Rattle.zvt_till.specs.View.{TillValue}
 use Rattle.zvt_kept.specs.declared.recovery.RecoveryError.{RecoveryError}
-use Rattle.zvt_kept.proofs.AskLemmas.{all_lines, asks_before, each_first, each_last, each_more, each_once, happens_once, means_once, takes_then, till_of_notes}
-use Rattle.zvt_kept.proofs.Logged.{lost_stands}
+use Rattle.zvt_kept.proofs.AskLemmas.{asks_before, each_first, each_last, each_more, each_once, happens_once, means_once, takes_then}
+use Rattle.zvt_kept.proofs.Logged.{lost_stands, settles_lost}
 use Rattle.zvt_kept.proofs.Replayed.{AskedSoFar, taken}
 use Rattle.zvt_kept.proofs.Relived.{prefix_from}
 
@@ -66,9 +65,9 @@ one_more settings entries i entry old new below is lives s =
       up = next.3;
     }
 
-pub foreign : (settings : Settings) (text : List ℕ) (entries : List Entry) (i : ℕ) (entry : Entry) (old new : TillState) (both after : Both) → i < length entries → entry ≡ get_or entries i entry
-    → kept_in text ≡ Some (map kept_of entries) → Replays false (kept_of entry) old new both after → SoFar settings entries i old → AskedSoFar settings (map kept_of (take i entries)) both → IsFirstForeign settings text (i + 1)
-foreign settings text entries i entry old new both after below is read dies s a =
+pub foreign : (settings : Settings) (text : List ℕ) (entries : List Entry) (i : ℕ) (entry : Entry) (both after : Both) → i < length entries → entry ≡ get_or entries i entry
+    → kept_in text ≡ Some (map kept_of entries) → Replays false (kept_of entry) both after → SoFar settings entries i both.till → AskedSoFar settings (map kept_of (take i entries)) both → IsFirstForeign settings text (i + 1)
+foreign settings text entries i entry both after below is read dies s a =
     let before = map kept_of (take i entries) in
     let cut : entries ≡ take i entries ++ entry ∷ drop (i + 1) entries =
     rw add-one (sym (take-append-drop i entries) ∙ ap (λ ys. take i entries ++ ys) (drop-cons entries i entry below ∙ ap (λ y. y ∷ drop (suc i) entries) (sym is))) in
@@ -86,8 +85,7 @@ foreign settings text entries i entry old new both after below is read dies s a 
           let alike : noted.0 ≡ a.asks.notes = each_once (Means settings.currency) (means_once settings.currency) before noted.0 a.asks.notes noted.2 a.asks.means in
           let takes = takes_then (new_both settings) (Line Connected ∷ noted.0) noted.1 (subst (λ l. CanTakeAll (new_both settings) (Line Connected ∷ l)) noted.4 life.3.takes) in
           let here : CanTakeAll both noted.1 = subst (λ b. CanTakeAll b noted.1) (ap (λ l. both_after settings (Line Connected ∷ l)) alike ∙ sym a.is) takes in
-          let inside : both.till ≡ old = ap (λ b. b.till) a.is ∙ till_of_notes settings a.asks.notes s.happened (all_lines settings.currency before a.asks.notes s.happened a.asks.means s.happens) ∙ sym s.stands.1 in
-          dies settings (Connected ∷ s.happened) last.1 noted.1 s.stands inside last.3 (subst (λ l. IsLog settings (Connected ∷ l)) same life.2) noted.3 here;
+          dies settings (Connected ∷ s.happened) last.1 noted.1 s.stands last.3 (subst (λ l. IsLog settings (Connected ∷ l)) same life.2) noted.3 here;
     }
 
 pub at_end : (settings : Settings) (text : List ℕ) (entries : List Entry) (old new : TillState) → HasOpening settings text → kept_in text ≡ Some (map kept_of entries)
@@ -120,16 +118,24 @@ logs_are_recovered settings text log (Err Memory) s k r = tt
 
 -- ---- a till over a journal that was opened
 
-pub opened_keeps : (settings : Settings) (seen text : List ℕ) (may_leave : List ℕ → Type 0) (gate : ℕ) (state : TillState) → IsSettled seen may_leave gate → recovered seen ≡ text
-    → (r : IsRecovered settings text state) → (log : List Happening) → StandsFor settings text log → Keeps settings log seen may_leave gate state
-opened_keeps settings seen text may_leave gate state settled is r log s =
+-- the asks of records are one
+settled_so : (settings : Settings) (text : List ℕ) (both : Both) → both.till.line_up ≡ false → HasSettled settings text both → Settles settings text both
+settled_so settings text both down h kept notes read means =
+    let same : kept ≡ h.kept = same_kept kept h.kept (sym read ∙ h.read) in
+    let alike : notes ≡ h.asks.notes = each_once (Means settings.currency) (means_once settings.currency) h.kept notes h.asks.notes (subst (λ k. MeanAll settings.currency k notes) same means) h.asks.means in
+    h.is ∙ ap (λ l. both_after settings ((Line Connected ∷ l) ++ Line Lost ∷ [])) (sym alike) ∙ ap (λ b. both_after settings ((Line Connected ∷ notes) ++ on_line (unless_up b))) (sym down)
+
+pub opened_keeps : (settings : Settings) (seen text : List ℕ) (may_leave : List ℕ → Type 0) (gate : ℕ) (both : Both) → IsSettled seen may_leave gate → recovered seen ≡ text
+    → (r : IsRecovered settings text both.till) → HasSettled settings text both → (log : List Happening) → StandsFor settings text log → Keeps settings log seen may_leave gate both
+opened_keeps settings seen text may_leave gate both settled is r h log s =
+    let state = both.till in
     let down : state.line_up ≡ false = ap (λ t. t.line_up) (r.stands.1 ∙ fold-snoc step (new_till settings) r.log Lost) in
     let same : r.log ≡ log = logs_are_one settings text r.log log r.recorded s in
     record {
       settled = settled;
       recorded = subst (λ t. StandsFor settings t log) (sym is) s;
       stands = subst (λ l. Stands settings l state) (ap (λ l. l ++ Lost ∷ []) same ∙ ap (λ b. log ++ unless_up b) (sym down)) r.stands;
-      idle = λ up. let both : false ≡ true = sym down ∙ up in absurd cc;
+      settles = subst (λ t. Settles settings t both) (sym is) (settled_so settings text both down h);
     }
 
 -- what a till with its journal is, recovery finds
@@ -147,3 +153,9 @@ module _ {D : Type 0} (seen : D → List ℕ) (may_leave : D → List ℕ → Ty
   pub tills_are_recovered : TillsAreRecovered seen may_leave moment left_since faults
   tills_are_recovered settings log kept result has r =
       recovered_till settings (recovered (seen kept.standing.device)) log kept.standing.till.state kept.standing.till.state.line_up result refl has.recorded has.stands r
+
+  -- the records have what it settled, as it stands after a lost line
+  pub settling_is_recovered : SettlingIsRecovered seen may_leave moment left_since faults
+  settling_is_recovered settings log kept both has h =
+      let text = recovered (seen kept.standing.device) in
+      h.is ∙ sym (settles_lost settings text (both_in kept.standing) has.settles h.kept h.asks.notes h.read h.asks.means)

@@ -11,7 +11,7 @@ use Rattle.zvt_journal.proofs.Lines.{recovered_whole}
 use Rattle.zvt_journal.proofs.Moments.{and_then}
 use Rattle.zvt_journal.proofs.Repairable.{repairable_at_rest}
 use Rattle.zvt_kept.specs.KeptTill.{Adds, HasCause, HasNoted, Recorded}
-use Rattle.zvt_kept.specs.Records.{Kept, order_record}
+use Rattle.zvt_kept.specs.Records.{Kept, ask_record, order_record}
 use Rattle.zvt_kept.proofs.Logged.{weaker}
 use Rattle.zvt_kept.proofs.Made.{records_are_kept}
 
@@ -21,6 +21,10 @@ cause_before before middle after gate (Ok done) le cause = tt
 cause_before before middle after gate (Err Memory) le cause = tt
 cause_before before middle after gate (Err Failed) le cause = omega (arith, le, cause)
 cause_before before middle after gate (Err Full) le cause = cause
+
+-- a reservation leaves the records as they are
+pub ask_noted_after : {D : Type 0} (seen : D → List ℕ) (old middle new : D) (note : List ℕ) → seen middle ≡ seen old → recovered (seen new) ≡ recovered (seen middle) ++ ask_record note → recovered (seen new) ≡ recovered (seen old) ++ ask_record note
+ask_noted_after seen old middle new note file noted = subst (λ (f : List ℕ). recovered (seen new) ≡ recovered f ++ ask_record note) file noted
 
 module _ {D : Type 0} (seen : D → List ℕ) (may_leave : D → List ℕ → Type 0) (moment : D → ℕ) (left_since : D → ℕ → List ℕ → Type 0) (faults : D → ℕ) where
   -- a reservation leaves the file as it is

@@ -64,7 +64,7 @@ module _ {D : Type 0} (seen : D → List ℕ) (may_leave : D → List ℕ → Ty
         → HasLog seen may_leave moment left_since faults settings log old.standing → NotSent (kept_orders seen may_leave moment left_since faults) (LosesLine seen may_leave moment left_since faults) fault order old new first last → Left settings log order old.standing.device new.standing.device []
     unsent_outlives settings log order (OrderFault why) old new first last has n =
         subst (λ (k : KeptValue D). Left settings log order old.standing.device k.standing.device []) (sym n.0.1) (quiet seen may_leave moment left_since faults only_now settings log (SentOut (sent_as settings.currency order) ∷ []) old.standing has)
-    unsent_outlives settings log order (BookBroke NoSpace) old new first last has n = leaves_the_log seen may_leave moment left_since faults order old.standing new.standing n.0.0 settings log (SentOut (sent_as settings.currency order) ∷ []) has
+    unsent_outlives settings log order (BookBroke NoSpace) old new first last has n = leaves_the_log seen may_leave moment left_since faults old.standing new.standing n.0.0.full settings log (SentOut (sent_as settings.currency order) ∷ []) has
     unsent_outlives settings log order (BookBroke BookFailed) old new first last has n = after_order settings log order old.standing.device new.standing.device [] (n.0.2.outlives settings log has)
     unsent_outlives settings log order (LineBroke fault) old new first last has n =
         subst (λ (d : D). Left settings log order old.standing.device d []) (sym n.4.1) (after_order settings log order old.standing.device n.2.standing.device [] (n.3.0.0.outlives settings log has))

@@ -9,7 +9,7 @@ use Rattle.zvt_till.specs.Hearing.{heard_as}
 use Rattle.zvt_till.specs.Refusals.{sent_as}
 use Rattle.zvt_till.specs.Sending.{Settings}
 use Rattle.zvt_till.specs.Till.{facts_of}
-use Rattle.zvt_settle.specs.Settling.{Note, Line, Asked, Both, ask_refusal, both_after, new_both, take}
+use Rattle.zvt_settle.specs.Settling.{Note, Line, Asked, Both, ask_refusal, new_both, take}
 use Rattle.zvt_kept.specs.Records.{Kept, ordered, asked, heard, lost, kept_in, opening}
 
 -- The events of one record. After a lost line, a new one is up. An ask is no event of the log.
@@ -68,11 +68,6 @@ pub record CanAsk (settings : Settings) (kept : List Kept) : Type 0 where
   pub notes : List Note
   pub means : MeanAll settings.currency kept notes
   pub takes : CanTakeAll (new_both settings) (Line Connected ∷ notes)
-
--- no ask runs after these records
-abbrev pub IsIdle : Settings → (text : List ℕ) → Type 0
-IsIdle settings text =
-    (kept : List Kept) (notes : List Note) → kept_in text ≡ Some kept → MeanAll settings.currency kept notes → (both_after settings (Line Connected ∷ notes)).settling.asking ≡ None
 
 -- ---- the log
 

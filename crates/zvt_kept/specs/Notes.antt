@@ -1,6 +1,6 @@
 -- Notes: the part of an order's record after the order. They do not affect a book.
-use Rattle.std.specs.Prelude.{◌≡◌, ◌==◌, ◌&&◌, true, Bool, false, ℕ, if◌then◌else◌, List, [], ◌∷◌, ◌++◌, codes, length, take, drop, Option, Some, None, option_map}
-use Rattle.std.specs.Char.{is_ascii_digit, is_ascii_graphic}
+use Rattle.std.specs.Prelude.{◌≡◌, ◌&&◌, true, Bool, false, ℕ, if◌then◌else◌, List, [], ◌∷◌, ◌++◌, codes, length, take, drop, Option, Some, None, option_map}
+use Rattle.std.specs.Char.{is_ascii_graphic}
 use Rattle.std.specs.List.{list_all}
 use Rattle.zvt_text.specs.Words.{fits, is_count, trailing}
 

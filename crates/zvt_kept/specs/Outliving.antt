@@ -3,9 +3,11 @@ use Rattle.std.specs.Prelude.{◌≡◌, ◌⊎◌, ℕ, true, false, List, [], 
 use Rattle.zvt_apdu.specs.Message.{Message}
 use Rattle.zvt_stream.specs.Answered.{Answered}
 use Rattle.zvt_stream.specs.Hearing.{Hears as HearsAll}
+use Rattle.zvt_stream.specs.EndState.{EndState}
 use Rattle.zvt_stream.specs.StreamState.{StreamState}
 use Rattle.zvt_till.specs.declared.happenings.Happening.{Happening}
 use Rattle.zvt_till.specs.declared.happenings.Happening.TheVariants.{Connected, Sent as SentOut, Lost}
+use Rattle.zvt_settle.specs.Settling.{Both, Line as on, take}
 use Rattle.zvt_till.specs.declared.line.RunFault.{RunFault}
 use Rattle.zvt_till.specs.declared.orders.Order.{Order}
 use Rattle.zvt_till.specs.declared.outcomes.Outcome.{Outcome}
@@ -19,11 +21,13 @@ use Rattle.zvt_journal.specs.Device.{LeavesOnly}
 use Rattle.zvt_journal.specs.declared.device.DeviceError.{DeviceError}
 use Rattle.zvt_journal.specs.Text.{recovered}
 use Rattle.zvt_kept.specs.Logs.{StandsFor}
-use Rattle.zvt_kept.specs.Recovery.{Recovers}
-use Rattle.zvt_kept.specs.KeptTill.{Connects, HasLog, Hears, IsKept, KeptValue, LosesLine, has_failed, with_note}
+use Rattle.zvt_kept.specs.Recovery.{HasSettled, Recovers}
+use Rattle.zvt_settle.specs.AskRuns.{AskRuns}
+use Rattle.zvt_kept.specs.Keeping.{kept_asks}
+use Rattle.zvt_kept.specs.KeptTill.{Connects, HasLog, Hears, IsKept, KeptValue, LosesLine, both_in, has_failed, kept_rests, with_note}
 use Rattle.zvt_kept.specs.Runs.{RanKept}
 use Rattle.zvt_kept.specs.declared.recovery.RecoveryError.{RecoveryError}
-use Rattle.zvt_kept.specs.declared.recovery.RecoveryError.TheVariants.{Opening, Check, Line, Record, Memory}
+use Rattle.zvt_kept.specs.declared.recovery.RecoveryError.TheVariants.{Memory}
 
 -- A file represents a log that contains all of the first events, and then a prefix of the later ones.
 pub record IsBetween (settings : Settings) (first happened : List Happening) (file : List ℕ) : Type 0 where
@@ -32,15 +36,18 @@ pub record IsBetween (settings : Settings) (first happened : List Happening) (fi
   pub is_part : happened ≡ part ++ rest
   pub recorded : StandsFor settings (recovered file) (first ++ part)
 
--- a call of a till with its journal: it runs an order, with a note that it may have been given, has a line, or loses it
+-- a call of a till with its journal: it runs an order or an ask, with a note that it may have been given, has a line, or
+-- loses it
 pub data KeptStep : Type 0 where
   runs : (order : Order) → KeptStep
+  asks : KeptStep
   connects : KeptStep
   loses : KeptStep
 
 -- the events that a call may cause
 abbrev pub HappensIn : (currency : ℕ) → KeptStep → List Happening → Type 0
 HappensIn currency (runs order) happened = (happened ≡ []) ⊎ ((messages : List Message) × (happened ≡ SentOut (sent_as currency order) ∷ map hears messages))
+HappensIn currency asks happened = (messages : List Message) × (happened ≡ map hears messages)
 HappensIn currency connects happened = (happened ≡ []) ⊎ (happened ≡ Lost ∷ Connected ∷ [])
 HappensIn currency loses happened = happened ≡ []
 
@@ -80,6 +87,9 @@ module _ {D : Type 0} (seen : D → List ℕ) (may_leave : D → List ℕ → Ty
   abbrev pub Did : KeptStep → (old new : KeptValue D) → Type 0
   Did (runs order) old new =
       (note : List ℕ) × (before after : StreamState) × (coming left first last : Option (List ℕ)) × (turns reads_before reads_after : ℕ) × (result : Result Outcome RunFault) × RanKept seen may_leave moment left_since faults order before after (with_note old note) new coming left first last turns reads_before reads_after result
+  Did asks old new =
+      (note : List ℕ) × (before after : EndState) × (turns : ℕ) × (result : Result Unit RunFault)
+      × AskRuns (kept_asks seen may_leave moment left_since faults) (Hears seen may_leave moment left_since faults) kept_rests turns (LosesLine seen may_leave moment left_since faults) (LosesLine seen may_leave moment left_since faults) has_failed result before after (with_note old note) new
   Did connects old new = (result : Result Unit DeviceError) × Connects seen may_leave moment left_since faults old new result
   Did loses old new = LosesLine seen may_leave moment left_since faults old new
 
@@ -87,9 +97,9 @@ module _ {D : Type 0} (seen : D → List ℕ) (may_leave : D → List ℕ → Ty
   abbrev pub DidAll : List KeptStep → (old new : KeptValue D) → Type 0
   DidAll [] old new = old ≡ new
   DidAll (step ∷ more) old new =
-      IsKept (has_failed old) (seen old.standing.device) (may_leave old.standing.device) old.standing.gate old.standing.till.state × (middle : KeptValue D) × Did step old middle × DidAll more middle new
+      IsKept (has_failed old) (seen old.standing.device) (may_leave old.standing.device) old.standing.gate (both_in old.standing) × (middle : KeptValue D) × Did step old middle × DidAll more middle new
 
-  -- Over any number of orders and lines, a crash at any moment leaves a journal of the till's log and a prefix of the
+  -- Over any number of orders, asks and lines, a crash at any moment leaves a journal of the till's log and a prefix of the
   -- events of these calls. At the end the journal contains all of them, unless it failed.
   abbrev pub CallsOutlive : Type 0
   CallsOutlive =
@@ -104,6 +114,12 @@ module _ {D : Type 0} (seen : D → List ℕ) (may_leave : D → List ℕ → Ty
   TillsAreRecovered =
       (settings : Settings) (log : List Happening) (kept : KeptValue D) (result : Result TillValue RecoveryError)
       → HasLog seen may_leave moment left_since faults settings log kept.standing → Recovers settings (recovered (seen kept.standing.device)) result → IsLostTill kept.standing.till.state result
+
+  -- It also restores what the till has settled and what is pending: an ask that was running ended with the line.
+  abbrev pub SettlingIsRecovered : Type 0
+  SettlingIsRecovered =
+      (settings : Settings) (log : List Happening) (kept : KeptValue D) (both : Both)
+      → HasLog seen may_leave moment left_since faults settings log kept.standing → HasSettled settings (recovered (seen kept.standing.device)) both → both ≡ take (both_in kept.standing) (on Lost)
 
 -- Recovery restored the till of this log after losing its line, or memory ran out.
 abbrev pub IsRecoveredAs : Settings → List Happening → Result TillValue RecoveryError → Type 0

@@ -59,10 +59,10 @@ Relives true one old new =
 Relives false one old new =
     (settings : Settings) (log happened : List Happening) → Stands settings log old → Happens settings.currency one happened → IsLog settings (log ++ happened) → ⊥
 
--- A till replayed a record, and so did one that settles; or no till can have this record.
-abbrev pub Replays : Bool → Kept → (old new : TillState) → (before after : Both) → Type 0
-Replays true one old new before after =
-    Relives true one old new × ((currency : ℕ) → (notes : List Note) × Means currency one notes × CanTakeAll before notes × (after ≡ fold take before notes))
-Replays false one old new before after =
-    (settings : Settings) (log happened : List Happening) (notes : List Note) → Stands settings log old → before.till ≡ old
+-- A till that settles replayed a record; or no till can have this record.
+abbrev pub Replays : Bool → Kept → (before after : Both) → Type 0
+Replays true one before after =
+    Relives true one before.till after.till × ((currency : ℕ) → (notes : List Note) × Means currency one notes × CanTakeAll before notes × (after ≡ fold take before notes))
+Replays false one before after =
+    (settings : Settings) (log happened : List Happening) (notes : List Note) → Stands settings log before.till
     → Happens settings.currency one happened → IsLog settings (log ++ happened) → Means settings.currency one notes → CanTakeAll before notes → ⊥

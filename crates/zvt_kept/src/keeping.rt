@@ -1,12 +1,14 @@
 //! The steps of a till, each recorded in its journal first.
-ghost use Rattle.std.specs.Prelude.{◌≡◌, ◌≤◌, [], List, OnOk, Some, ℕ, length, true};
+ghost use Rattle.std.specs.Prelude.{◌≡◌, ◌≤◌, ◌++◌, [], List, OnOk, Some, ℕ, length, true};
 ghost use Rattle.zvt_apdu.specs.Grammar.{Spells};
 ghost use Rattle.zvt_grammar.specs.Reading.{padded};
 ghost use Rattle.zvt_journal.specs.Text.{IsSettled};
-ghost use Rattle.zvt_kept.specs.KeptTill.{Adds, HasNoted, KeepsSome, Orders, Recorded, Takes};
+ghost use Rattle.zvt_kept.specs.KeptTill.{Adds, Asks, HasNoted, KeepsSome, Orders, Recorded, Takes, standing_of};
 ghost use Rattle.zvt_kept.specs.Logs.{opening_of};
 ghost use Rattle.zvt_kept.specs.Masking.{masked};
-ghost use Rattle.zvt_kept.specs.Records.{IsSpelledOrder, heard, kept_in, lost, ordered};
+ghost use Rattle.zvt_kept.specs.Records.{IsSpelledOrder, ask_record, asked, heard, kept_in, lost, ordered};
+ghost use Rattle.zvt_journal.specs.Text.{recovered};
+ghost use Rattle.zvt_settle.specs.Inside.{both_of, till_inside};
 ghost use Rattle.zvt_till.specs.Hearing.{heard_as};
 ghost use Rattle.zvt_till.specs.Line.{Answers as IsAnswer};
 ghost use Rattle.zvt_till.specs.Refusals.{refusal};
@@ -15,10 +17,11 @@ ghost use Rattle.zvt_till.specs.Settings.{settings_of};
 ghost use Rattle.zvt_till.specs.Till.{facts_of};
 
 use crate::note::Note;
-use crate::records::{put_heard, put_lost, put_opening, put_order};
+use crate::records::{put_ask, put_heard, put_lost, put_opening, put_order};
 use std::alloc::Global;
 use zvt_apdu::{ApduView, Brief, MAX_BRIEF_LEN};
 use zvt_journal::{Device, DeviceError, Journal, NoSpace};
+use zvt_settle::SettlingTill;
 use zvt_stream::Answers;
 use zvt_text::Text;
 use zvt_till::{
@@ -30,20 +33,20 @@ use zvt_till::{
 /// journal fails, `failure` says why.
 pub(crate) fn take_order<D: Device>(
     alloc: Global,
-    till: &mut Till,
+    till: &mut SettlingTill,
     journal: &mut Journal<D>,
     failure: &mut Option<DeviceError>,
     order: Order,
     note: &Note,
 ) -> Result<Outgoing, Untaken>
-    requires { till.old.state.line_up ≡ true → KeepsSome (D.seen journal.old.device) (D.may_leave journal.old.device)
-        journal.old.gate till.old.state }
+    requires { (till_inside till.old).state.line_up ≡ true → KeepsSome (D.seen journal.old.device)
+        (D.may_leave journal.old.device) journal.old.gate (both_of till.old) }
     ensures { Orders D.seen D.may_leave D.moment D.left_since D.faults order note.now
-        (record { till = till.old; device = journal.old.device; gate = journal.old.gate })
-        (record { till = till.new; device = journal.new.device; gate = journal.new.gate }) failure.old
+        (standing_of till.old journal.old.device journal.old.gate)
+        (standing_of till.new journal.new.device journal.new.gate) failure.old
         failure.new result }
 {
-    has_words(till, &order);
+    has_words(till.till(), &order);
     let outgoing = match till.prepare(&order) {
         Err(why) => return Err(Untaken::Order(why)),
         Ok(outgoing) => outgoing,
@@ -62,19 +65,53 @@ pub(crate) fn take_order<D: Device>(
     }
 }
 
+/// Lets the till ask once the journal contains the ask, and returns the message to send. If the disk has no space, the
+/// till and the journal's records stay as they were. If the journal fails, `failure` says why.
+pub(crate) fn take_ask<D: Device>(
+    alloc: Global,
+    till: &mut SettlingTill,
+    journal: &mut Journal<D>,
+    failure: &mut Option<DeviceError>,
+    note: &Note,
+) -> Result<[u8; 6], Untaken>
+    requires { (till_inside till.old).state.line_up ≡ true → KeepsSome (D.seen journal.old.device)
+        (D.may_leave journal.old.device) journal.old.gate (both_of till.old) }
+    ensures { Asks D.seen D.may_leave D.moment D.left_since D.faults note.now
+        (standing_of till.old journal.old.device journal.old.gate)
+        (standing_of till.new journal.new.device journal.new.gate) failure.old failure.new result }
+{
+    let message = match till.prepare_ask() {
+        Err(why) => return Err(Untaken::Order(why)),
+        Ok(message) => message,
+    };
+    match journal.reserve() {
+        Err(NoSpace) => return Err(Untaken::Book(BookFault::NoSpace)),
+        Ok(()) => {}
+    }
+    till.begin_ask();
+    match keep_ask(alloc, journal, note) {
+        Ok(()) => Ok(message),
+        Err(fault) => {
+            let _ = till.lost();
+            *failure = Some(fault);
+            Err(Untaken::Book(BookFault::Failed))
+        }
+    }
+}
+
 /// Lets the till process a message once the journal contains it, and returns the bytes to send.
 pub(crate) fn take_message<D: Device>(
     alloc: Global,
-    till: &mut Till,
+    till: &mut SettlingTill,
     journal: &mut Journal<D>,
     apdu: &ApduView<'_>,
 ) -> Result<Answers, DeviceError>
-    requires up { till.old.state.line_up ≡ true }
+    requires up { (till_inside till.old).state.line_up ≡ true }
     requires kept { KeepsSome (D.seen journal.old.device) (D.may_leave journal.old.device) journal.old.gate
-        till.old.state }
+        (both_of till.old) }
     ensures { Takes D.seen D.may_leave D.moment D.left_since D.faults apdu.now
-        (record { till = till.old; device = journal.old.device; gate = journal.old.gate })
-        (record { till = till.new; device = journal.new.device; gate = journal.new.gate }) result }
+        (standing_of till.old journal.old.device journal.old.gate)
+        (standing_of till.new journal.new.device journal.new.gate) result }
 {
     let heard = heard_view(apdu);
     let answers = answers_to(&heard);
@@ -125,6 +162,24 @@ fn keep_order<D: Device>(
     let size = masked(outgoing).put(&mut buffer);
     let mut text = Text::new(alloc);
     put_order(&mut text, order, note, &buffer[..size])?;
+    journal.append(text.bytes())
+}
+
+/// Makes the record of an ask durable.
+fn keep_ask<D: Device>(
+    alloc: Global,
+    journal: &mut Journal<D>,
+    note: &Note,
+) -> Result<(), DeviceError>
+    requires settled { IsSettled (D.seen journal.old.device) (D.may_leave journal.old.device) journal.old.gate }
+    requires room { D.has_capacity journal.old.device ≡ true }
+    ensures recorded { Recorded D.seen D.may_leave D.moment D.left_since D.faults (asked note.now)
+        journal.old.device journal.new.device journal.old.gate journal.new.gate result }
+    ensures noted { OnOk result (recovered (D.seen journal.new.device)
+        ≡ recovered (D.seen journal.old.device) ++ ask_record note.now) }
+{
+    let mut text = Text::new(alloc);
+    put_ask(&mut text, note)?;
     journal.append(text.bytes())
 }
 

@@ -1,7 +1,7 @@
 //! A till that records its orders and messages in its journal before it acts on them.
 ghost use Rattle.std.specs.Prelude.{◌≡◌};
 
-use crate::keeping::{keep_lost, keep_opening, take_message, take_order};
+use crate::keeping::{keep_lost, keep_opening, take_ask, take_message, take_order};
 use crate::note::Note;
 use crate::recovery::{Recovered, RecoveryError, recover};
 use std::alloc::{AllocError, Global};
@@ -9,18 +9,19 @@ use std::fmt;
 use std::marker::Model;
 use zvt_apdu::ApduView;
 use zvt_journal::{Device, DeviceError, Journal};
+use zvt_settle::{Asker, SettlingTill};
 use zvt_stream::{Answers, Machine};
 use zvt_till::{BookFault, Keeper, Order, Outgoing, Till, TillSettings, Untaken};
 
-/// A till that writes ahead: an order is durable before you get the bytes to send, and a message is durable before the
-/// till processes it. If the journal fails, the till drops its connection and sends nothing more.
+/// A till that writes ahead: an order or an ask is durable before you get the bytes to send, and a message is durable
+/// before the till processes it. If the journal fails, the till drops its connection and sends nothing more.
 #[derive(Drop)]
 pub struct KeptTill<D: Device> {
-    till: Till,
+    till: SettlingTill,
     journal: Journal<D>,
     /// Why the journal failed, if it did.
     failure: Option<DeviceError>,
-    /// The note of the next order.
+    /// The note of the next order or ask.
     note: Note,
 }
 
@@ -40,18 +41,19 @@ impl<D: Device> fmt::Display for Unbegun<D> {
 
 impl<D: Device> Model for KeptTill<D> {
     ghost use Rattle.std.specs.Prelude.{◌≡◌, is_some};
-    ghost use Rattle.zvt_kept.specs.KeptTill.{KeptValue, IsKept};
+    ghost use Rattle.zvt_kept.specs.KeptTill.{KeptValue, IsKept, standing_of};
+    ghost use Rattle.zvt_settle.specs.Inside.{both_of};
 
     ghost Value = { KeptValue D };
 
     ghost view = { λ k. record {
-      standing = record { till = k.till; device = k.journal.device; gate = k.journal.gate };
+      standing = standing_of k.till k.journal.device k.journal.gate;
       failure = k.failure;
       note = k.note;
     } };
 
     ghost invariant = { λ k. IsKept (is_some k.failure) (D.seen k.journal.device) (D.may_leave k.journal.device)
-        k.journal.gate k.till.state };
+        k.journal.gate (both_of k.till) };
 }
 
 impl<D: Device + Drop> KeptTill<D> {
@@ -62,12 +64,14 @@ impl<D: Device + Drop> KeptTill<D> {
     ghost use Rattle.zvt_till.specs.declared.happenings.Happening.{Happening};
     ghost use Rattle.zvt_journal.specs.Text.{IsSettled};
     ghost use Rattle.zvt_kept.specs.KeptTill.{Begins, HasCause, Keeps};
+    ghost use Rattle.zvt_kept.specs.KeptTill.{both_in};
+    ghost use Rattle.zvt_kept.specs.Recovery.{HasSettled};
+    ghost use Rattle.zvt_settle.specs.Settling.{new_both};
     ghost use Rattle.zvt_till.specs.Settings.{settings_of};
-    ghost use Rattle.zvt_till.specs.Till.{new_till};
     ghost use Rattle.zvt_till.specs.declared.happenings.Happening.TheVariants.{Connected};
 
     /// Begins a journal on a device without records, at rest as `zvt_journal::open` leaves it, and makes its opening
-    /// durable. The till is new and not connected.
+    /// durable. The till is new and not connected, and has nothing to settle.
     ///
     /// After an error, the device contains no record or the opening; open it again to find out. `Full` never occurs.
     pub fn create(
@@ -76,7 +80,7 @@ impl<D: Device + Drop> KeptTill<D> {
         device: D,
     ) -> Result<KeptTill<D>, Unbegun<D>>
         requires { IsSettled (D.seen device) (D.may_leave device) 0 }
-        ensures till { IfOk result (λ kept. kept.standing.till.state ≡ new_till (settings_of settings.now)) }
+        ensures till { IfOk result (λ kept. both_in kept.standing ≡ new_both (settings_of settings.now)) }
         ensures whole { IfOk result (λ kept. kept.failure ≡ None) }
         // A crash at any moment leaves no record, or the opening, in a file that opening repairs.
         ensures any_moment { MatchResult result
@@ -87,7 +91,7 @@ impl<D: Device + Drop> KeptTill<D> {
         ensures cause { IfErr result (λ unbegun. HasCause unbegun.why (D.faults device) (D.faults unbegun.device) 0) }
         ensures log { IfOk result (λ kept. Keeps (settings_of settings.now) (Connected ∷ [])
             (D.seen kept.standing.device) (D.may_leave kept.standing.device) kept.standing.gate
-            kept.standing.till.state) }
+            (both_in kept.standing)) }
     {
         let mut journal = Journal {
             alloc,
@@ -100,7 +104,7 @@ impl<D: Device + Drop> KeptTill<D> {
                 why,
             });
         }
-        let till = Till::with_settings(alloc, settings);
+        let till = SettlingTill::new(alloc, Till::with_settings(alloc, settings));
         Ok(KeptTill {
             till,
             journal,
@@ -123,12 +127,14 @@ impl<D: Device + Drop> KeptTill<D> {
         requires settled { IsSettled (D.seen device) (D.may_leave device) (length text.now) }
         ensures till { MatchResult result (λ kept. IsRecovered (settings_of settings.now) text.now
             kept.standing.till.state) (λ why. Recovers (settings_of settings.now) text.now (Err why)) }
+        ensures settling { IfOk result (λ kept. HasSettled (settings_of settings.now) text.now
+            (both_in kept.standing)) }
         ensures device { IfOk result (λ kept. (kept.standing.device ≡ device)
             × (kept.standing.gate ≡ length text.now)) }
         ensures whole { IfOk result (λ kept. kept.failure ≡ None) }
         ensures log { IfOk result (λ kept. (log : List Happening) → StandsFor (settings_of settings.now) text.now log
             → Keeps (settings_of settings.now) log (D.seen device) (D.may_leave device) (length text.now)
-            kept.standing.till.state) }
+            (both_in kept.standing)) }
     {
         let Recovered { till, .. } = recover(alloc, settings, text)?;
         let journal = Journal {
@@ -146,15 +152,15 @@ impl<D: Device + Drop> KeptTill<D> {
 }
 
 impl<D: Device> KeptTill<D> {
-    ghost use Rattle.zvt_kept.specs.KeptTill.{Connects, IsKept, LosesLine, has_failed, with_note};
+    ghost use Rattle.zvt_kept.specs.KeptTill.{Connects, IsKept, LosesLine, both_in, has_failed, with_note};
 
     /// Returns the till.
     pub fn till(&self) -> &Till
         ensures till { result.now ≡ self.now.standing.till }
         ensures kept { IsKept (has_failed self.now) (D.seen self.now.standing.device)
-            (D.may_leave self.now.standing.device) self.now.standing.gate self.now.standing.till.state }
+            (D.may_leave self.now.standing.device) self.now.standing.gate (both_in self.now.standing) }
     {
-        &self.till
+        self.till.till()
     }
 
     /// Returns the device of the journal.
@@ -171,7 +177,7 @@ impl<D: Device> KeptTill<D> {
         self.failure
     }
 
-    /// Sets the note of the next orders, which their records will contain.
+    /// Sets the note of the next orders and asks, which their records will contain.
     pub fn note_next(&mut self, note: Note)
         ensures { self.new ≡ with_note self.old note }
     {
@@ -186,7 +192,7 @@ impl<D: Device> KeptTill<D> {
         if self.failure.is_some() {
             return Err(DeviceError::Failed);
         }
-        if self.till.line_up() {
+        if self.till.till().line_up() {
             return Ok(());
         }
         if let Err(why) = keep_lost(alloc, &mut self.journal) {
@@ -224,7 +230,7 @@ impl<D: Device> Machine for KeptTill<D> {
     ghost wants_memory = { false };
 
     fn hear(&mut self, alloc: Global, apdu: &ApduView<'_>) -> Result<Answers, AllocError> {
-        if !self.till.line_up() {
+        if !self.till.till().line_up() {
             return Ok(Answers::new());
         }
         match take_message(alloc, &mut self.till, &mut self.journal, apdu) {
@@ -237,7 +243,7 @@ impl<D: Device> Machine for KeptTill<D> {
     }
 
     fn resting(&self) -> bool {
-        self.till.running().is_none()
+        self.till.resting()
     }
 
     fn lost(&mut self) {
@@ -271,7 +277,7 @@ impl<D: Device> Keeper for KeptTill<D> {
     ghost frugal = { refl };
 
     fn look(&self) -> &Till {
-        &self.till
+        self.till.till()
     }
 
     fn has_failed(&self) -> bool {
@@ -288,5 +294,26 @@ impl<D: Device> Keeper for KeptTill<D> {
             Ok(()) => Ok(()),
             Err(_) => Err(BookFault::Failed),
         }
+    }
+}
+
+/// Each ask is durable, with its note, before you get the message to send, as an order is.
+impl<D: Device> Asker for KeptTill<D> {
+    ghost use Rattle.zvt_kept.specs.Keeping.{kept_asks, kept_is_asker};
+    ghost use Rattle.zvt_kept.specs.KeptTill.{settling_in};
+
+    ghost settling = { settling_in };
+
+    ghost asks = { λ old result new. kept_asks D.seen D.may_leave D.moment D.left_since D.faults old result new };
+
+    ghost is_asker = { kept_is_asker D.seen D.may_leave D.moment D.left_since D.faults };
+
+    fn settling(&self) -> &SettlingTill {
+        &self.till
+    }
+
+    fn ask(&mut self, alloc: Global) -> Result<[u8; 6], Untaken> {
+        let (till, journal) = (&mut self.till, &mut self.journal);
+        take_ask(alloc, till, journal, &mut self.failure, &self.note)
     }
 }

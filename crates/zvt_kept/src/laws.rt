@@ -2,7 +2,7 @@
 //! contract of an empty function.
 ghost use Rattle.zvt_kept.specs.Logs.{LogsAreOne, OpeningsAreOne};
 ghost use Rattle.zvt_kept.specs.Outliving.{CallsOutlive, HearingsOutlive, LogsAreRecovered, RunsOutlive};
-ghost use Rattle.zvt_kept.specs.Outliving.{TillsAreRecovered};
+ghost use Rattle.zvt_kept.specs.Outliving.{SettlingIsRecovered, TillsAreRecovered};
 ghost use Rattle.zvt_kept.specs.Records.{OpeningIsTaken, RecordsAreKept, RecordsAreTaken, RecordsAreWhole};
 ghost use Rattle.zvt_kept.specs.Remarks.{RemarksMeanNothing};
 
@@ -54,7 +54,7 @@ pub fn runs_outlive<D: Device>()
     ensures { RunsOutlive D.seen D.may_leave D.moment D.left_since D.faults }
 {}
 
-/// Over many orders and lines, a crash at any moment leaves a journal of the till's log and a prefix of the later
+/// Over many orders, asks and lines, a crash at any moment leaves a journal of the till's log and a prefix of the later
 /// events. At the end, the journal contains all events, unless it failed.
 pub fn calls_outlive<D: Device>()
     ensures { CallsOutlive D.seen D.may_leave D.moment D.left_since D.faults }
@@ -63,4 +63,10 @@ pub fn calls_outlive<D: Device>()
 /// If a till's journal did not fail, recovery restores the same till after losing its line, unless memory runs out.
 pub fn tills_are_recovered<D: Device>()
     ensures { TillsAreRecovered D.seen D.may_leave D.moment D.left_since D.faults }
+{}
+
+/// If a till's journal did not fail, recovery restores what the till has settled and what is pending. An ask that was
+/// running has ended with the line.
+pub fn settling_is_recovered<D: Device>()
+    ensures { SettlingIsRecovered D.seen D.may_leave D.moment D.left_since D.faults }
 {}

@@ -6,9 +6,8 @@ ghost use Rattle.zvt_kept.specs.Records.{asked, heard, ordered};
 ghost use Rattle.zvt_kept.specs.Recovery.{HasSettled, Recovers, Replays};
 ghost use Rattle.zvt_kept.specs.RowNotes.{HasNotes};
 ghost use Rattle.zvt_kept.specs.declared.recovery.RecoveryError.TheVariants.{Memory};
-ghost use Rattle.zvt_settle.specs.Inside.{both_of};
+ghost use Rattle.zvt_settle.specs.Inside.{both_of, till_inside};
 ghost use Rattle.zvt_till.specs.Settings.{settings_of};
-ghost use Rattle.zvt_till.specs.Till.{TillState};
 
 use crate::lines::{RecordError, read_records};
 use crate::note::Note;
@@ -55,10 +54,8 @@ impl From<AllocError> for RecoveryError {
 /// A till that was rebuilt from its journal, and the notes of its payments.
 #[derive(Drop)]
 pub struct Recovered {
-    /// The till, which is not connected.
-    pub till: Till,
-    /// What the asks of the journal have settled and what is pending, in a till that settles.
-    pub settling: SettlingTill,
+    /// The till, which is not connected. It knows what the asks of the journal have settled, and what is pending.
+    pub till: SettlingTill,
     /// The note of each payment in the till's book, in the order of the book.
     pub booked: Vec<Note>,
     /// The note of each unclear payment, in the order of [`Till::unclear`].
@@ -77,11 +74,13 @@ pub fn recover(
     settings: &TillSettings,
     text: &[u8],
 ) -> Result<Recovered, RecoveryError>
-    ensures till { MatchResult result (λ recovered. Recovers (settings_of settings.now) text.now (Ok recovered.till))
+    ensures till { MatchResult result
+        (λ recovered. Recovers (settings_of settings.now) text.now (Ok (till_inside recovered.till)))
         (λ why. Recovers (settings_of settings.now) text.now (Err why)) }
     ensures settling { IfOk result (λ recovered. HasSettled (settings_of settings.now) text.now
-        (both_of recovered.settling)) }
-    ensures notes { IfOk result (λ recovered. HasNotes (settings_of settings.now) text.now recovered.till.state
+        (both_of recovered.till)) }
+    ensures notes { IfOk result (λ recovered. HasNotes (settings_of settings.now) text.now
+        (till_inside recovered.till).state
         recovered.booked.items recovered.unclear.items) }
 {
     if !has_opening(alloc, text, settings)? {
@@ -93,24 +92,20 @@ pub fn recover(
         Err(RecordError::Check { number }) => return Err(RecoveryError::Check { number }),
         Err(RecordError::Memory) => return Err(RecoveryError::Memory),
     };
-    let mut till = Till::with_settings(alloc, settings);
+    let mut till = SettlingTill::new(alloc, Till::with_settings(alloc, settings));
     till.connected();
-    let mut settling = SettlingTill::new(alloc, Till::with_settings(alloc, settings));
-    settling.connected();
     let mut notes = RowNotes::new(alloc);
     for (at, entry) in entries.iter().enumerate() {
         notes.hold(entry);
-        if !relive(alloc, &mut till, &mut settling, entry)? {
+        if !relive(alloc, &mut till, entry)? {
             return Err(RecoveryError::Record { number: at + 1 });
         }
-        notes.follow(&till)?;
+        notes.follow(till.till())?;
     }
     let _ = till.lost();
-    let _ = settling.lost();
-    notes.follow(&till)?;
+    notes.follow(till.till())?;
     Ok(Recovered {
         till,
-        settling,
         booked: notes.booked,
         unclear: notes.unclear,
     })
@@ -126,56 +121,39 @@ fn has_opening(alloc: Global, text: &[u8], settings: &TillSettings) -> Result<bo
     Ok(trailing(opening.bytes(), text).is_some())
 }
 
-/// Replays an entry. Returns whether the till accepts it; if not, do not use either till again.
-fn relive(
-    alloc: Global,
-    till: &mut Till,
-    settling: &mut SettlingTill,
-    entry: &Entry,
-) -> Result<bool, AllocError>
-    ensures { IfOk result (λ can. Replays can (kept_of entry.now) till.old.state till.new.state (both_of settling.old)
-        (both_of settling.new)) }
+/// Replays an entry. Returns whether the till accepts it; if not, do not use the till again.
+fn relive(alloc: Global, till: &mut SettlingTill, entry: &Entry) -> Result<bool, AllocError>
+    ensures { IfOk result (λ can. Replays can (kept_of entry.now) (both_of till.old) (both_of till.new)) }
 {
     match entry {
-        Entry::Order { order, .. } => relive_order(till, settling, order),
-        Entry::Ask(_) => relive_ask(settling),
-        Entry::Heard(message) => relive_message(alloc, till, settling, message),
+        Entry::Order { order, .. } => relive_order(till, order),
+        Entry::Ask(_) => relive_ask(till),
+        Entry::Heard(message) => relive_message(alloc, till, message),
         Entry::Lost => {
             let _ = till.lost();
             till.connected();
-            let _ = settling.lost();
-            settling.connected();
             Ok(true)
         }
     }
 }
 
 /// Replays an order. Returns whether the till accepts it.
-fn relive_order(
-    till: &mut Till,
-    settling: &mut SettlingTill,
-    order: &Order,
-) -> Result<bool, AllocError>
-    ensures { IfOk result (λ can. (note : List ℕ) → Replays can (ordered order.now note) till.old.state till.new.state
-        (both_of settling.old) (both_of settling.new)) }
+fn relive_order(till: &mut SettlingTill, order: &Order) -> Result<bool, AllocError>
+    ensures { IfOk result (λ can. (note : List ℕ) → Replays can (ordered order.now note) (both_of till.old)
+        (both_of till.new)) }
 {
-    match settling.order(*order) {
-        Ok(_) => match till.order(*order) {
-            Ok(_) => Ok(true),
-            Err(why) if why == OrderRefusal::Memory => Err(AllocError),
-            Err(_) => Ok(false),
-        },
+    match till.order(*order) {
+        Ok(_) => Ok(true),
         Err(why) if why == OrderRefusal::Memory => Err(AllocError),
         Err(_) => Ok(false),
     }
 }
 
 /// Replays an ask. Returns whether the till accepts it.
-fn relive_ask(settling: &mut SettlingTill) -> Result<bool, AllocError>
-    ensures { IfOk result (λ can. (note : List ℕ) (state : TillState) → Replays can (asked note) state state
-        (both_of settling.old) (both_of settling.new)) }
+fn relive_ask(till: &mut SettlingTill) -> Result<bool, AllocError>
+    ensures { IfOk result (λ can. (note : List ℕ) → Replays can (asked note) (both_of till.old) (both_of till.new)) }
 {
-    match settling.ask() {
+    match till.ask() {
         Ok(_) => Ok(true),
         Err(why) if why == OrderRefusal::Memory => Err(AllocError),
         Err(_) => Ok(false),
@@ -183,14 +161,8 @@ fn relive_ask(settling: &mut SettlingTill) -> Result<bool, AllocError>
 }
 
 /// Replays a message. Returns whether the bytes are exactly one message.
-fn relive_message(
-    alloc: Global,
-    till: &mut Till,
-    settling: &mut SettlingTill,
-    bytes: &[u8],
-) -> Result<bool, AllocError>
-    ensures { IfOk result (λ can. Replays can (heard bytes.now) till.old.state till.new.state (both_of settling.old)
-        (both_of settling.new)) }
+fn relive_message(alloc: Global, till: &mut SettlingTill, bytes: &[u8]) -> Result<bool, AllocError>
+    ensures { IfOk result (λ can. Replays can (heard bytes.now) (both_of till.old) (both_of till.new)) }
 {
     let Scan::Whole((apdu, size)) = scan_loose(alloc, bytes)? else {
         return Ok(false);
@@ -198,7 +170,6 @@ fn relive_message(
     if size != bytes.len() {
         return Ok(false);
     }
-    let _ = settling.hear(heard(&apdu));
     let _ = till.hear(heard(&apdu));
     Ok(true)
 }

@@ -13,7 +13,7 @@ returns-in-Err c =
 pub returns-in-Ok : goal.returns-in-Ok
 returns-in-Ok c =
     let recovered = c.in-Ok.recovered in
-    listed recovered.till recovered.booked.items recovered.unclear.items
-    (subst (λ (settings : Settings). Recovers settings c.args.text.now (Ok recovered.till)) c.settings.ensures c.in-Ok.ensures.till)
-    (subst (λ (settings : Settings). HasNotes settings c.args.text.now recovered.till.state recovered.booked.items recovered.unclear.items) c.settings.ensures c.in-Ok.ensures.notes)
+    listed recovered.till.till recovered.booked.items recovered.unclear.items
+    (subst (λ (settings : Settings). Recovers settings c.args.text.now (Ok recovered.till.till)) c.settings.ensures c.in-Ok.ensures.till)
+    (subst (λ (settings : Settings). HasNotes settings c.args.text.now recovered.till.till.state recovered.booked.items recovered.unclear.items) c.settings.ensures c.in-Ok.ensures.notes)
     (handed_whole c.say_notes-written.result _ _ _ _ _ (subst (λ (old : List ℕ). OnOk c.say_notes-written.result (c.say_notes-written.new.lines ≡ old ++ notes_text recovered.booked.items recovered.unclear.items)) c.new-lines.ensures c.say_notes-written.ensures) c.hand_out.ensures)

@@ -1,4 +1,4 @@
-use Rattle.std.proofs.Common.{[], ◌≡◌, true, false, sym, ◌∙◌, subst}
+use Rattle.std.proofs.Common.{[], true, false, sym, ◌∙◌, subst}
 use Rattle.sha2.specs.Hashers.{Holds256}
 use Rattle.zvt_journal.specs.Text.{text_of}
 use Rattle.zvt_kept.proofs.CheckLemmas.{line_hashed}

@@ -1,6 +1,6 @@
 use Rattle.std.proofs.Common.{subst}
 use Rattle.zvt_kept.specs.Reading.{Extends}
-use Rattle.zvt_kept.specs.Records.{IsRecordOf, ask_lines, ask_record, asked}
+use Rattle.zvt_kept.specs.Records.{ask_lines, ask_record}
 use Rattle.zvt_kept.proofs.CheckLemmas.{lines_checked, lines_unchecked}
 use Rattle.zvt_kept.proofs.records.put_ask.Goals as goal
 

@@ -1,4 +1,4 @@
-use Rattle.std.proofs.Common.{rules, subst}
+use Rattle.std.proofs.Common.{subst}
 use Rattle.zvt_kept.specs.Reading.{Extends}
 use Rattle.zvt_kept.specs.Records.{order_lines, order_record}
 use Rattle.zvt_kept.proofs.CheckLemmas.{lines_checked, lines_unchecked}

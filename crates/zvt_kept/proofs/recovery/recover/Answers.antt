@@ -1,8 +1,12 @@
-use Rattle.std.proofs.Common.{ap, arith, sym, subst, map, Some, take, ◌∙◌, length}
+use Rattle.std.proofs.Common.{ap, arith, sym, subst, map, Some, take, ◌∙◌}
 use Rattle.zvt_till.specs.Settings.{settings_of}
+use Rattle.zvt_till.specs.declared.happenings.Happening.TheVariants.{Connected}
 use Rattle.zvt_settle.specs.Inside.{both_of}
+use Rattle.zvt_settle.specs.Settling.{Both, Line, take as takes}
 use Rattle.zvt_kept.specs.Reading.{kept_of}
+use Rattle.zvt_till.specs.View.{TillValue}
 use Rattle.zvt_kept.specs.Recovery.{Replays}
+use Rattle.zvt_kept.specs.RowNotes.{booked_rows, grown, unclear_rows}
 use Rattle.zvt_kept.proofs.Recovering.{SoFar, at_end, foreign, none_yet, one_more}
 use Rattle.zvt_kept.proofs.Replayed.{all_asked, asked_more, none_asked, settled_at_end}
 use Rattle.zvt_kept.proofs.RowNoteLemmas.{NotedSoFar, none_noted, noted_at_end, noted_on}
@@ -12,12 +16,12 @@ pub loop-at-init : goal.loop-at-init
 loop-at-init c =
     let settings = settings_of c.args.settings.now in
     let entries = c.deref-entry-items.result.now in
-    let lived = none_yet settings entries c.with_settings-till.result.state c.connected.new.self.state c.with_settings-till.ensures.state c.connected.ensures.state in
+    let lived = none_yet settings entries c.with_settings.result.state c.connected.new.self.till.state c.with_settings.ensures.state (ap (λ (b : Both). b.till) (c.connected.ensures.both ∙ ap (λ (b : Both). takes b (Line Connected)) c.new-till.ensures.both)) in
     record {
       lived = lived;
-      settles = none_asked settings entries c.with_settings.result.state (both_of c.new-settling.result) (both_of c.connected-2.new.self) c.with_settings.ensures.state c.new-settling.ensures.both c.connected-2.ensures.both;
-      noted = none_noted settings entries c.with_settings-till.result.state c.connected.new.self.state c.new-notes.result.last c.new-notes.result.booked.items c.new-notes.result.unclear.items
-          c.with_settings-till.ensures.state c.connected.ensures.state c.new-notes.ensures.booked c.new-notes.ensures.unclear lived;
+      settles = none_asked settings entries c.with_settings.result.state (both_of c.new-till.result) (both_of c.connected.new.self) c.with_settings.ensures.state c.new-till.ensures.both c.connected.ensures.both;
+      noted = none_noted settings entries c.with_settings.result.state c.connected.new.self.till.state c.new-notes.result.last c.new-notes.result.booked.items c.new-notes.result.unclear.items
+          c.with_settings.ensures.state (ap (λ (b : Both). b.till) (c.connected.ensures.both ∙ ap (λ (b : Both). takes b (Line Connected)) c.new-till.ensures.both)) c.new-notes.ensures.booked c.new-notes.ensures.unclear lived;
     }
 
 pub returns-then-not-branch-2 : goal.returns-then-not-branch-2
@@ -25,43 +29,47 @@ returns-then-not-branch-2 c =
     record {
       notes = tt;
       settling = tt;
-      till = foreign (settings_of c.args.settings.now) c.args.text.now c.deref-entry-items.result.now c.loop-at.at c.entry-item.result c.loop-at.till.state c.relive.new.till.state (both_of c.loop-at.settling) (both_of c.relive.new.settling) c.loop-at-test.true c.entry-item.is
+      till = foreign (settings_of c.args.settings.now) c.args.text.now c.deref-entry-items.result.now c.loop-at.at c.entry-item.result (both_of c.loop-at.till) (both_of c.relive.new.till) c.loop-at-test.true c.entry-item.is
           (c.in-Ok.ensures ∙ ap (λ es. Some (map kept_of es)) (sym c.deref-entry-items.ensures.value))
-          (subst (λ can. Replays can (kept_of c.entry-item.result) c.loop-at.till.state c.relive.new.till.state (both_of c.loop-at.settling) (both_of c.relive.new.settling)) c.if-not-branch-2.true c.in_ok-relive.ensures) c.loop-at.invariant.lived c.loop-at.invariant.settles;
+          (subst (λ can. Replays can (kept_of c.entry-item.result) (both_of c.loop-at.till) (both_of c.relive.new.till)) c.if-not-branch-2.true c.in_ok-relive.ensures) c.loop-at.invariant.lived c.loop-at.invariant.settles;
     }
 
 pub loop-at-preserved : goal.loop-at-preserved
 loop-at-preserved c =
     let settings = settings_of c.args.settings.now in
     let entries = c.deref-entry-items.result.now in
-    let both = subst (λ can. Replays can (kept_of c.entry-item.result) c.loop-at.till.state c.relive.new.till.state (both_of c.loop-at.settling) (both_of c.relive.new.settling)) c.if-not-branch-2.false c.in_ok-relive.ensures in
+    let both = subst (λ can. Replays can (kept_of c.entry-item.result) (both_of c.loop-at.till) (both_of c.relive.new.till)) c.if-not-branch-2.false c.in_ok-relive.ensures in
     let lives = both.0 in
     record {
-      lived = one_more settings entries c.loop-at.at c.entry-item.result c.loop-at.till.state c.relive.new.till.state c.loop-at-test.true c.entry-item.is lives c.loop-at.invariant.lived;
-      settles = asked_more settings entries c.loop-at.at c.entry-item.result c.loop-at.till.state c.relive.new.till.state (both_of c.loop-at.settling) (both_of c.relive.new.settling) c.loop-at-test.true c.entry-item.is both c.loop-at.invariant.settles;
-      noted = noted_on settings entries c.loop-at.at c.entry-item.result c.loop-at.till.state c.relive.new.till.state
+      lived = one_more settings entries c.loop-at.at c.entry-item.result c.loop-at.till.till.state c.relive.new.till.till.state c.loop-at-test.true c.entry-item.is lives c.loop-at.invariant.lived;
+      settles = asked_more settings entries c.loop-at.at c.entry-item.result (both_of c.loop-at.till) (both_of c.relive.new.till) c.loop-at-test.true c.entry-item.is both c.loop-at.invariant.settles;
+      noted = noted_on settings entries c.loop-at.at c.entry-item.result c.loop-at.till.till.state c.relive.new.till.till.state
           c.loop-at.notes.last c.hold.new.self.last c.follow.new.self.last c.loop-at.notes.booked.items c.hold.new.self.booked.items c.follow.new.self.booked.items c.loop-at.notes.unclear.items c.hold.new.self.unclear.items c.follow.new.self.unclear.items
           c.loop-at-test.true c.entry-item.is c.hold.ensures.last (ap (λ v. v.items) c.hold.ensures.booked) (ap (λ v. v.items) c.hold.ensures.unclear)
-          c.in_ok-follow.ensures.last c.in_ok-follow.ensures.booked c.in_ok-follow.ensures.unclear lives c.loop-at.invariant.lived.up c.loop-at.invariant.noted;
+          c.in_ok-follow.ensures.last
+          (c.in_ok-follow.ensures.booked ∙ ap (λ (t : TillValue). grown c.hold.new.self.booked.items (booked_rows t.state) c.hold.new.self.last) c.till.ensures)
+          (c.in_ok-follow.ensures.unclear ∙ ap (λ (t : TillValue). grown c.hold.new.self.unclear.items (unclear_rows t.state) c.hold.new.self.last) c.till.ensures) lives c.loop-at.invariant.lived.up c.loop-at.invariant.noted;
     }
 
 pub returns-clause-till : goal.returns-clause-till
 returns-clause-till c =
-    at_end (settings_of c.args.settings.now) c.args.text.now c.deref-entry-items.result.now c.loop-at.till.state c.lost.new.self.state (c.in_ok-has_opening.ensures.0 c.if-not-branch.false)
+    at_end (settings_of c.args.settings.now) c.args.text.now c.deref-entry-items.result.now c.loop-at.till.till.state c.lost.new.self.till.state (c.in_ok-has_opening.ensures.0 c.if-not-branch.false)
     (c.in-Ok.ensures ∙ ap (λ es. Some (map kept_of es)) (sym c.deref-entry-items.ensures.value))
-    (subst (λ n. SoFar (settings_of c.args.settings.now) c.deref-entry-items.result.now n c.loop-at.till.state) (omega (arith, c.loop-at-test.false, c.loop-at.auto.at-end)) c.loop-at.invariant.lived)
-    (all_asked (settings_of c.args.settings.now) c.deref-entry-items.result.now c.loop-at.at (both_of c.loop-at.settling) (omega (arith, c.loop-at-test.false, c.loop-at.auto.at-end)) c.loop-at.invariant.settles).asks c.lost.ensures.state
+    (subst (λ n. SoFar (settings_of c.args.settings.now) c.deref-entry-items.result.now n c.loop-at.till.till.state) (omega (arith, c.loop-at-test.false, c.loop-at.auto.at-end)) c.loop-at.invariant.lived)
+    (all_asked (settings_of c.args.settings.now) c.deref-entry-items.result.now c.loop-at.at (both_of c.loop-at.till) (omega (arith, c.loop-at-test.false, c.loop-at.auto.at-end)) c.loop-at.invariant.settles).asks c.lost.ensures.inside.0
 
 pub returns-clause-settling : goal.returns-clause-settling
 returns-clause-settling c =
-    settled_at_end (settings_of c.args.settings.now) c.args.text.now c.deref-entry-items.result.now (both_of c.loop-at.settling) (both_of c.lost-2.new.self)
-    (c.in-Ok.ensures ∙ ap (λ es. Some (map kept_of es)) (sym c.deref-entry-items.ensures.value)) c.lost-2.ensures.both
-    (all_asked (settings_of c.args.settings.now) c.deref-entry-items.result.now c.loop-at.at (both_of c.loop-at.settling) (omega (arith, c.loop-at-test.false, c.loop-at.auto.at-end)) c.loop-at.invariant.settles)
+    settled_at_end (settings_of c.args.settings.now) c.args.text.now c.deref-entry-items.result.now (both_of c.loop-at.till) (both_of c.lost.new.self)
+    (c.in-Ok.ensures ∙ ap (λ es. Some (map kept_of es)) (sym c.deref-entry-items.ensures.value)) c.lost.ensures.both
+    (all_asked (settings_of c.args.settings.now) c.deref-entry-items.result.now c.loop-at.at (both_of c.loop-at.till) (omega (arith, c.loop-at-test.false, c.loop-at.auto.at-end)) c.loop-at.invariant.settles)
 
 pub returns-clause-notes : goal.returns-clause-notes
 returns-clause-notes c =
     let settings = settings_of c.args.settings.now in
     let entries = c.deref-entry-items.result.now in
-    noted_at_end settings c.args.text.now entries c.loop-at.till.state c.lost.new.self.state c.loop-at.notes.last c.loop-at.notes.booked.items c.follow-2.new.self.booked.items c.loop-at.notes.unclear.items c.follow-2.new.self.unclear.items
-    (c.in-Ok.ensures ∙ ap (λ es. Some (map kept_of es)) (sym c.deref-entry-items.ensures.value)) c.loop-at.invariant.lived.up c.lost.ensures.state c.in_ok-follow-2.ensures.booked c.in_ok-follow-2.ensures.unclear
-    (subst (λ n. NotedSoFar settings (map kept_of (take n entries)) c.loop-at.till.state c.loop-at.notes.last c.loop-at.notes.booked.items c.loop-at.notes.unclear.items) (omega (arith, c.loop-at-test.false, c.loop-at.auto.at-end)) c.loop-at.invariant.noted)
+    noted_at_end settings c.args.text.now entries c.loop-at.till.till.state c.lost.new.self.till.state c.loop-at.notes.last c.loop-at.notes.booked.items c.follow-2.new.self.booked.items c.loop-at.notes.unclear.items c.follow-2.new.self.unclear.items
+    (c.in-Ok.ensures ∙ ap (λ es. Some (map kept_of es)) (sym c.deref-entry-items.ensures.value)) c.loop-at.invariant.lived.up c.lost.ensures.inside.0
+    (c.in_ok-follow-2.ensures.booked ∙ ap (λ (t : TillValue). grown c.loop-at.notes.booked.items (booked_rows t.state) c.loop-at.notes.last) c.till-2.ensures)
+    (c.in_ok-follow-2.ensures.unclear ∙ ap (λ (t : TillValue). grown c.loop-at.notes.unclear.items (unclear_rows t.state) c.loop-at.notes.last) c.till-2.ensures)
+    (subst (λ n. NotedSoFar settings (map kept_of (take n entries)) c.loop-at.till.till.state c.loop-at.notes.last c.loop-at.notes.booked.items c.loop-at.notes.unclear.items) (omega (arith, c.loop-at-test.false, c.loop-at.auto.at-end)) c.loop-at.invariant.noted)

@@ -9,7 +9,7 @@ use Rattle.zvt_kept.proofs.recovery.recover.Given as goal
 
 abbrev pub invariant-loop-at : goal.invariant-loop-at
 invariant-loop-at l = record {
-  lived : SoFar (settings_of l.settings) l.entry-items l.at l.till.state;
-  settles : AskedSoFar (settings_of l.settings) (map kept_of (take l.at l.entry-items)) (both_of l.settling);
-  noted : NotedSoFar (settings_of l.settings) (map kept_of (take l.at l.entry-items)) l.till.state l.notes.last l.notes.booked.items l.notes.unclear.items;
+  lived : SoFar (settings_of l.settings) l.entry-items l.at l.till.till.state;
+  settles : AskedSoFar (settings_of l.settings) (map kept_of (take l.at l.entry-items)) (both_of l.till);
+  noted : NotedSoFar (settings_of l.settings) (map kept_of (take l.at l.entry-items)) l.till.till.state l.notes.last l.notes.booked.items l.notes.unclear.items;
 }

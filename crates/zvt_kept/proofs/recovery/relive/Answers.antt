@@ -7,6 +7,5 @@ use Rattle.zvt_kept.proofs.recovery.relive.Goals as goal
 
 pub returns-in-Lost : goal.returns-in-Lost
 returns-in-Lost c =
-    subst (λ e. Replays true (kept_of e) c.args.till.now.state c.connected.new.self.state (both_of c.args.settling.now) (both_of c.connected-in-Lost.new.self)) (sym c.in-Lost.is)
-    (lost_replays c.args.till.now.state c.lost.new.self.state c.connected.new.self.state (both_of c.args.settling.now) (both_of c.lost-in-Lost.new.self) (both_of c.connected-in-Lost.new.self)
-    c.lost.ensures.state c.connected.ensures.state c.lost-in-Lost.ensures.both c.connected-in-Lost.ensures.both)
+    subst (λ e. Replays true (kept_of e) (both_of c.args.till.now) (both_of c.connected.new.self)) (sym c.in-Lost.is)
+    (lost_replays (both_of c.args.till.now) (both_of c.lost.new.self) (both_of c.connected.new.self) c.lost.ensures.both c.connected.ensures.both)

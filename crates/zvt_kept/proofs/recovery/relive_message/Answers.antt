@@ -1,5 +1,4 @@
 use Rattle.std.proofs.Common.{ap, length, ◌∙◌}
-use Rattle.zvt_till.specs.Till.{heard_step}
 use Rattle.zvt_settle.specs.Inside.{both_of}
 use Rattle.zvt_settle.specs.Settling.{Line, take}
 use Rattle.zvt_till.specs.declared.happenings.Happening.TheVariants.{Heard as HeardIn}
@@ -10,21 +9,18 @@ use Rattle.zvt_kept.proofs.recovery.relive_message.Goals as goal
 
 pub returns-in_default : goal.returns-in_default
 returns-in_default c =
-    let state = c.args.till.now.state in
-    let both = both_of c.args.settling.now in
-    dies (heard c.args.bytes.now) state state both both
-    (no_message c.args.bytes.now c.in_ok-apdu.field-0 state state c.in_ok-apdu.ensures (λ m is. c.in_default.not-Whole (m, length c.args.bytes.now) is))
+    let both = both_of c.args.till.now in
+    dies (heard c.args.bytes.now) both both
+    (no_message c.args.bytes.now c.in_ok-apdu.field-0 both.till both.till c.in_ok-apdu.ensures (λ m is. c.in_default.not-Whole (m, length c.args.bytes.now) is))
 
 pub returns-then-size-bytes : goal.returns-then-size-bytes
 returns-then-size-bytes c =
-    let state = c.args.till.now.state in
-    let both = both_of c.args.settling.now in
-    dies (heard c.args.bytes.now) state state both both
-    (no_message c.args.bytes.now c.in_ok-apdu.field-0 state state c.in_ok-apdu.ensures
+    let both = both_of c.args.till.now in
+    dies (heard c.args.bytes.now) both both
+    (no_message c.args.bytes.now c.in_ok-apdu.field-0 both.till both.till c.in_ok-apdu.ensures
     (not_all c.in-Whole.apdu c.in-Whole.size c.args.bytes.now c.in_ok-apdu.field-0 c.in-Whole.is c.if-size-bytes.true))
 
 pub returns : goal.returns
 returns c =
-    message_replays c.in-Whole.apdu c.in-Whole.size c.args.bytes.now c.in_ok-apdu.field-0 c.args.till.now.state c.hear-2.new.self.state (both_of c.args.settling.now) (both_of c.hear.new.self) c.in_ok-apdu.ensures c.in-Whole.is c.if-size-bytes.false
-    (c.hear-2.ensures.state ∙ ap (heard_step c.args.till.now.state) c.heard-2.ensures)
-    (c.hear.ensures.both ∙ ap (λ h. take (both_of c.args.settling.now) (Line (HeardIn h))) c.heard.ensures)
+    message_replays c.in-Whole.apdu c.in-Whole.size c.args.bytes.now c.in_ok-apdu.field-0 (both_of c.args.till.now) (both_of c.hear.new.self) c.in_ok-apdu.ensures c.in-Whole.is c.if-size-bytes.false
+    (c.hear.ensures.both ∙ ap (λ h. take (both_of c.args.till.now) (Line (HeardIn h))) c.heard.ensures)

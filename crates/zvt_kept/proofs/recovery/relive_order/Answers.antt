@@ -6,13 +6,11 @@ use Rattle.zvt_settle.specs.Inside.{both_of}
 use Rattle.zvt_kept.proofs.Replayed.{order_replays, order_turned}
 use Rattle.zvt_kept.proofs.recovery.relive_order.Goals as goal
 
-pub returns-in-Ok-order : goal.returns-in-Ok-order
-returns-in-Ok-order c = λ note.
-    order_replays c.args.order.now note c.args.till.now.state c.order-in-Ok.new.self.state (both_of c.args.settling.now) (both_of c.order.new.self)
-    c.in-Ok-order.ensures.taken c.in-Ok-order.ensures.runs c.in-Ok.ensures.idle c.in-Ok.ensures.sent
+pub returns-in-Ok : goal.returns-in-Ok
+returns-in-Ok c = λ note.
+    order_replays c.args.order.now note (both_of c.args.till.now) (both_of c.order.new.self) c.in-Ok.ensures.taken c.in-Ok.ensures.idle c.in-Ok.ensures.sent
 
 pub returns-in-Err-2 : goal.returns-in-Err-2
 returns-in-Err-2 c = λ note.
-    let state = c.args.till.now.state in
-    order_turned c.args.order.now note state state (both_of c.args.settling.now) (both_of c.order.new.self) c.args.settling.now.till.spare c.in-Err.why c.in-Err.ensures.refused
-    (λ is. let both : false ≡ true = c.if-eq-2.ensures ∙ ap (λ w. sameb the_type w Memory) is in absurd cc)
+    order_turned c.args.order.now note (both_of c.args.till.now) (both_of c.order.new.self) c.args.till.now.till.spare c.in-Err.why c.in-Err.ensures.refused
+    (λ is. let both : false ≡ true = c.if-eq.ensures ∙ ap (λ w. sameb the_type w Memory) is in absurd cc)

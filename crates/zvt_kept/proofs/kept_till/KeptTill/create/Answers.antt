@@ -2,6 +2,9 @@ use Rattle.std.proofs.Common.{◌++◌, ℕ, List, ap, subst, ◌∙◌}
 use Rattle.zvt_journal.specs.Device.{LeavesOnly}
 use Rattle.zvt_journal.specs.Text.{IsWithOrWithout}
 use Rattle.zvt_till.specs.Settings.{settings_of}
+use Rattle.zvt_till.specs.Till.{TillState}
+use Rattle.zvt_settle.specs.Inside.{both_of}
+use Rattle.zvt_settle.specs.Settling.{new_settling}
 use Rattle.zvt_kept.specs.KeptTill.{HasCause}
 use Rattle.zvt_kept.specs.Logs.{opening_of}
 use Rattle.zvt_kept.proofs.Logged.{keeps_some}
@@ -39,8 +42,8 @@ invariant_of-result g c =
     let new = c.keep_opening.new.journal in
     let durable = c.in_default.ensures.adds.durable in
     let text = durable.0 ∙ ap (λ (l : List ℕ). l ++ opening_of (settings_of c.args.settings.now)) (empty_text (V.seen c.args.device) c.requires.at_gate) in
-    keeps_some (settings_of c.args.settings.now) _ (V.seen new.device) (V.may_leave new.device) new.gate c.with_settings-till.result.state
-    (begun (settings_of c.args.settings.now) (V.seen new.device) (V.may_leave new.device) new.gate c.with_settings-till.result.state durable.1 text c.in_default.ensures.kept c.with_settings-till.ensures.state)
+    keeps_some (settings_of c.args.settings.now) _ (V.seen new.device) (V.may_leave new.device) new.gate (both_of c.new-till.result)
+    (begun (settings_of c.args.settings.now) (V.seen new.device) (V.may_leave new.device) new.gate (both_of c.new-till.result) durable.1 text c.in_default.ensures.kept (c.new-till.ensures.both ∙ ap (λ (s : TillState). record { till = s; settling = new_settling }) c.with_settings.ensures.state))
 
 pub returns-clause-log : goal.returns-clause-log
 returns-clause-log g c =
@@ -48,4 +51,4 @@ returns-clause-log g c =
     let new = c.keep_opening.new.journal in
     let durable = c.in_default.ensures.adds.durable in
     let text = durable.0 ∙ ap (λ (l : List ℕ). l ++ opening_of (settings_of c.args.settings.now)) (empty_text (V.seen c.args.device) c.requires.at_gate) in
-    begun (settings_of c.args.settings.now) (V.seen new.device) (V.may_leave new.device) new.gate c.with_settings-till.result.state durable.1 text c.in_default.ensures.kept c.with_settings-till.ensures.state
+    begun (settings_of c.args.settings.now) (V.seen new.device) (V.may_leave new.device) new.gate (both_of c.new-till.result) durable.1 text c.in_default.ensures.kept (c.new-till.ensures.both ∙ ap (λ (s : TillState). record { till = s; settling = new_settling }) c.with_settings.ensures.state)
