@@ -32,7 +32,7 @@ cause_plain WrongCurrency = refl
 
 -- ---- members that may be left out, and what comes after them
 
-receipt_said : (receipt : Option (List ℕ)) (later : Members) → receipt_part receipt ++ members_text true later ≡ members_text true (with_receipt receipt later)
+pub receipt_said : (receipt : Option (List ℕ)) (later : Members) → receipt_part receipt ++ members_text true later ≡ members_text true (with_receipt receipt later)
 unfolding escape_byte
 receipt_said None later = refl
 receipt_said (Some receipt) later = simp append_assoc
@@ -66,7 +66,7 @@ reversals_said reversed doubt later =
     ∙ ap (λ (l : List ℕ). unclear_reversal_part doubt ++ l) (ap (λ (l : List ℕ). reversed_part reversed ++ l) (taken_back_said doubt later) ∙ reversed_said reversed (with_taken_back doubt later))
     ∙ unclear_reversal_said doubt (with_reversed reversed (with_taken_back doubt later))
 
-trace_said : (trace : Option ℕ) (later : Members) → trace_part trace ++ members_text true later ≡ members_text true (with_trace trace later)
+pub trace_said : (trace : Option ℕ) (later : Members) → trace_part trace ++ members_text true later ≡ members_text true (with_trace trace later)
 unfolding escape_byte
 trace_said None later = refl
 trace_said (Some trace) later = simp append_assoc
@@ -140,7 +140,7 @@ cause_said cause currency later =
 -- ---- whole lines
 
 -- one part before the members, which end the line
-before_end : (part said : List ℕ) (later more : Members) → part ++ members_text true later ≡ members_text true more → said ≡ members_text true later ++ codes "}\n"
+pub before_end : (part said : List ℕ) (later more : Members) → part ++ members_text true later ≡ members_text true more → said ≡ members_text true later ++ codes "}\n"
     → part ++ said ≡ members_text true more ++ codes "}\n"
 before_end part said later more same ends =
     ap (λ (l : List ℕ). part ++ l) ends ∙ sym (append_assoc part (members_text true later) (codes "}\n")) ∙ ap (λ (l : List ℕ). l ++ codes "}\n") same

@@ -11,6 +11,7 @@ pub mod Unclear
 pub mod BookObjects
 pub mod Noted
 pub mod Rows
+mod SettlementLemmas
 pub mod Gone
 pub mod Outlived
 pub mod Serving

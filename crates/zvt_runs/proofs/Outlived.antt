@@ -13,7 +13,7 @@ use Rattle.zvt_till.specs.declared.outcomes.Outcome.{Outcome}
 use Rattle.zvt_till.specs.Sending.{Settings}
 use Rattle.zvt_till.proofs.BookStepLemmas.{settings-kept}
 use Rattle.zvt_kept.specs.Keeping.{kept_connects, kept_orders}
-use Rattle.zvt_kept.specs.KeptTill.{Connects, HasLog, Hears, IsKept, Keeps, KeptValue, LosesLine, has_failed, kept_rests, till_of, unless_up, with_note}
+use Rattle.zvt_kept.specs.KeptTill.{Connects, HasLog, Hears, IsKept, Keeps, KeptValue, LosesLine, both_in, has_failed, kept_rests, till_of, unless_up, with_note}
 use Rattle.zvt_kept.specs.Outliving.{CallsOutlive, Did, DidAll, HappenInAll, KeptStep, connects}
 use Rattle.zvt_kept.specs.Runs.{RanKept}
 use Rattle.zvt_runs.specs.declared.fault.EndFault.{EndFault}
@@ -56,12 +56,12 @@ module _ {D : Type 0} (seen : D → List ℕ) (may_leave : D → List ℕ → Ty
     pub has : Logs settings log till
     pub whole : has_failed till ≡ false
 
-  is_kept : (settings : Settings) (till : Kept) → Going settings till → IsKept (has_failed till) (seen till.standing.device) (may_leave till.standing.device) till.standing.gate till.standing.till.state
+  is_kept : (settings : Settings) (till : Kept) → Going settings till → IsKept (has_failed till) (seen till.standing.device) (may_leave till.standing.device) till.standing.gate (both_in till.standing)
   is_kept settings till g =
       let state = till.standing.till.state in
       let own : settings ≡ state.settings = sym (ap (λ s. s.settings) g.has.stands.1 ∙ settings-kept settings (g.log ++ unless_up state.line_up)) in
-      let keeps = subst (λ s. Keeps s g.log (seen till.standing.device) (may_leave till.standing.device) till.standing.gate state) own g.has in
-      subst (λ (failed : Bool). IsKept failed (seen till.standing.device) (may_leave till.standing.device) till.standing.gate state) (sym g.whole) (g.log, keeps)
+      let keeps = subst (λ s. Keeps s g.log (seen till.standing.device) (may_leave till.standing.device) till.standing.gate (both_in till.standing)) own g.has in
+      subst (λ (failed : Bool). IsKept failed (seen till.standing.device) (may_leave till.standing.device) till.standing.gate (both_in till.standing)) (sym g.whole) (g.log, keeps)
 
   after_call : (settings : Settings) (call : KeptStep) (old new : Kept) → Going settings old → Did seen may_leave moment left_since faults call old new → has_failed new ≡ false → Going settings new
   after_call settings call old new g did whole =

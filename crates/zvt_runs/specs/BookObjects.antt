@@ -6,10 +6,7 @@ use Rattle.hex.specs.Hex.{encode_upper, encode_with}
 use Rattle.json.specs.Print.{escape, escape_byte}
 use Rattle.serde_json.specs.Data.{Data, string, boolean, object, Members, no_members, member}
 use Rattle.zvt_json.specs.Strings.{count_value, hex_value, line_text}
-use Rattle.zvt_text.specs.declared.form.Form.{Form}
-use Rattle.zvt_text.specs.declared.form.Form.TheVariants.{Text, Json}
 use Rattle.zvt_text.specs.MessageTexts.{four_digits}
-use Rattle.zvt_till.specs.Marks.{total}
 use Rattle.zvt_till.specs.Names.{cause_name}
 use Rattle.zvt_till.specs.Numbers.{no_numbers}
 use Rattle.zvt_till.specs.declared.entries.Doubt.{Doubt}
@@ -19,8 +16,6 @@ use Rattle.zvt_till.specs.declared.numbers.Numbers.{Numbers}
 use Rattle.zvt_till.specs.declared.outcomes.Cause.{Cause}
 use Rattle.zvt_till.specs.declared.outcomes.Cause.TheVariants.{NoStatus}
 use Rattle.zvt_kept.specs.Notes.{at_in, reference_in}
-use Rattle.zvt_kept.specs.declared.recovery.Recovered.{Recovered}
-use Rattle.zvt_runs.specs.Books.{book_text}
 
 -- the receipt number, if the payment has one, and the text after it
 abbrev pub with_receipt : Option (List ℕ) → Members → Members
@@ -116,20 +111,6 @@ unclears_json currency unclear heard notes =
 
 abbrev pub sum_value : (currency total : ℕ) → Data
 sum_value currency total = object (with_currency currency (member (codes "total") (count_value total) no_members))
-
--- a line for each entry, for each unclear payment, and for the sum of the entries that were not reversed
-abbrev pub book_json : Recovered → List ℕ
-book_json recovered =
-    let till = recovered.till in
-    let s = till.state in
-    entries_json s.settings.currency s.book recovered.booked.items
-    ++ unclears_json s.settings.currency s.unclear till.heard recovered.unclear.items
-    ++ line_text (sum_value s.settings.currency (total s.book))
-
--- the book in this form
-abbrev pub book_lines : Form → Recovered → List ℕ
-book_lines Text recovered = book_text recovered
-book_lines Json recovered = book_json recovered
 
 -- ---- rows worked by hand
 

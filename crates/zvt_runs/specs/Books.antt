@@ -3,16 +3,13 @@ use Rattle.std.specs.Prelude.{ℕ, Bool, true, false, List, [], ◌∷◌, ◌++
 use Rattle.std.specs.Fmt.{decimal}
 use Rattle.std.specs.List.{enumerate_from, flat_map}
 use Rattle.zvt_text.specs.Numbers.{numbers_text}
-use Rattle.zvt_till.specs.Marks.{total}
 use Rattle.zvt_till.specs.Names.{cause_name}
 use Rattle.zvt_till.specs.declared.entries.Doubt.{Doubt}
 use Rattle.zvt_till.specs.declared.entries.Doubt.TheVariants.{No, Unclear, TakenBack}
 use Rattle.zvt_till.specs.declared.entries.Entry.{Entry}
 use Rattle.zvt_till.specs.declared.numbers.Numbers.{Numbers}
 use Rattle.zvt_till.specs.declared.outcomes.Cause.{Cause}
-use Rattle.zvt_kept.specs.declared.recovery.Recovered.{Recovered}
 use Rattle.zvt_runs.specs.Notes.{named_text}
-use Rattle.zvt_runs.specs.Outcomes.{total_text}
 
 -- the text after an entry that a completed reversal took back
 abbrev pub reversed_text : Bool → List ℕ
@@ -55,10 +52,3 @@ entries_text book notes = flat_map (λ it. entry_text it.1 (slice_get notes it.0
 -- the unclear payments, each with the numbers and the note at the same index
 abbrev pub unclears_text : List (ℕ × Cause) → (heard : List Numbers) → (notes : List (List ℕ)) → List ℕ
 unclears_text unclear heard notes = flat_map (λ it. unclear_text it.1 (slice_get heard it.0) (slice_get notes it.0)) (enumerate_from 0 unclear)
-
--- the entries, the unclear payments, and the sum of the entries that were not reversed
-abbrev pub book_text : Recovered → List ℕ
-book_text recovered =
-    let till = recovered.till in
-    entries_text till.state.book recovered.booked.items ++ unclears_text till.state.unclear till.heard recovered.unclear.items
-    ++ total_text (total till.state.book)

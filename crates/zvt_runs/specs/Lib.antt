@@ -11,6 +11,8 @@ pub mod TillEnd
 pub mod BothEnds
 pub mod TillRuns
 pub mod Books
+pub mod BookLines
+pub mod Settlements
 pub mod BookObjects
 pub mod Service
 pub mod Settings

@@ -4,7 +4,8 @@ ghost use Rattle.hex.specs.Hex.{encode_upper};
 ghost use Rattle.json.specs.Print.{escape};
 ghost use Rattle.zvt_json.specs.Strings.{line_text};
 ghost use Rattle.zvt_text.specs.Writing.{Adds};
-ghost use Rattle.zvt_runs.specs.BookObjects.{amount_part, book_json, cause_part, currency_part, entries_json};
+ghost use Rattle.zvt_runs.specs.BookLines.{book_json};
+ghost use Rattle.zvt_runs.specs.BookObjects.{amount_part, cause_part, currency_part, entries_json};
 ghost use Rattle.zvt_runs.specs.BookObjects.{entry_json, entry_value, heard_part, moment_part, number_part};
 ghost use Rattle.zvt_runs.specs.BookObjects.{receipt_part, reference_part, reversals_part, reversed_part, sum_json};
 ghost use Rattle.zvt_runs.specs.BookObjects.{sum_value, taken_back_part, time_part, trace_part, unclear_json};
@@ -12,19 +13,20 @@ ghost use Rattle.zvt_runs.specs.BookObjects.{unclear_reversal_part, unclear_valu
 
 use crate::books::{heard_at, note_at};
 use crate::quoted::say_escaped;
+use crate::settlements::say_settlements;
 use std::alloc::AllocError;
 use zvt_bcd::{Amount, Currency, Trace};
 use zvt_kept::{Note, Recovered};
-use zvt_text::Text;
+use zvt_text::{Form, Text};
 use zvt_till::{Cause, Doubt, Entry, Numbers};
 
-/// Adds an object for each entry with its number and the state of its reversals, and then one for each unclear payment
-/// with the numbers that the terminal named. The last object is the sum of the entries that were not reversed. The
-/// objects of payments contain their notes.
+/// Adds an object for each entry with its number and the state of its reversals, one for each unclear payment with the
+/// numbers that the terminal named, and one for each settlement. The last object is the sum of the entries that were
+/// not reversed. The objects of payments contain their notes.
 pub(crate) fn say_objects(text: &mut Text, recovered: &Recovered) -> Result<(), AllocError>
     ensures { OnOk result (text.new ≡ text.old ++ book_json recovered.now) }
 {
-    let till = &recovered.till;
+    let till = recovered.till.till();
     let currency = till.currency();
     say_entries(text, currency, till.book(), recovered.booked.as_slice())?;
     say_unclear(
@@ -34,6 +36,7 @@ pub(crate) fn say_objects(text: &mut Text, recovered: &Recovered) -> Result<(), 
         till.heard(),
         recovered.unclear.as_slice(),
     )?;
+    say_settlements(text, Form::Json, recovered.till.settled())?;
     say_sum(text, currency, till.total())
 }
 
@@ -200,7 +203,7 @@ fn say_currency(text: &mut Text, currency: Currency) -> Result<(), AllocError>
 }
 
 /// Writes the receipt number, if the payment has one.
-fn say_receipt(text: &mut Text, receipt: Option<[u8; 2]>) -> Result<(), AllocError>
+pub(crate) fn say_receipt(text: &mut Text, receipt: Option<[u8; 2]>) -> Result<(), AllocError>
     ensures { OnOk result (text.new ≡ text.old ++ receipt_part receipt) }
 {
     let Some(number) = receipt else {
@@ -260,7 +263,7 @@ fn say_taken_back(text: &mut Text, doubt: Doubt) -> Result<(), AllocError>
 }
 
 /// Writes the trace number, if the terminal named one.
-fn say_trace(text: &mut Text, trace: Option<Trace>) -> Result<(), AllocError>
+pub(crate) fn say_trace(text: &mut Text, trace: Option<Trace>) -> Result<(), AllocError>
     ensures { OnOk result (text.new ≡ text.old ++ trace_part trace) }
 {
     let Some(number) = trace else {

@@ -1,8 +1,8 @@
 //! A till's book as text.
 ghost use Rattle.std.specs.Prelude.{◌≡◌, ◌<◌, ◌++◌, Err, IfErr, OnOk, option_map, slice_get};
 ghost use Rattle.zvt_io.specs.Devices.{Writes};
-ghost use Rattle.zvt_runs.specs.BookObjects.{book_lines};
-ghost use Rattle.zvt_runs.specs.Books.{book_text, booked_text, doubt_text, entries_text, entry_text, heard_words};
+ghost use Rattle.zvt_runs.specs.BookLines.{book_lines, book_text};
+ghost use Rattle.zvt_runs.specs.Books.{booked_text, doubt_text, entries_text, entry_text, heard_words};
 ghost use Rattle.zvt_runs.specs.Books.{noted_text};
 ghost use Rattle.zvt_runs.specs.Books.{reversed_text, unclear_reversal_text, unclear_text, unclears_text};
 ghost use Rattle.zvt_runs.specs.Runs.{AnswersText};
@@ -10,6 +10,7 @@ ghost use Rattle.zvt_runs.specs.Runs.{AnswersText};
 use crate::book_objects::say_objects;
 use crate::fault::EndFault;
 use crate::notes::say_named;
+use crate::settlements::say_settlements;
 use crate::steps::say_total;
 use std::alloc::{AllocError, Global};
 use zvt_bcd::Amount;
@@ -18,9 +19,10 @@ use zvt_kept::{Note, Recovered};
 use zvt_text::{Form, Text};
 use zvt_till::{Cause, Doubt, Entry, Numbers};
 
-/// Writes a till's book: one line per entry, with the state of its reversals, then one per unclear payment, with the
-/// numbers that the terminal named for it, then the total of the entries that were not reversed. The line of a payment
-/// ends with the time and the reference of its order, if its record has them.
+/// Writes a till's book: one line per entry, per unclear payment and per settlement, and the total of the entries that
+/// were not reversed. The line of an entry has the state of its reversals, and the line of an unclear payment the
+/// numbers that the terminal named. The line of a payment ends with the time and the reference of its order, if its
+/// record has them.
 ///
 /// Fails with `Memory` if an allocation fails, and has then written nothing. Fails with `Write` if the writer fails,
 /// and has then written some prefix of the text.
@@ -65,7 +67,7 @@ fn say_lines(text: &mut Text, form: Form, recovered: &Recovered) -> Result<(), A
 fn say_book(text: &mut Text, recovered: &Recovered) -> Result<(), AllocError>
     ensures { OnOk result (text.new ≡ text.old ++ book_text recovered.now) }
 {
-    let till = &recovered.till;
+    let till = recovered.till.till();
     say_entries(text, till.book(), recovered.booked.as_slice())?;
     say_unclear(
         text,
@@ -73,6 +75,7 @@ fn say_book(text: &mut Text, recovered: &Recovered) -> Result<(), AllocError>
         till.heard(),
         recovered.unclear.as_slice(),
     )?;
+    say_settlements(text, Form::Text, recovered.till.settled())?;
     say_total(text, till.total())
 }
 

@@ -21,6 +21,7 @@ mod quoted;
 mod reversals;
 mod service;
 mod settings;
+mod settlements;
 mod steps;
 pub mod tcp;
 mod till_end;

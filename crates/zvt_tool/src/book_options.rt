@@ -23,6 +23,8 @@ pub fn book_row() -> CommandRow<'static>
   booked N trace T receipt R  A completed payment, followed by the state of its reversal, if there was one:
                               reversed, reversal unclear CAUSE, or taken back
   unclear N CAUSE             A payment that may have been charged or not
+  settled unclear N Paid      What the terminal said of the N-th unclear payment: Paid, with its numbers, or NotPaid
+  settled booked N Reversed   What it said of the reversal of the N-th booked payment: Reversed or NotReversed
   total N                     The sum of the payments that were not reversed
 FILE is read without a lock and is not changed.
 
