@@ -343,7 +343,7 @@ def several():
     """One page about several files has an index with their figures, and each report without its dialogue."""
     names = ["twice.trace", "none.trace", "refusals.trace", "twice.trace"]
     status, text, reported = run(["report", "--html", *names], folder=STORED)
-    page, wanted = Page(text), []
+    page, wanted, net = Page(text), [], 0
     check("several files", (status, reported), (4, "zvt: 'none.trace': cannot open the trace: No such file or directory (os error 2)\n"))
     well_formed("several files", page, titles=4)
     for name in names:
@@ -353,7 +353,9 @@ def several():
         objects = [json.loads(line) for line in run(["report", "--json", name], folder=STORED)[1].splitlines()]
         said = objects[0]["summary"]
         acts = sum(one["look"]["weight"] == "act" for one in objects if "look" in one)
+        net += said["net"]
         wanted.append([name, f"{said['net'] // 100}.{said['net'] % 100:02d} EUR", str(said["unclear"] + said["reversals_unclear"]), str(acts)])
+    wanted.append(["Sum", f"{net // 100}.{net % 100:02d} EUR", "", ""])
     index = text[text.index("<tbody>"):text.index("</tbody>")]
     check("the index", [re.findall("<td[^>]*>(?:<a [^>]*>)?([^<]*)", row) for row in index.split("</tr>")[:-1]], wanted)
     check("where the index leads", [link for link in page.values("href") if link.startswith("#f")], ["#f1", "#f3", "#f4"])
@@ -365,6 +367,16 @@ def several():
         whole = re.sub('<a class="at" href="#l[0-9]+">([^<]*)</a>', r'<span class="at">\1</span>', whole)
         check(f"the report {number}", whole.startswith(section[:section.index("<footer>")]), True)
     check("no stranger's trace", run(["report", "--html", "twice.trace", "/dev/null"], folder=STORED)[0], 0)
+
+
+def sums():
+    """The index has a sum if two reports or more have one currency, and all have it."""
+    with tempfile.TemporaryDirectory() as folder:
+        for name, registration in (("euros", "06 00 06 00 00 00 BE 09 78"), ("francs", "06 00 06 00 00 00 BE 07 56"), ("unnamed", "06 00 04 00 00 00 BE")):
+            (Path(folder) / name).write_text(f"> {registration}\n")
+        for names, wanted in (("euros euros", "0.00 EUR"), ("francs missing francs", "0.00 CHF"), ("euros francs", None), ("euros euros unnamed", None), ("unnamed unnamed", None), ("euros missing", None)):
+            found = re.search('<td>Sum</td><td class="n">([^<]*)</td>', run(["report", "--html", *names.split()], folder=folder)[1])
+            check(f"the sum of {names}", found and found[1], wanted)
 
 
 def refused():
@@ -385,6 +397,7 @@ def main():
     hostile()
     marked_up()
     several()
+    sums()
     refused()
     print(f"{check.verdict}: {len(pages)} pages, {check.count} comparisons")
     return check.status

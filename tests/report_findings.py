@@ -1,10 +1,12 @@
 """What `report` finds in a trace apart from its orders: a model of the findings, written from docs/REPORT.md alone.
 
-`findings` lists the messages of a trace that can't be read or are incomplete, with the members of their objects.
+`findings` says if the marks of a trace are swapped and if it has two currencies, and lists its messages that can't be read or are
+incomplete, with the members of their objects.
 """
 import json_model
 
 MOST = 20  # how many are listed
+ORDERS = ("Registration", "Authorisation", "Reversal", "EndOfDay", "AbortOrder")  # what only a till sends
 NAMES = {
     "Ack": "acknowledgement", "Nack": "negative acknowledgement", "Registration": "registration", "Authorisation": "payment", "Reversal": "reversal",
     "EndOfDay": "end of day", "AbortOrder": "abort", "Status": "status information", "Intermediate": "intermediate status", "PrintLine": "print line",
@@ -20,16 +22,20 @@ REASONS = {
     "LengthDigit": "a digit of a length must be F0 to F9"}
 
 
+def kind_of(first):
+    """The kind of a message that begins with these bytes."""
+    return json_model.KINDS.get(first[:2].hex().upper(), ("Nack" if first[:1] == b"\x84" else "Other",))[0]
+
+
 def message_of(side, first):
     """A side's message that begins with these bytes."""
     control = first[:2].hex().upper()
-    kind = json_model.KINDS.get(control, ("Nack" if first[:1] == b"\x84" else "Other",))[0]
-    name = NAMES.get(kind) or json_model.COMMANDS.get(control) if len(control) == 4 else None
+    name = NAMES.get(kind_of(first)) or json_model.COMMANDS.get(control) if len(control) == 4 else None
     return f"The {side.name}'s message{' ' + control if control else ''}{f' ({name})' if name else ''}"
 
 
-def said(case, line, control, **sentences):
-    members = {"case": case, "control": control.hex().upper() if len(control) == 2 else None, "lines": line and [line, line], "weight": "note", **sentences}
+def said(case, line, control=b"", weight="note", **sentences):
+    members = {"case": case, "control": control.hex().upper() if len(control) == 2 else None, "lines": line and [line, line], "weight": weight, **sentences}
     return {"look": {name: members[name] for name in sorted(members) if members[name] is not None}}
 
 
@@ -37,44 +43,69 @@ def counted(number, word):
     return f"{number} {word}{'' if number == 1 else 's'}"
 
 
-def refused(side, event, strict):
+def refused(side, first, event, strict):
     where = event["refused"]
-    return said("Refused", event["line"], side.first[:2], title=f"{message_of(side, side.first)} cannot be read",
+    return said("Refused", event["line"], first[:2], title=f"{message_of(side, first)} cannot be read",
                 text=f"Its byte {where['place']}, counted from 0, is refused: {REASONS[where['reason']]} ({where['reason']}). "
                      f"The report goes on {'with the next connection' if strict else 'after the message'}.",
                 advice=f"Send this report to the maker of the {side.name}.")
 
 
-def cut_off(side, line):
-    """The messages of a side that end here."""
-    first = side.first + side.held if side.reader else b""
-    for event in side.cut(line):
-        yield said("CutOff", line, first[:2], title=f"{message_of(side, first)} is incomplete",
-                   text=f"It breaks off after {counted(event['truncated']['after'], 'byte')}, where the trace or the connection ended.",
-                   advice="If the trace was cut short, make this report again from the whole trace.")
+def cut_off(side, first, event):
+    return said("CutOff", event["line"], first[:2], title=f"{message_of(side, first)} is incomplete",
+                text=f"It breaks off after {counted(event['truncated']['after'], 'byte')}, where the trace or the connection ended.",
+                advice="If the trace was cut short, make this report again from the whole trace.")
 
 
-def all_bad(trace, loose, strict):
+def swapped(orders):
+    return said("Swapped", None, weight="act", title="The marks > and < are swapped",
+                text=f"The terminal's side (<) sent {counted(orders, 'order')}, which only a till sends, and the till's side (>) sent none.",
+                advice="Swap the marks of the trace (tr '<>' '><'), and make this report again.")
+
+
+def currencies(first, other, line):
+    return said("Currencies", line, weight="check", title="The trace has two currencies",
+                text=f"A registration names currency {first}, and the one in line {line} names {other}. The totals add amounts of both.",
+                advice="Split the trace where the currency changes, and make a report of each part.")
+
+
+def events_of(trace, loose, strict):
+    """The events of a trace, each with its side and the first bytes of its message."""
     sides, malformed, number = {sign: json_model.Side(name, loose, not strict) for sign, name in json_model.SIDES.items()}, False, 0
+
+    def cut(line):
+        for side in sides.values():
+            first = side.first + side.held if side.reader else b""
+            yield from ((side, first, event) for event in side.cut(line))
+
     for number, row in json_model.lines_of(trace):
         if row == b"!":
             malformed = False
-            yield from (found for side in sides.values() for found in cut_off(side, number))
+            yield from cut(number)
         elif row[:1] in sides and not malformed:
             side = sides[row[:1]]
             for event in side.feed(json_model.bytes_of(number, row), number):
-                if "refused" in event:
-                    yield refused(side, event, strict)
-                    malformed |= strict
+                yield side, side.first, event
+                malformed |= strict and "refused" in event
             if malformed:
-                yield from (found for side in sides.values() for found in cut_off(side, number))
-    yield from (found for side in sides.values() for found in cut_off(side, number))
+                yield from cut(number)
+    yield from cut(number)
 
 
 def findings(trace, loose, strict):
-    found = list(all_bad(trace, loose, strict))
+    orders, named, found = {"till": 0, "terminal": 0}, [], []
+    for side, first, event in events_of(trace, loose, strict):
+        if "refused" in event:
+            found.append(refused(side, first, event, strict))
+        if "truncated" in event:
+            found.append(cut_off(side, first, event))
+        orders[side.name] += (kind_of(first) if "refused" in event and not strict else event.get("kind")) in ORDERS
+        if side.name == "till" and event.get("kind") == "Registration" and "currency" in event:
+            named.append((event["currency"], event["line"]))
     more = len(found) - MOST
     if more > 0:
-        found[MOST:] = [said("MoreRefused", None, b"", title=f"{counted(more, 'more message')} refused or cut off",
+        found[MOST:] = [said("MoreRefused", None, title=f"{counted(more, 'more message')} refused or cut off",
                              text="This list has only the first messages that were refused or cut off.", advice="'zvt show' names the others.")]
-    return found
+    others = [(currency, line) for currency, line in named if currency != named[0][0]]
+    whole = [currencies(named[0][0], *others[0])] if others else []
+    return ([swapped(orders["terminal"])] if orders["terminal"] and not orders["till"] else []) + whole + found

@@ -233,9 +233,20 @@ def repeated(*answers):
     return ordered(b"\x06\x20", bytes(3), *answers)
 
 
+def registered(currency, sign=">"):
+    """A registration that names this currency, or none."""
+    return sign, message(REGISTRATION, bytes(3) + b"\xBE" + (digits(currency, 2) if currency else b""))
+
+
+def swapped(said):
+    return [({"<": ">", ">": "<"}[sign], one) for sign, one in said]
+
+
 LOST, DONE, DECLINED = ("!", None), message(COMPLETION), message(STATUS, b"\x27\x6C")
 ABORTED, UNHEARD = message(ABORT, b"\x6C"), [*paid(500, 1)[:2], LOST]
 UNREADABLE = message(STATUS, b"\x27\0\xF0\0")  # no field F0
+UNREADABLE_ORDER = message(AUTHORISATION, b"\x04" + bytes(5) + b"\xA0")
+CANCEL = message(b"\x06\xB0", b"")
 TAKEN_BACK = (ACK, approving(500, 2, 1), DONE)
 CASES = [
     ("ApprovedNotCompleted", [*paid(500, 1, approving(500, 1)), LOST], [*paid(500, 1), LOST]),
@@ -269,9 +280,14 @@ CASES = [
      [*paid(500, 1), *closed(totalled(500), DONE), *paid(300, 2), *closed(totalled(300), DONE)]),
     ("CloseDiffers", [*paid(500, 1), *reversed_by(1, *TAKEN_BACK), *closed(by_card(0, 500), DONE)], [*paid(500, 1), *closed(by_card(200, 300), DONE)]),
     ("Refused", [("<", UNREADABLE)], [("<", message(STATUS, b"\x27\0"))]),
-    ("Refused", [(">", message(b"\x06\x70", b"")), (">", message(AUTHORISATION, b"\x04" + bytes(5) + b"\xA0"))], paid(500, 1)),
+    ("Refused", [(">", message(b"\x06\x70", b"")), (">", UNREADABLE_ORDER)], paid(500, 1)),
     ("CutOff", [(">", message(AUTHORISATION, b"\x04" + digits(500, 6))[:-1])], [(">", message(AUTHORISATION, b"\x04" + digits(500, 6)))]),
     ("CutOff", [("<", DONE[:1]), LOST], [("<", DONE[:1]), ("<", DONE[1:]), LOST]),
+    ("Swapped", swapped([registered(978), *paid(500, 1), *closed(DONE)]), swapped([registered(978), *paid(500, 1), ("<", CANCEL)])),
+    ("Swapped", [("<", CANCEL)], [("<", ABORTED), ("<", message(b"\x06\x20", bytes(3)))]),
+    ("Swapped", [("<", UNREADABLE_ORDER), (">", message(b"\x06\x70", b""))], [("<", UNREADABLE_ORDER), (">", UNREADABLE_ORDER)]),
+    ("Currencies", [registered(978), *paid(500, 1), registered(978), registered(36), registered(840)], [registered(978), *paid(500, 1), registered(None), registered(978)]),
+    ("Currencies", [registered(None), registered(756), LOST, registered(978)], [registered(756), registered(978, "<"), (">", message(AUTHORISATION, b"\x04" + digits(500, 6) + b"\x49" + digits(978, 2)))]),
     ("MoreRefused", [("<", UNREADABLE)] * 20 + [("<", DONE[:2])], [("<", UNREADABLE)] * 20),
 ]
 

@@ -22,6 +22,7 @@ pub use currencies::NamedCurrency;
 pub use follow::{Audit, follow_audit};
 pub use happened::ordered;
 pub use line::{LineAudit, LineBooks};
+pub use orders::is_order;
 pub use sum::Sum;
 pub use summary::{AuditSummary, audit_trace};
 pub use unfollowed::{Approval, UnfollowedOrder};

@@ -50,9 +50,9 @@ impl Orders {
     }
 }
 
-/// Whether a message of this kind is an order.
+/// Whether a message of this kind is an order. Only a till sends one.
 #[inline(always)]
-fn is_order(kind: Kind) -> bool
+pub fn is_order(kind: Kind) -> bool
     ensures { result ≡ is_order kind }
 {
     match kind {

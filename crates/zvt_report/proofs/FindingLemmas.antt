@@ -1,9 +1,10 @@
 -- Findings: each bad message is found, and their objects are written and read back.
-use Rattle.std.proofs.Common.{◌≡◌, ℕ, zero, suc, ◌+◌, ◌-◌, ◌==◌, min, Bool, true, false, cond, List, [], ◌∷◌, ◌++◌, codes, length, map, take, Option, Some, None, refl, sym, ◌∙◌, ap, ap₂, append_assoc, arith}
+use Rattle.std.proofs.Common.{◌≡◌, ℕ, zero, suc, ◌+◌, ◌-◌, ◌==◌, min, Bool, true, false, cond, List, [], ◌∷◌, ◌++◌, codes, length, map, take, Option, Some, None, refl, sym, ◌∙◌, ap, append_assoc, arith}
 use Rattle.std.proofs.lemmas.Bool.{eqb-true}
 use Rattle.std.proofs.lemmas.List.{length-take}
 use Rattle.std.proofs.lemmas.List.Sums.{sum_by-append, sum_by-cons}
-use Rattle.std.specs.List.{cons_option, sum_by}
+use Rattle.std.specs.List.{cons_option, find, sum_by}
+use Rattle.std.specs.Prelude.{not, ◌&&◌, option_map}
 use Rattle.serde_json.specs.Data.{Data}
 use Rattle.serde_json.specs.Written.{members_text}
 use Rattle.zvt_json.specs.Strings.{line_text}
@@ -11,15 +12,16 @@ use Rattle.zvt_stream.specs.declared.head.Head.{Head}
 use Rattle.zvt_stream.specs.declared.head.Head.TheVariants.{Empty, One, Two}
 use Rattle.zvt_trace.specs.TraceEvent.{At, TraceEvent, bad_count, bad_in}
 use Rattle.zvt_trace.specs.TraceEvent as trace_event
+use Rattle.zvt_trace.specs.declared.direction.Direction.TheVariants.{FromTill, FromTerminal}
 use Rattle.zvt_trace.specs.declared.listener.Scope.{Scope}
+use Rattle.zvt_audit.specs.ByControl.{seen}
 use Rattle.zvt_report.specs.FindingObjects.{FindingsReadBack, control_member, finding_told, line_member, weight_member}
 use Rattle.zvt_report.specs.FindingTexts.{finding_advice, finding_text, finding_title}
-use Rattle.zvt_report.specs.Findings.{EachBadMessageIsFound, bad_messages, counted_by, finding_at, finding_by, head_of, line_of, listed, more_refused, most_listed}
-use Rattle.zvt_report.specs.Hidden.{HiddenBytesAreNotFound, disclosed_at, disclosed_event}
+use Rattle.zvt_report.specs.Findings.{EachBadMessageIsFound, bad_messages, counted_by, currencies, finding_at, finding_by, head_of, line_of, listed, more_refused, most_listed, names_other, namings, orders_in, saturated, swapped, swapped_if, two_named}
 use Rattle.zvt_report.specs.LookObjects.{Told, look_value, more_of, of_member, told, told_text}
 use Rattle.zvt_report.specs.Objects.{said_as}
 use Rattle.zvt_report.specs.declared.findings.Finding.{Finding}
-use Rattle.zvt_report.specs.declared.findings.Finding.TheVariants.{MoreRefused}
+use Rattle.zvt_report.specs.declared.findings.Finding.TheVariants.{Swapped, Currencies, MoreRefused}
 use Rattle.zvt_report.specs.declared.members.Member.{Member}
 use Rattle.zvt_report.specs.declared.members.Name.{Name}
 use Rattle.zvt_report.specs.declared.members.Name.TheVariants as name
@@ -117,26 +119,40 @@ others_counted more = by (more == 0) refl
 few_and_more : (m n a b : ℕ) → a ≡ min m n → b ≡ n - m → a + b ≡ n
 few_and_more m n a b few more = omega (arith, few, more)
 
-pub each_bad_message_is_found : EachBadMessageIsFound
-each_bad_message_is_found scope events =
+listed_counted : (scope : Scope) (events : List At) → sum_by counted_by (listed (bad_messages scope events)) ≡ bad_in events
+listed_counted scope events =
     let found = bad_messages scope events in
     sum_by-append counted_by (take most_listed found) (more_refused (length found - most_listed))
     ∙ few_and_more most_listed (length found) _ _ (all_counted scope events most_listed ∙ length-take most_listed found) (others_counted (length found - most_listed))
     ∙ all_found scope events
 
--- ---- bytes that are not shown
+-- a finding that counts no bad message
+abbrev IsNone : Option Finding → Type 0
+IsNone None = Unit {0}
+IsNone (Some f) = counted_by f ≡ 0
 
-found_alike : (scope : Scope) (line : ℕ) (event : TraceEvent) → finding_by scope line (disclosed_event event) ≡ finding_by scope line event
-found_alike scope line (trace_event.message from m) = refl
-found_alike scope line (trace_event.refused from head byte place why) = refl
-found_alike scope line (trace_event.unread from) = refl
-found_alike scope line (trace_event.resumed from size) = refl
-found_alike scope line (trace_event.cut_off from head have) = refl
-found_alike scope line trace_event.lost = refl
+none_counted : (o : Option Finding) (more : List Finding) → IsNone o → sum_by counted_by (cons_option o more) ≡ sum_by counted_by more
+none_counted None more none = refl
+none_counted (Some f) more none = omega (arith, sum_by-cons counted_by f more, none)
 
-all_alike : (scope : Scope) (events : List At) → bad_messages scope (map disclosed_at events) ≡ bad_messages scope events
-all_alike scope [] = refl
-all_alike scope (event ∷ events) = ap₂ cons_option (found_alike scope event.line event.trace_event) (all_alike scope events)
+swapped_none : (till terminal : ℕ) → IsNone (swapped_if till terminal)
+swapped_none till terminal = by ((till == 0) && not (terminal == 0))
+  where
+    by : (test : Bool) → IsNone (cond test (Some (Swapped terminal)) None)
+    by true = refl
+    by false = tt
 
-pub hidden_bytes_are_not_found : HiddenBytesAreNotFound
-hidden_bytes_are_not_found scope events others same = ap listed (sym (all_alike scope events) ∙ ap (bad_messages scope) same ∙ all_alike scope others)
+named_none : (named : List (ℕ × ℕ)) → IsNone (two_named named)
+named_none [] = tt
+named_none (naming ∷ later) = by (find (names_other naming.0) later)
+  where
+    by : (o : Option (ℕ × ℕ)) → IsNone (option_map (λ (other : ℕ × ℕ). Currencies naming.0 other.0 other.1) o)
+    by None = tt
+    by (Some other) = refl
+
+pub each_bad_message_is_found : EachBadMessageIsFound
+each_bad_message_is_found scope events =
+    let found = listed (bad_messages scope events) in
+    let these = seen scope events in
+    none_counted (swapped these) (cons_option (currencies these) found) (swapped_none (saturated (orders_in FromTill these)) (saturated (orders_in FromTerminal these)))
+    ∙ none_counted (currencies these) found (named_none (namings these)) ∙ listed_counted scope events

@@ -44,7 +44,7 @@ use Rattle.zvt_report.proofs.HiddenStatuses.{statements_same}
 
 -- ---- the currency and the terminal
 
-named_same : (event : TraceEvent) → named_by (disclosed_event event) ≡ named_by event
+pub named_same : (event : TraceEvent) → named_by (disclosed_event event) ≡ named_by event
 named_same (trace_event.message FromTill m) = currency_same m
 named_same (trace_event.message FromTerminal m) = refl
 named_same (trace_event.refused from head byte place why) = refl

@@ -10,6 +10,7 @@ pub mod SaidLemmas
 pub mod DigitLemmas
 pub mod StatementLemmas
 pub mod ExplainLemmas
+pub mod SignLemmas
 pub mod ReporterLemmas
 pub mod ReportedLemmas
 pub mod HiddenFields
@@ -20,6 +21,7 @@ pub mod FilesLemmas
 pub mod MemberLemmas
 pub mod LookObjectLemmas
 pub mod FindingLemmas
+pub mod HiddenFindings
 pub mod GroupLemmas
 pub mod CardLemmas
 pub mod TextLemmas

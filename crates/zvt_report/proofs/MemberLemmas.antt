@@ -58,6 +58,8 @@ weight_plain weight.Note = refl
 
 finding_plain : (f : Finding) → escape (finding_name f) ≡ finding_name f
 unfolding escape_byte
+finding_plain (finding.Swapped orders) = refl
+finding_plain (finding.Currencies first other line) = refl
 finding_plain (finding.Refused line from head place why goes) = refl
 finding_plain (finding.CutOff line from head have) = refl
 finding_plain (finding.MoreRefused count) = refl

@@ -26,10 +26,10 @@ use Rattle.zvt_audit.proofs.ControlLemmas.{all_seen}
 use Rattle.zvt_audit.proofs.CurrencyLemmas.{after_all, all_agreed, one_more}
 use Rattle.zvt_report.specs.Chapters.{Noted, noted}
 use Rattle.zvt_report.specs.Day.{day_of}
-use Rattle.zvt_report.specs.Findings.{bad_messages, finding_at, listed}
+use Rattle.zvt_report.specs.Findings.{bad_messages, currencies, finding_at, listed, swapped, swapped_if}
 use Rattle.zvt_report.specs.Judging.{DaySoFar, HasJudged}
 use Rattle.zvt_report.specs.Reported.{beginning_in, beginnings, happenings_with, reported, with_event}
-use Rattle.zvt_report.specs.Reports.{AnswersReport, Finds, JudgesAll, Judges, Reports, ReportsBy, SaysMore, StartsIn, both_hear, both_want_memory, hears, hears_by}
+use Rattle.zvt_report.specs.Reports.{AnswersReport, Finds, JudgesAll, Judges, Reports, ReportsBy, SaysMore, StartsIn, both_hear, both_want_memory, hears, hears_and_sees, hears_by}
 use Rattle.zvt_report.specs.Said.{AreSaidBy, IsSaidBy}
 use Rattle.zvt_report.specs.Settling.{settled}
 use Rattle.zvt_report.specs.TerminalIds.{first_terminal, terminal_after, terminal_by}
@@ -38,13 +38,16 @@ use Rattle.zvt_report.specs.declared.zones.Zone.{Zone}
 use Rattle.zvt_trace.specs.Moments.{bad_marks_of, times_of}
 use Rattle.zvt_trace.specs.declared.moments.Moments.{Moments}
 use Rattle.zvt_trace.specs.declared.moments.Timed.{Timed}
+use Rattle.zvt_report.specs.Signs.{currencies_by, sees}
 use Rattle.zvt_report.specs.Statements.{States, stated}
 use Rattle.zvt_report.specs.declared.findings.Finder.{Finder}
 use Rattle.zvt_report.specs.declared.findings.Finding.{Finding}
 use Rattle.zvt_report.specs.declared.report.Report.{Report}
 use Rattle.zvt_report.specs.declared.reporter.Reporter.{Reporter}
 use Rattle.zvt_report.specs.declared.rows.OrderMessage.{OrderMessage}
+use Rattle.zvt_report.specs.declared.signs.Signs.{Signs}
 use Rattle.zvt_report.specs.declared.statements.Statement.{Statement}
+use Rattle.zvt_report.proofs.SignLemmas.{currencies_seen, swapped_seen}
 use Rattle.zvt_report.proofs.StatementLemmas.{starts_stated}
 
 -- ---- one event
@@ -138,14 +141,22 @@ said_more (first ∷ messages) m (other ∷ old) said before is = (before.0, sai
 
 -- ---- what is found beside it
 
-first_heard : (events : List At) (old new : Both (ByControl Reporter) Finder) → HearsAll both_hear old events new → HearsAll hears_by old.first events new.first
-first_heard [] old new same = ap (λ (b : Both (ByControl Reporter) Finder). b.first) same
+first_heard : (events : List At) (old new : Both (ByControl (Both Reporter Signs)) Finder) → HearsAll both_hear old events new → HearsAll hears_by old.first events new.first
+first_heard [] old new same = ap (λ (b : Both (ByControl (Both Reporter Signs)) Finder). b.first) same
 first_heard (event ∷ events) old new (middle, heard, rest) = (middle.first, heard.0, first_heard events middle new rest)
 
+reporter_heard : (events : List At) (old new : Both Reporter Signs) → HearsAll hears_and_sees old events new → HearsAll hears old.first events new.first
+reporter_heard [] old new same = ap (λ (b : Both Reporter Signs). b.first) same
+reporter_heard (event ∷ events) old new (middle, heard, rest) = (middle.first, heard.0, reporter_heard events middle new rest)
+
+signs_seen : (events : List At) (old new : Both Reporter Signs) → HearsAll hears_and_sees old events new → HearsAll sees old.second events new.second
+signs_seen [] old new same = ap (λ (b : Both Reporter Signs). b.second) same
+signs_seen (event ∷ events) old new (middle, heard, rest) = (middle.second, heard.1, signs_seen events middle new rest)
+
 -- what was found so far, and then in these events
-all_found : (scope : Scope) (events : List At) (old new : Both (ByControl Reporter) Finder) → old.second.scope ≡ scope → HearsAll both_hear old events new
+all_found : (scope : Scope) (events : List At) (old new : Both (ByControl (Both Reporter Signs)) Finder) → old.second.scope ≡ scope → HearsAll both_hear old events new
     → new.second.found.items ≡ old.second.found.items ++ bad_messages scope events
-all_found scope [] old new is same = ap (λ (b : Both (ByControl Reporter) Finder). b.second.found.items) same ∙ sym (append-nil old.second.found.items)
+all_found scope [] old new is same = ap (λ (b : Both (ByControl (Both Reporter Signs)) Finder). b.second.found.items) same ∙ sym (append-nil old.second.found.items)
 all_found scope (event ∷ events) old new is (middle, heard, rest) =
     all_found scope events middle new (heard.1.0 ∙ is) rest
     ∙ ap (λ (l : List Finding). l ++ bad_messages scope events) (heard.1.1 ∙ ap (λ (s : Scope). old.second.found.items ++ cons_option (finding_at s event) []) is)
@@ -158,46 +169,55 @@ all_found scope (event ∷ events) old new is (middle, heard, rest) =
 
 -- ---- the answer
 
-pub reported_all : (zone : Zone) (moments : Moments) (r : Reading) (scope : Scope) (trace : List ℕ) (tally : Tally) (report : Report) (old new : Both (ByControl Reporter) Finder) (found : List Finding)
+pub reported_all : (zone : Zone) (moments : Moments) (r : Reading) (scope : Scope) (trace : List ℕ) (tally : Tally) (report : Report) (old new : Both (ByControl (Both Reporter Signs)) Finder) (found : List Finding)
     → moments.times.items ≡ times_of (lines trace) → moments.bad.items ≡ bad_marks_of (lines trace) → StartsIn scope old.first → old.second.scope ≡ scope → old.second.found.items ≡ []
-    → AnswersWalk r both_hear both_want_memory scope (lines trace) old new (Ok tally) → found ≡ listed new.second.found.items → Finds new.first.listener tally new.first.passed zone moments found report
+    → AnswersWalk r both_hear both_want_memory scope (lines trace) old new (Ok tally)
+    → found ≡ cons_option (swapped_if new.first.listener.second.till new.first.listener.second.terminal) (cons_option (currencies_by new.first.listener.second.named) (listed new.second.found.items))
+    → Finds new.first.listener.first tally new.first.passed zone moments found report
     → AnswersReport zone r scope trace (Ok report)
 reported_all zone moments r scope trace tally report old new found times bad starts begun none_found walked few finds =
     let events = seen scope walked.0 in
-    let all = all_seen hears scope walked.0 old.first new.first starts.1 (first_heard walked.0 old new walked.2) in
-    let heard = all.0 in
-    let none : AreSaidBy [] old.first.listener.messages.items = subst (λ (l : List OrderMessage). AreSaidBy [] l) (sym starts.0.2) tt in
-    let statements = all_stated events old.first.listener new.first.listener heard ∙ starts_stated old.first.listener.hearing events starts.0.3 starts.0.4 in
+    let all = all_seen hears_and_sees scope walked.0 old.first new.first starts.2 (first_heard walked.0 old new walked.2) in
+    let before = old.first.listener.first in
+    let after = new.first.listener.first in
+    let signs = new.first.listener.second in
+    let heard = reporter_heard events old.first.listener new.first.listener all.0 in
+    let saw = signs_seen events old.first.listener new.first.listener all.0 in
+    let none : AreSaidBy [] before.messages.items = subst (λ (l : List OrderMessage). AreSaidBy [] l) (sym starts.0.2) tt in
+    let statements = all_stated events before after heard ∙ starts_stated before.hearing events starts.0.3 starts.0.4 in
     let bad_ones = all_found scope walked.0 old new begun walked.2 ∙ ap (λ (l : List Finding). l ++ bad_messages scope walked.0) none_found in (
       walked.0,
       walked.1,
       subst (λ (t : Tally). Tallies t walked.0) (sym finds.tally) walked.3,
       record {
-        currency = finds.currency ∙ currency_heard events old.first.listener new.first.listener starts.0.1 heard;
-        books = finds.books (reported events) (all_judged events old.first.listener new.first.listener (noted 0 Connected ∷ []) starts.0.0 heard) ∙ ap₂ (λ (t : List Timed) (l : List Statement). timed_day zone t (settled l (day_of (reported events)))) times statements;
-        terminal = finds.terminal ∙ all_identified events old.first.listener new.first.listener heard ∙ ap (λ (t : Option (List ℕ)). option_or t (first_terminal events)) starts.0.5;
+        currency = finds.currency ∙ currency_heard events before after starts.0.1 heard;
+        books = finds.books (reported events) (all_judged events before after (noted 0 Connected ∷ []) starts.0.0 heard) ∙ ap₂ (λ (t : List Timed) (l : List Statement). timed_day zone t (settled l (day_of (reported events)))) times statements;
+        terminal = finds.terminal ∙ all_identified events before after heard ∙ ap (λ (t : Option (List ℕ)). option_or t (first_terminal events)) starts.0.5;
         times = finds.times ∙ ap₂ (times_in zone) times bad;
         statements = finds.statements ∙ statements;
         closings = finds.closings;
-        messages = subst (λ (l : List OrderMessage). AreSaidBy (beginnings events) l) (sym finds.messages) (all_said events old.first.listener new.first.listener [] none heard);
+        messages = subst (λ (l : List OrderMessage). AreSaidBy (beginnings events) l) (sym finds.messages) (all_said events before after [] none heard);
       },
-      finds.passed ∙ all.1 ∙ ap (λ (n : ℕ). passed_after scope n walked.0) starts.2,
-      finds.findings ∙ few ∙ ap listed bad_ones,
+      finds.passed ∙ all.1 ∙ ap (λ (n : ℕ). passed_after scope n walked.0) starts.3,
+      finds.findings ∙ few
+          ∙ ap₂ (λ (a b : Option Finding). cons_option a (cons_option b (listed new.second.found.items))) (swapped_seen events old.first.listener.second signs starts.1 saw) (currencies_seen events old.first.listener.second signs starts.1 saw)
+          ∙ ap (λ (bad : List Finding). cons_option (swapped events) (cons_option (currencies events) (listed bad))) bad_ones,
     )
 
 -- neither writes, so no write fails
-no_write : {r : Reading} {scope : Scope} (lines : List (List ℕ)) (old new : Both (ByControl Reporter) Finder) → AnswersWalk r both_hear both_want_memory scope lines old new (Err Write) → ⊥
+no_write : {r : Reading} {scope : Scope} (lines : List (List ℕ)) (old new : Both (ByControl (Both Reporter Signs)) Finder) → AnswersWalk r both_hear both_want_memory scope lines old new (Err Write) → ⊥
 no_write {r = r} {scope = scope} lines old new failed = by failed.stops
   where
     differ : failure.Write ≡ failure.Memory → ⊥
     differ e = cc
 
-    by : Stops {S = Both (ByControl Reporter) Finder} both_want_memory failure.Write (EventsSoFar r scope lines) failed.events failed.middle new → ⊥
+    by : Stops {S = Both (ByControl (Both Reporter Signs)) Finder} both_want_memory failure.Write (EventsSoFar r scope lines) failed.events failed.middle new → ⊥
     by (inl (is, so_far, same)) = differ is
-    by (inr (event, so_far, inl left)) = differ left.0
+    by (inr (event, so_far, inl (inl left, same))) = differ left.0
+    by (inr (event, so_far, inl (inr right, same))) = differ right.1
     by (inr (event, so_far, inr right)) = differ right.1
 
-pub walk_failed : (zone : Zone) (r : Reading) (scope : Scope) (trace : List ℕ) (fault : TraceFault) (old new : Both (ByControl Reporter) Finder)
+pub walk_failed : (zone : Zone) (r : Reading) (scope : Scope) (trace : List ℕ) (fault : TraceFault) (old new : Both (ByControl (Both Reporter Signs)) Finder)
     → AnswersWalk r both_hear both_want_memory scope (lines trace) old new (Err fault) → AnswersReport zone r scope trace (Err fault)
 walk_failed zone r scope trace (Trace number what) old new walked = (walked.0, walked.1)
 walk_failed zone r scope trace Memory old new walked = tt

@@ -1,5 +1,5 @@
 -- One page about several files: an index, and the report on each.
-use Rattle.std.specs.Prelude.{◌≡◌, ℕ, ◌+◌, List, [], ◌∷◌, ◌++◌, codes, length, Option, Result, Ok, Err, refl}
+use Rattle.std.specs.Prelude.{◌≡◌, ℕ, ◌+◌, List, [], ◌∷◌, ◌++◌, codes, filter_map, length, Option, Some, None, Result, Ok, Err, refl}
 use Rattle.std.specs.Fmt.{decimal, digits}
 use Rattle.std.specs.Io.KnownBytes.{Appends, Keeps}
 use Rattle.zvt_trace.specs.Written.{AppendsPrefix}
@@ -10,22 +10,20 @@ use Rattle.zvt_page.specs.Html.{Html, nothing, both, all, element, text, leaf, a
 use Rattle.zvt_page.specs.declared.elements.Attribute.TheVariants.{Class, Href, Id}
 use Rattle.zvt_page.specs.declared.elements.Element.TheVariants.{A, H1, Header, Main, Section, Table, Tbody, Td, Thead, Tr}
 use Rattle.zvt_grammar.specs.Reading.{Reading}
-use Rattle.zvt_till.specs.Marks.{total}
-use Rattle.zvt_till.specs.declared.entries.Entry.{Entry}
 use Rattle.zvt_trace.specs.declared.listener.Scope.{Scope}
 use Rattle.zvt_report.specs.Amounts.{amount_text}
 use Rattle.zvt_report.specs.Currencies.{decimals_of, money_of}
 use Rattle.zvt_report.specs.Day.{DayValue}
-use Rattle.zvt_report.specs.LookList.{urgent_count}
+use Rattle.zvt_report.specs.NetSum.{net_of, sum_of}
 use Rattle.zvt_report.specs.Page.{page_foot, sections}
 use Rattle.zvt_report.specs.PageParts.{column}
 use Rattle.zvt_report.specs.Reports.{AnswersReport}
 use Rattle.zvt_report.specs.Summary.{unit_text}
 use Rattle.zvt_report.specs.Sums.{unclear_reversals}
-use Rattle.zvt_report.specs.Written.{looks_of, summed_up}
+use Rattle.zvt_report.specs.Written.{acts_of, looks_of, summed_up}
 use Rattle.zvt_report.specs.declared.cases.Look.{Look}
-use Rattle.zvt_report.specs.declared.currencies.Money.{Money}
 use Rattle.zvt_report.specs.declared.files.FilesPage.{FilesPage}
+use Rattle.zvt_report.specs.declared.net_sum.Net.{Net}
 use Rattle.zvt_report.specs.declared.report.Report.{Report}
 use Rattle.zvt_report.specs.declared.written.ReportSummary.{ReportSummary}
 use Rattle.zvt_report.specs.declared.zones.Zone.{Zone}
@@ -47,8 +45,8 @@ looks_id place = file_id place ++ codes "-look"
 unfoldable pub name_cell : (place : ℕ) → (name : List ℕ) → Html
 name_cell place name = element Td [] (element A ((Href, 35 ∷ file_id place) ∷ []) (text name))
 
-unfoldable pub net_cell : Option Money → List Entry → Html
-net_cell money book = leaf Td (codes "n") (amount_text (decimals_of money) (total book) ++ unit_text money)
+unfoldable pub net_cell : Net → Html
+net_cell net = leaf Td (codes "n") (amount_text (decimals_of (money_of net.currency)) net.units ++ unit_text (money_of net.currency))
 
 unfoldable pub count_cell : ℕ → Html
 count_cell count = leaf Td (codes "n") (decimal count)
@@ -57,16 +55,19 @@ count_cell count = leaf Td (codes "n") (decimal count)
 abbrev pub unclear_in : DayValue → ℕ
 unclear_in books = length books.unclear + unclear_reversals books.book
 
-unfoldable pub read_row : (place : ℕ) → (name : List ℕ) → Option Money → DayValue → (acts : ℕ) → Html
-read_row place name money books acts =
-    element Tr [] (all (name_cell place name ∷ net_cell money books.book ∷ count_cell (unclear_in books) ∷ count_cell acts ∷ []))
+unfoldable pub read_row : (place : ℕ) → (name : List ℕ) → Net → DayValue → (acts : ℕ) → Html
+read_row place name net books acts =
+    element Tr [] (all (name_cell place name ∷ net_cell net ∷ count_cell (unclear_in books) ∷ count_cell acts ∷ []))
 
 -- the file has no report
 unfoldable pub unread_row : (name : List ℕ) → Html
 unread_row name = element Tr [] (all (leaf Td [] name ∷ leaf Td (codes "n") (codes "not read") ∷ leaf Td (codes "n") [] ∷ leaf Td (codes "n") [] ∷ []))
 
+abbrev pub report_net : Report → Net
+report_net report = net_of report.currency report.books.book
+
 abbrev pub index_row : (place : ℕ) → FileReport → Html
-index_row place (read name report) = read_row place name (money_of report.currency) report.books (urgent_count (looks_of report))
+index_row place (read name report) = read_row place name (report_net report) report.books (acts_of report)
 index_row place (unread name) = unread_row name
 
 -- the first file has the place after this one
@@ -74,13 +75,32 @@ abbrev pub index_rows : (place : ℕ) → List FileReport → Html
 index_rows place [] = nothing
 index_rows place (file ∷ files) = both (index_row (place + 1) file) (index_rows (place + 1) files)
 
+-- the net totals of the files that have a report
+abbrev pub net_in : FileReport → Option Net
+net_in (read name report) = Some (report_net report)
+net_in (unread name) = None
+
+abbrev pub nets_of : List FileReport → List Net
+nets_of files = filter_map net_in files
+
+-- the last row of the index: the sum of the net totals, if they have one
+unfoldable pub sum_cells : Net → Html
+sum_cells sum = element Tr [] (all (leaf Td [] (codes "Sum") ∷ net_cell sum ∷ leaf Td (codes "n") [] ∷ leaf Td (codes "n") [] ∷ []))
+
+abbrev pub row_if : Option Net → Html
+row_if None = nothing
+row_if (Some sum) = sum_cells sum
+
+abbrev pub sum_row : List Net → Html
+sum_row nets = row_if (sum_of nets)
+
 unfoldable pub index_columns : Html
 index_columns = all (column [] (codes "File") ∷ column (codes "n") (codes "Net total") ∷ column (codes "n") (codes "Unclear") ∷ column (codes "n") (codes "To act on") ∷ [])
 
 unfoldable pub index : List FileReport → Html
 index files =
     both (element Header [] (leaf H1 [] (codes "Reports")))
-    (element Table ((Class, codes "t") ∷ []) (both (element Thead [] (element Tr [] index_columns)) (element Tbody [] (index_rows 0 files))))
+    (element Table ((Class, codes "t") ∷ []) (both (element Thead [] (element Tr [] index_columns)) (element Tbody [] (both (index_rows 0 files) (sum_row (nets_of files))))))
 
 -- ---- the reports
 
@@ -110,6 +130,7 @@ files_page files = document (codes "Reports") (files_body files)
 pub record HasFiles (files : List FileReport) (page : FilesPage) : Type 0 where
   pub index : page.index ≡ render (index_rows 0 files)
   pub reports : page.reports ≡ render (file_sections 0 files)
+  pub nets : page.nets.items ≡ nets_of files
 
 -- a file was added with this place
 abbrev pub AddsFile : FilesPage → (place : ℕ) → FileReport → FilesPage → Type 0
@@ -126,14 +147,14 @@ AnswersAdded r scope zone place name trace old new (Err TooLong) = ⊥
 AnswersAdded r scope zone place name trace old new (Err Read) = ⊥
 
 -- the page with rows and reports that are spelled already
-unfoldable pub index_with : (rows : List ℕ) → List ℕ
-index_with rows =
+unfoldable pub index_with : (rows : List ℕ) → List Net → List ℕ
+index_with rows nets =
     render (element Header [] (leaf H1 [] (codes "Reports")))
-    ++ (start_tag Table ((Class, codes "t") ∷ []) ++ (render (element Thead [] (element Tr [] index_columns)) ++ (start_tag Tbody [] ++ rows ++ end_tag Tbody) ++ end_tag Table))
+    ++ (start_tag Table ((Class, codes "t") ∷ []) ++ (render (element Thead [] (element Tr [] index_columns)) ++ (start_tag Tbody [] ++ (rows ++ render (sum_row nets)) ++ end_tag Tbody) ++ end_tag Table))
 
-unfoldable pub page_with : (rows reports : List ℕ) → List ℕ
-page_with rows reports =
-    document_start (codes "Reports") ++ (start_tag Main ((Class, codes "page") ∷ []) ++ (index_with rows ++ (reports ++ end_tag Main))) ++ document_end
+unfoldable pub page_with : (rows : List ℕ) → List Net → (reports : List ℕ) → List ℕ
+page_with rows nets reports =
+    document_start (codes "Reports") ++ (start_tag Main ((Class, codes "page") ∷ []) ++ (index_with rows nets ++ (reports ++ end_tag Main))) ++ document_end
 
 -- what the writing of the page answers
 abbrev pub AnswersFiles : List FileReport → (old new : Option (List ℕ)) → Result Unit TraceFault → Type 0
@@ -153,3 +174,8 @@ a_missing_file = refl
 a_name : render (name_cell 2 (codes "till2.trace")) ≡ codes "<td><a href=\"#f2\">till2.trace</a></td>"
 unfolding attribute_text digits end_tag escaped file_id name_cell start_tag
 a_name = refl
+
+a_sum : render (sum_row (record { currency = Some 978; units = 3534 } ∷ record { currency = Some 978; units = 0 } ∷ []))
+    ≡ codes "<tr><td>Sum</td><td class=\"n\">35.34 EUR</td><td class=\"n\"></td><td class=\"n\"></td></tr>"
+unfolding amount_text attribute_text decimals_of digits end_tag escaped net_cell start_tag sum_cells unit_text
+a_sum = refl

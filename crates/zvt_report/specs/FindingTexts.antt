@@ -11,11 +11,12 @@ use Rattle.zvt_apdu.specs.declared.kinds.Kind.TheVariants as kind
 use Rattle.zvt_stream.specs.declared.head.Head.{Head}
 use Rattle.zvt_stream.specs.declared.head.Head.TheVariants.{Empty, One, Two}
 use Rattle.zvt_text.specs.Meanings.{command_name}
+use Rattle.zvt_text.specs.MessageTexts.{four_digits}
 use Rattle.zvt_trace.specs.declared.direction.Direction.{Direction}
 use Rattle.zvt_trace.specs.declared.direction.Direction.TheVariants.{FromTill, FromTerminal}
 use Rattle.zvt_report.specs.Amounts.{count_text}
 use Rattle.zvt_report.specs.declared.findings.Finding.{Finding}
-use Rattle.zvt_report.specs.declared.findings.Finding.TheVariants.{Refused, CutOff, MoreRefused}
+use Rattle.zvt_report.specs.declared.findings.Finding.TheVariants.{Swapped, Currencies, Refused, CutOff, MoreRefused}
 
 -- ---- a message
 
@@ -82,24 +83,48 @@ maker_advice from = codes "Send this report to the maker of the " ++ side_name f
 abbrev pub cut_off_text : (have : ℕ) → List ℕ
 cut_off_text have = codes "It breaks off after " ++ count_text have (codes "byte") ++ codes ", where the trace or the connection ended."
 
+-- ---- the whole trace
+
+abbrev pub swapped_text : (orders : ℕ) → List ℕ
+swapped_text orders = codes "The terminal's side (<) sent " ++ count_text orders (codes "order") ++ codes ", which only a till sends, and the till's side (>) sent none."
+
+-- the other currency is named at this line first
+abbrev pub currencies_text : (first other line : ℕ) → List ℕ
+currencies_text first other line =
+    codes "A registration names currency " ++ four_digits first ++ codes ", and the one in line " ++ decimal line ++ codes " names " ++ four_digits other ++ codes ". The totals add amounts of both."
+
 -- ---- a finding
 
 abbrev pub finding_title : Finding → List ℕ
+finding_title (Swapped orders) = codes "The marks > and < are swapped"
+finding_title (Currencies first other line) = codes "The trace has two currencies"
 finding_title (Refused line from head place why goes) = message_part from head ++ codes " cannot be read"
 finding_title (CutOff line from head have) = message_part from head ++ codes " is incomplete"
 finding_title (MoreRefused count) = count_text count (codes "more message") ++ codes " refused or cut off"
 
 abbrev pub finding_text : Finding → List ℕ
+finding_text (Swapped orders) = swapped_text orders
+finding_text (Currencies first other line) = currencies_text first other line
 finding_text (Refused line from head place why goes) = refused_text place why goes
 finding_text (CutOff line from head have) = cut_off_text have
 finding_text (MoreRefused count) = codes "This list has only the first messages that were refused or cut off."
 
 abbrev pub finding_advice : Finding → List ℕ
+finding_advice (Swapped orders) = codes "Swap the marks of the trace (tr '<>' '><'), and make this report again."
+finding_advice (Currencies first other line) = codes "Split the trace where the currency changes, and make a report of each part."
 finding_advice (Refused line from head place why goes) = maker_advice from
 finding_advice (CutOff line from head have) = codes "If the trace was cut short, make this report again from the whole trace."
 finding_advice (MoreRefused count) = codes "'zvt show' names the others."
 
 -- ---- rows worked by hand
+
+one_order : finding_text (Swapped 1) ≡ codes "The terminal's side (<) sent 1 order, which only a till sends, and the till's side (>) sent none."
+unfolding count_text digits
+one_order = refl
+
+euros_and_dollars : finding_text (Currencies 978 36 57) ≡ codes "A registration names currency 0978, and the one in line 57 names 0036. The totals add amounts of both."
+unfolding digits
+euros_and_dollars = refl
 
 abbrev a_refusal : Finding
 a_refusal = Refused 4 FromTerminal (Two 0x04 0x0F) 37 UnknownField true

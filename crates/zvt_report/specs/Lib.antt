@@ -6,6 +6,7 @@ pub mod Alike
 pub mod Looks
 pub mod LookLaws
 pub mod Findings
+pub mod Signs
 pub mod Naming
 pub mod Reported
 pub mod CardTotals
@@ -70,6 +71,7 @@ pub mod Zones
 pub mod PageEvents
 pub mod Dialogue
 pub mod Hidden
+pub mod NetSum
 pub mod Files
 pub mod Masking
 pub mod Slips

@@ -13,6 +13,7 @@ use Rattle.zvt_report.specs.Facts.{facts_of}
 use Rattle.zvt_report.specs.Looks.{weight_of}
 use Rattle.zvt_report.specs.Phrases.{again_part, counted_as_paid, amount_or_dash, approval_part, approved_receipt, reason, twice_part}
 use Rattle.zvt_report.specs.Sentences.{account, title}
+use Rattle.zvt_report.specs.Words.{is_act}
 use Rattle.zvt_report.specs.Wrapping.{wrapped}
 use Rattle.zvt_report.specs.declared.cases.Case.{Case}
 use Rattle.zvt_report.specs.declared.cases.Case.TheVariants.{ApprovedNotCompleted, CloseUnclear}
@@ -59,7 +60,7 @@ look_of decimals book closings messages rows number look =
 -- ---- all of them
 
 abbrev pub is_urgent : Case → Bool
-is_urgent case = elim (weight_of case) [ Act ↦ true | Check ↦ false | Note ↦ false ]
+is_urgent case = is_act (weight_of case)
 
 -- in this round the urgent ones are listed, or the others
 abbrev pub is_listed : (urgent : Bool) → Case → Bool

@@ -29,6 +29,7 @@ use Rattle.zvt_report.specs.Judging.{DaySoFar, HasJudged}
 use Rattle.zvt_report.specs.Reported.{beginning_in, beginnings, reported, with_event}
 use Rattle.zvt_report.specs.Said.{AreSaidBy}
 use Rattle.zvt_report.specs.Settling.{settled}
+use Rattle.zvt_report.specs.Signs.{no_signs, sees, wants_memory as see_memory}
 use Rattle.zvt_report.specs.Statements.{States, stated, statements_of}
 use Rattle.zvt_report.specs.TerminalIds.{first_terminal, terminal_after, terminal_by}
 use Rattle.zvt_report.specs.Times.{timed_day, times_by, times_in}
@@ -37,6 +38,7 @@ use Rattle.zvt_report.specs.declared.findings.Finding.{Finding}
 use Rattle.zvt_report.specs.declared.report.Report.{Report}
 use Rattle.zvt_report.specs.declared.reporter.Reporter.{Reporter}
 use Rattle.zvt_report.specs.declared.rows.OrderMessage.{OrderMessage}
+use Rattle.zvt_report.specs.declared.signs.Signs.{Signs}
 use Rattle.zvt_report.specs.declared.zones.Zone.{Zone}
 
 -- ---- one event
@@ -72,18 +74,25 @@ hears old event new = Reports old event new
 abbrev pub wants_memory : Fails Reporter
 wants_memory old event why new = why ≡ failure.Memory
 
+-- a reporter, and beside it what the messages say about the trace
+abbrev pub hears_and_sees : Hears (Both Reporter Signs)
+hears_and_sees old event new = BothHear hears sees event old.first old.second new.first new.second
+
+abbrev pub one_wants_memory : Fails (Both Reporter Signs)
+one_wants_memory old event why new = OneFails hears wants_memory see_memory event why old.first old.second new.first new.second
+
 -- the same, where a refused message may be known by its control bytes
-abbrev pub hears_by : Hears (ByControl Reporter)
-hears_by = HearsBy hears
+abbrev pub hears_by : Hears (ByControl (Both Reporter Signs))
+hears_by = HearsBy hears_and_sees
 
-abbrev pub wants_memory_by : Fails (ByControl Reporter)
-wants_memory_by = FailsBy wants_memory
+abbrev pub wants_memory_by : Fails (ByControl (Both Reporter Signs))
+wants_memory_by = FailsBy one_wants_memory
 
--- a reporter, and beside it what finds the messages that can't be read
-abbrev pub both_hear : Hears (Both (ByControl Reporter) Finder)
+-- both, and beside them what finds the messages that can't be read
+abbrev pub both_hear : Hears (Both (ByControl (Both Reporter Signs)) Finder)
 both_hear old event new = BothHear hears_by finds event old.first old.second new.first new.second
 
-abbrev pub both_want_memory : Fails (Both (ByControl Reporter) Finder)
+abbrev pub both_want_memory : Fails (Both (ByControl (Both Reporter Signs)) Finder)
 both_want_memory old event why new = OneFails hears_by wants_memory_by find_memory event why old.first old.second new.first new.second
 
 -- the till is connected, and nothing else happened at it
@@ -93,8 +102,8 @@ IsConnected reporter =
     × (reporter.hearing.statements.items ≡ []) × (reporter.hearing.current ≡ None) × (reporter.terminal ≡ None)
 
 -- no message was refused yet
-abbrev pub StartsIn : Scope → ByControl Reporter → Type 0
-StartsIn scope by = IsConnected by.listener × (by.scope ≡ scope) × (by.passed ≡ 0)
+abbrev pub StartsIn : Scope → ByControl (Both Reporter Signs) → Type 0
+StartsIn scope by = IsConnected by.listener.first × (by.listener.second ≡ no_signs) × (by.scope ≡ scope) × (by.passed ≡ 0)
 
 -- what a reporter finds at the end of a trace with these moments and findings
 pub record Finds (reporter : Reporter) (counted : Tally) (skipped : ℕ) (zone : Zone) (moments : Moments) (found : List Finding) (report : Report) : Type 0 where

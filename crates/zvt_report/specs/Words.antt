@@ -1,5 +1,5 @@
 -- The words of a report: closed lists that programs may rely on.
-use Rattle.std.specs.Prelude.{ℕ, List, codes}
+use Rattle.std.specs.Prelude.{ℕ, Bool, true, false, List, codes}
 use Rattle.zvt_till.specs.declared.happenings.Sent.{Sent}
 use Rattle.zvt_till.specs.declared.happenings.Sent.TheVariants.{Register, Pay, Reverse, CloseDay, Cancel, Foreign}
 use Rattle.zvt_till.specs.declared.outcomes.Outcome.{Outcome}
@@ -35,7 +35,15 @@ weight_name Act = codes "act"
 weight_name Check = codes "check"
 weight_name Note = codes "note"
 
+-- someone must act
+abbrev pub is_act : Weight → Bool
+is_act Act = true
+is_act Check = false
+is_act Note = false
+
 abbrev pub finding_name : Finding → List ℕ
+finding_name (finding.Swapped orders) = codes "Swapped"
+finding_name (finding.Currencies first other line) = codes "Currencies"
 finding_name (finding.Refused line from head place why goes) = codes "Refused"
 finding_name (finding.CutOff line from head have) = codes "CutOff"
 finding_name (finding.MoreRefused count) = codes "MoreRefused"

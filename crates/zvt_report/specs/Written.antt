@@ -1,5 +1,5 @@
 -- What is written of a report.
-use Rattle.std.specs.Prelude.{◌≡◌, ℕ, ◌<◌, ◌≤◌, List, ◌++◌, length, Option, Result, Ok, Err}
+use Rattle.std.specs.Prelude.{◌≡◌, ℕ, ◌+◌, ◌<◌, ◌≤◌, List, ◌++◌, length, Option, Result, Ok, Err}
 use Rattle.std.specs.Io.KnownBytes.{Appends, Keeps}
 use Rattle.std.specs.Str.Lines.{lines}
 use Rattle.zvt_grammar.specs.Reading.{Reading}
@@ -10,6 +10,7 @@ use Rattle.zvt_trace.specs.declared.fault.TraceFault.{TraceFault}
 use Rattle.zvt_trace.specs.declared.fault.TraceFault.TheVariants.{Memory, Read, TooLong, Trace, Write}
 use Rattle.zvt_trace.specs.declared.listener.Scope.{Scope}
 use Rattle.zvt_report.specs.Dialogue.{IsDialogue}
+use Rattle.zvt_report.specs.Findings.{urgent_findings}
 use Rattle.zvt_report.specs.LookList.{urgent_count}
 use Rattle.zvt_report.specs.Looks.{looks}
 use Rattle.zvt_report.specs.JsonReport.{report_json}
@@ -66,8 +67,12 @@ AnswersDrawn r scope trace form report looks (Err Read) = ⊥
 
 -- ---- the summary
 
+-- the orders and the findings that someone must act on
+abbrev pub acts_of : Report → ℕ
+acts_of report = urgent_count (looks_of report) + urgent_findings report.findings.items
+
 abbrev pub summed_up : Report → ReportSummary
-summed_up report = record { tally = report.tally; acts = urgent_count (looks_of report); passed = report.passed }
+summed_up report = record { tally = report.tally; acts = acts_of report; passed = report.passed }
 
 -- ---- the answer
 

@@ -29,7 +29,7 @@ pub enum Weight {
 
 impl Weight {
     ghost use Rattle.std.specs.Prelude.{◌≡◌};
-    ghost use Rattle.zvt_report.specs.Words.{weight_name};
+    ghost use Rattle.zvt_report.specs.Words.{is_act, weight_name};
 
     /// Returns the word as every output writes it.
     pub fn name(self) -> &'static str
@@ -39,6 +39,16 @@ impl Weight {
             Weight::Act => "act",
             Weight::Check => "check",
             Weight::Note => "note",
+        }
+    }
+
+    /// Whether someone must act.
+    pub(crate) fn is_urgent(self) -> bool
+        ensures { result ≡ is_act self }
+    {
+        match self {
+            Weight::Act => true,
+            Weight::Check | Weight::Note => false,
         }
     }
 }

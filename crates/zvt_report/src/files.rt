@@ -4,35 +4,38 @@ ghost use Rattle.zvt_grammar.specs.Lengths.{reading_of};
 ghost use Rattle.zvt_page.specs.Html.{element, end_tag, render, start_tag};
 ghost use Rattle.zvt_trace.specs.Written.{limit};
 ghost use Rattle.zvt_report.specs.Files.{count_cell, file_id, index_columns, index_with, looks_id, name_cell};
-ghost use Rattle.zvt_report.specs.Files.{net_cell, page_with, read_row, read_section, unread_row};
+ghost use Rattle.zvt_report.specs.Files.{net_cell, page_with, read_row, read_section, report_net, sum_cells};
+ghost use Rattle.zvt_report.specs.Files.{sum_row, unread_row};
 
 use crate::amounts::amount;
 use crate::books::DayBooks;
 use crate::cases::Look;
-use crate::currencies::{Money, decimals_of, money_of};
-use crate::look_list::urgent_count;
+use crate::currencies::{decimals_of, money_of};
+use crate::net_sum::{Net, sum_of};
 use crate::page::{page_foot, sections};
 use crate::page_parts::column;
 use crate::report::{Report, report_trace};
 use crate::summary::unit;
-use crate::sums::{net_total, unclear_reversals};
-use crate::written::{ReportSummary, looks_of, summed_up};
+use crate::sums::unclear_reversals;
+use crate::written::{ReportSummary, acts_of, looks_of, summed_up};
 use crate::zones::Zone;
 use std::alloc::{AllocError, Global};
 use zvt_grammar::Lengths;
 use zvt_io::Sink;
 use zvt_page::{Attribute, Element, document_end, document_start, end, escaped, leaf, start};
 use zvt_text::Text;
-use zvt_till::Entry;
 use zvt_trace::{Scope, TraceFault};
 
-/// A page about several files: an index, and the report on each without its dialogue.
+/// A page about several files: an index with the sum of the net totals, if two reports or more have one currency, and
+/// the report on each without its dialogue.
 #[derive(Drop)]
 pub struct FilesPage {
     alloc: Global,
     /// The rows of the index.
     index: Text,
     reports: Text,
+    /// The net totals of the files that have a report.
+    nets: Vec<Net>,
 }
 
 impl FilesPage {
@@ -47,6 +50,7 @@ impl FilesPage {
             alloc,
             index: Text::new(alloc),
             reports: Text::new(alloc),
+            nets: Vec::new(alloc),
         }
     }
 
@@ -92,14 +96,15 @@ impl FilesPage {
         ensures { OnOk result (AddsFile self.old place (read name.now report.now) self.new) }
     {
         let mut note = Text::new(self.alloc);
-        let money = money_of(report.currency);
-        let acts = urgent_count(looks);
+        let net = report_net(report);
+        self.nets.push(net)?;
+        let acts = acts_of(report, looks);
         read_row(
             &mut self.index,
             &mut note,
             place,
             name,
-            &money,
+            &net,
             &report.books,
             acts,
         )?;
@@ -129,12 +134,17 @@ impl FilesPage {
     /// Returns the page.
     #[tactic(auto, unfolding(crate::specs::Files::page_with))]
     fn page(&self) -> Result<Text, AllocError>
-        ensures { IfOk result (λ page. page ≡ page_with self.now.index self.now.reports) }
+        ensures { IfOk result (λ page. page ≡ page_with self.now.index self.now.nets.items self.now.reports) }
     {
         let mut page = Text::new(self.alloc);
         document_start(&mut page, b"Reports")?;
         start(&mut page, Element::Main, b"page", None)?;
-        index(&mut page, self.index.bytes())?;
+        index(
+            &mut page,
+            &mut Text::new(self.alloc),
+            self.index.bytes(),
+            self.nets.as_slice(),
+        )?;
         page.word(self.reports.bytes())?;
         end(&mut page, Element::Main)?;
         document_end(&mut page)?;
@@ -177,17 +187,13 @@ fn name_cell(page: &mut Text, note: &mut Text, place: usize, name: &[u8]) -> Res
 
 /// Writes a net total and its unit.
 #[tactic(auto, unfolding(crate::specs::Files::net_cell))]
-fn net_cell(
-    page: &mut Text,
-    note: &mut Text,
-    money: &Option<Money>,
-    book: &[Entry],
-) -> Result<(), AllocError>
-    ensures { OnOk result (page.new ≡ page.old ++ render (net_cell money.now book.now)) }
+fn net_cell(page: &mut Text, note: &mut Text, net: &Net) -> Result<(), AllocError>
+    ensures { OnOk result (page.new ≡ page.old ++ render (net_cell net.now)) }
 {
+    let money = money_of(net.currency);
     note.clear();
-    amount(note, decimals_of(money), net_total(book))?;
-    unit(note, money)?;
+    amount(note, decimals_of(&money), net.units)?;
+    unit(note, &money)?;
     leaf(page, Element::Td, b"n", note.bytes())
 }
 
@@ -201,6 +207,13 @@ fn count_cell(page: &mut Text, note: &mut Text, count: u128) -> Result<(), Alloc
     leaf(page, Element::Td, b"n", note.bytes())
 }
 
+/// Returns the net total of a report.
+fn report_net(report: &Report) -> Net
+    ensures { result ≡ report_net report.now }
+{
+    Net::new(report.currency, report.books.book.as_slice())
+}
+
 /// Writes the row of a file in the index: the net total, and how much is unclear or to be acted on.
 #[tactic(auto, unfolding(crate::specs::Files::read_row))]
 fn read_row(
@@ -208,18 +221,18 @@ fn read_row(
     note: &mut Text,
     place: usize,
     name: &[u8],
-    money: &Option<Money>,
+    net: &Net,
     books: &DayBooks,
-    acts: usize,
+    acts: u64,
 ) -> Result<(), AllocError>
     ensures { OnOk result (page.new ≡ page.old
-        ++ render (read_row place name.now money.now books.now acts)) }
+        ++ render (read_row place name.now net.now books.now acts)) }
 {
-    let book = books.book.as_slice();
-    let unclear = books.unclear.len() as u128 + unclear_reversals(book) as u128;
+    let reversals = unclear_reversals(books.book.as_slice());
+    let unclear = books.unclear.len() as u128 + reversals as u128;
     start(page, Element::Tr, b"", None)?;
     name_cell(page, note, place, name)?;
-    net_cell(page, note, money, book)?;
+    net_cell(page, note, net)?;
     count_cell(page, note, unclear)?;
     count_cell(page, note, acts as u128)?;
     end(page, Element::Tr)
@@ -238,6 +251,29 @@ fn unread_row(page: &mut Text, name: &[u8]) -> Result<(), AllocError>
     end(page, Element::Tr)
 }
 
+/// Writes the row of a sum.
+#[tactic(auto, unfolding(crate::specs::Files::sum_cells))]
+fn sum_cells(page: &mut Text, note: &mut Text, sum: &Net) -> Result<(), AllocError>
+    ensures { OnOk result (page.new ≡ page.old ++ render (sum_cells sum.now)) }
+{
+    start(page, Element::Tr, b"", None)?;
+    leaf(page, Element::Td, b"", b"Sum")?;
+    net_cell(page, note, sum)?;
+    leaf(page, Element::Td, b"n", b"")?;
+    leaf(page, Element::Td, b"n", b"")?;
+    end(page, Element::Tr)
+}
+
+/// Writes the row of the sum of these net totals, if they have one.
+fn sum_row(page: &mut Text, note: &mut Text, nets: &[Net]) -> Result<(), AllocError>
+    ensures { OnOk result (page.new ≡ page.old ++ render (sum_row nets.now)) }
+{
+    match sum_of(nets) {
+        Some(sum) => sum_cells(page, note, &sum),
+        None => Ok(()),
+    }
+}
+
 /// Writes the headings of the index.
 #[tactic(auto, unfolding(crate::specs::Files::index_columns))]
 fn index_columns(page: &mut Text) -> Result<(), AllocError>
@@ -249,27 +285,29 @@ fn index_columns(page: &mut Text) -> Result<(), AllocError>
     column(page, b"n", b"To act on")
 }
 
-/// Writes the heading of the page, and the index with these rows.
+/// Writes the heading of the page, and the index with these rows and the sum of these net totals. The sum is put
+/// together in `note`, whose own text is lost.
 #[tactic(auto, unfolding(crate::specs::Files::index_with))]
-fn index(page: &mut Text, rows: &[u8]) -> Result<(), AllocError>
-    ensures { OnOk result (page.new ≡ page.old ++ index_with rows.now) }
+fn index(page: &mut Text, note: &mut Text, rows: &[u8], nets: &[Net]) -> Result<(), AllocError>
+    ensures { OnOk result (page.new ≡ page.old ++ index_with rows.now nets.now) }
 {
     start(page, Element::Header, b"", None)?;
     leaf(page, Element::H1, b"", b"Reports")?;
     end(page, Element::Header)?;
     start(page, Element::Table, b"t", None)?;
     index_head(page)?;
-    index_body(page, rows)?;
+    index_body(page, note, rows, nets)?;
     end(page, Element::Table)
 }
 
 /// Writes the rows of the index.
-fn index_body(page: &mut Text, rows: &[u8]) -> Result<(), AllocError>
+fn index_body(page: &mut Text, note: &mut Text, rows: &[u8], nets: &[Net]) -> Result<(), AllocError>
     ensures { OnOk result (page.new ≡ page.old
-        ++ (start_tag Element.Tbody [] ++ rows.now ++ end_tag Element.Tbody)) }
+        ++ (start_tag Element.Tbody [] ++ (rows.now ++ render (sum_row nets.now)) ++ end_tag Element.Tbody)) }
 {
     start(page, Element::Tbody, b"", None)?;
     page.word(rows)?;
+    sum_row(page, note, nets)?;
     end(page, Element::Tbody)
 }
 

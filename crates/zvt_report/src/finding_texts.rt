@@ -1,16 +1,18 @@
 //! Writes what the findings about a trace say.
 ghost use Rattle.std.specs.Prelude.{◌≡◌, ◌++◌, OnOk, option_map};
 ghost use Rattle.std.specs.Option.{option_copied};
-ghost use Rattle.zvt_report.specs.FindingTexts.{bracketed, cut_off_text, finding_advice, finding_text, finding_title};
-ghost use Rattle.zvt_report.specs.FindingTexts.{goes_on, head_part, maker_advice, message_name, message_part};
-ghost use Rattle.zvt_report.specs.FindingTexts.{refused_text, side_name, why_words};
+ghost use Rattle.zvt_report.specs.FindingTexts.{bracketed, currencies_text, cut_off_text, finding_advice};
+ghost use Rattle.zvt_report.specs.FindingTexts.{finding_text, finding_title, goes_on, head_part, maker_advice};
+ghost use Rattle.zvt_report.specs.FindingTexts.{message_name, message_part, refused_text, side_name, swapped_text};
+ghost use Rattle.zvt_report.specs.FindingTexts.{why_words};
 
 use crate::amounts::count;
 use crate::findings::Finding;
 use std::alloc::AllocError;
 use zvt_apdu::{Kind, kind_at};
+use zvt_bcd::Currency;
 use zvt_grammar::Why;
-use zvt_text::{Text, command_name, hexadecimal};
+use zvt_text::{Text, command_name, currency_digits, hexadecimal};
 use zvt_trace::{Direction, Head};
 
 /// Returns the name of a side.
@@ -148,11 +150,40 @@ fn cut_off_text(text: &mut Text, have: usize) -> Result<(), AllocError>
     text.word(b", where the trace or the connection ended.")
 }
 
+/// Writes how many orders came from the terminal's side.
+fn swapped_text(text: &mut Text, orders: usize) -> Result<(), AllocError>
+    ensures { OnOk result (text.new ≡ text.old ++ swapped_text orders) }
+{
+    text.word(b"The terminal's side (<) sent ")?;
+    count(text, orders, b"order")?;
+    text.word(b", which only a till sends, and the till's side (>) sent none.")
+}
+
+/// Writes which two currencies are named, and where the other one is named first.
+fn currencies_text(
+    text: &mut Text,
+    first: Currency,
+    other: Currency,
+    line: u64,
+) -> Result<(), AllocError>
+    ensures { OnOk result (text.new ≡ text.old ++ currencies_text first other line) }
+{
+    text.word(b"A registration names currency ")?;
+    currency_digits(text, first)?;
+    text.word(b", and the one in line ")?;
+    text.number(line)?;
+    text.word(b" names ")?;
+    currency_digits(text, other)?;
+    text.word(b". The totals add amounts of both.")
+}
+
 /// Writes the title of a finding.
 pub(crate) fn finding_title(text: &mut Text, finding: &Finding) -> Result<(), AllocError>
     ensures { OnOk result (text.new ≡ text.old ++ finding_title finding.now) }
 {
     match *finding {
+        Finding::Swapped(_) => text.word(b"The marks > and < are swapped"),
+        Finding::Currencies { .. } => text.word(b"The trace has two currencies"),
         Finding::Refused { from, head, .. } => {
             message_part(text, from, head)?;
             text.word(b" cannot be read")
@@ -173,6 +204,8 @@ pub(crate) fn finding_text(text: &mut Text, finding: &Finding) -> Result<(), All
     ensures { OnOk result (text.new ≡ text.old ++ finding_text finding.now) }
 {
     match *finding {
+        Finding::Swapped(orders) => swapped_text(text, orders),
+        Finding::Currencies { first, other, line } => currencies_text(text, first, other, line),
         Finding::Refused {
             place,
             why,
@@ -191,6 +224,12 @@ pub(crate) fn finding_advice(text: &mut Text, finding: &Finding) -> Result<(), A
     ensures { OnOk result (text.new ≡ text.old ++ finding_advice finding.now) }
 {
     match *finding {
+        Finding::Swapped(_) => text.word(
+            b"Swap the marks of the trace (tr '<>' '><'), and make this report again.",
+        ),
+        Finding::Currencies { .. } => text.word(
+            b"Split the trace where the currency changes, and make a report of each part.",
+        ),
         Finding::Refused { from, .. } => maker_advice(text, from),
         Finding::CutOff { .. } => text.word(
             b"If the trace was cut short, make this report again from the whole trace.",

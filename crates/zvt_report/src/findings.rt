@@ -2,10 +2,11 @@
 ghost use Rattle.std.specs.Prelude.{◌≡◌, ◌++◌, [], IfOk, OnOk};
 ghost use Rattle.std.specs.List.{cons_option};
 ghost use Rattle.zvt_trace.specs.TraceEvent.{event_of};
-ghost use Rattle.zvt_report.specs.Findings.{finding_by, listed, reads_on};
+ghost use Rattle.zvt_report.specs.Findings.{finding_by, listed, reads_on, urgent_findings};
 
 use crate::cases::Weight;
 use std::alloc::{AllocError, Global};
+use zvt_bcd::Currency;
 use zvt_grammar::Why;
 use zvt_trace::{Direction, Head, Listener, ListenerError, Scope, TraceEvent};
 
@@ -15,6 +16,17 @@ const MOST_LISTED: usize = 20;
 /// A finding about the trace itself, which belongs to no order.
 #[derive(Clone, Copy)]
 pub enum Finding {
+    /// The terminal's side sent this many orders, and the till's side none. The number saturates.
+    Swapped(usize),
+    /// Registrations name two currencies.
+    Currencies {
+        /// The first that one names.
+        first: Currency,
+        /// The first other one.
+        other: Currency,
+        /// The line of the registration that names the other one.
+        line: u64,
+    },
     /// A message cannot be read.
     Refused {
         line: u64,
@@ -50,6 +62,8 @@ impl Finding {
         ensures { result.now ≡ finding_name self }
     {
         match self {
+            Finding::Swapped(_) => "Swapped",
+            Finding::Currencies { .. } => "Currencies",
             Finding::Refused { .. } => "Refused",
             Finding::CutOff { .. } => "CutOff",
             Finding::MoreRefused(_) => "MoreRefused",
@@ -61,6 +75,8 @@ impl Finding {
         ensures { result ≡ weight_of self }
     {
         match self {
+            Finding::Swapped(_) => Weight::Act,
+            Finding::Currencies { .. } => Weight::Check,
             Finding::Refused { .. } | Finding::CutOff { .. } | Finding::MoreRefused(_) => {
                 Weight::Note
             }
@@ -73,7 +89,9 @@ impl Finding {
     {
         match self {
             Finding::Refused { head, .. } | Finding::CutOff { head, .. } => head,
-            Finding::MoreRefused(_) => Head::Empty,
+            Finding::Swapped(_) | Finding::Currencies { .. } | Finding::MoreRefused(_) => {
+                Head::Empty
+            }
         }
     }
 
@@ -82,8 +100,10 @@ impl Finding {
         ensures { result ≡ line_of self }
     {
         match self {
-            Finding::Refused { line, .. } | Finding::CutOff { line, .. } => Some(line),
-            Finding::MoreRefused(_) => None,
+            Finding::Currencies { line, .. }
+            | Finding::Refused { line, .. }
+            | Finding::CutOff { line, .. } => Some(line),
+            Finding::Swapped(_) | Finding::MoreRefused(_) => None,
         }
     }
 }
@@ -169,6 +189,16 @@ fn finding_by(scope: Scope, line: u64, trace_event: &TraceEvent<'_>) -> Option<F
         | TraceEvent::Resumed { .. }
         | TraceEvent::Lost => None,
     }
+}
+
+/// Returns how many of these findings someone must act on.
+pub(crate) fn urgent_findings(findings: &[Finding]) -> usize
+    ensures { result ≡ urgent_findings findings.now }
+{
+    findings
+        .iter()
+        .filter(|finding| finding.weight().is_urgent())
+        .count()
 }
 
 /// Returns the first of these findings, and the number of the others.

@@ -1,7 +1,7 @@
 //! Laws of every day and of every report, each stated as the contract of an empty function.
 ghost use Rattle.zvt_report.specs.CardTotals.{ListedGroupsAddUp};
 ghost use Rattle.zvt_report.specs.FindingObjects.{FindingsReadBack};
-ghost use Rattle.zvt_report.specs.Findings.{EachBadMessageIsFound};
+ghost use Rattle.zvt_report.specs.Findings.{EachBadMessageIsFound, SwappedAsInAudit};
 ghost use Rattle.zvt_report.specs.Hidden.{HiddenBytesAreNotFound, HiddenBytesAreNotShown, HiddenBytesMeanNothing};
 ghost use Rattle.zvt_report.specs.Laws.{DoubtsAreLeftOpen, EachOrderHasARow, SameBooks, SameMarks, SumsMakeBooked};
 ghost use Rattle.zvt_report.specs.LookLaws.{EachOtherIsLookedAt, EachPaymentIsLookedAt, EachReversalIsLookedAt};
@@ -58,6 +58,11 @@ pub fn each_other_is_looked_at()
 /// A report lists or counts each message that was refused or cut off, once each.
 pub fn each_bad_message_is_found()
     ensures { EachBadMessageIsFound }
+{}
+
+/// A report finds that the marks are swapped exactly if the audit of the same events does.
+pub fn swapped_as_in_audit()
+    ensures { SwappedAsInAudit }
 {}
 
 /// If each reversal of a day names an entry of the book, the reversal of an entry is unclear exactly if one was left

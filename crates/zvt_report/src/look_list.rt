@@ -131,10 +131,7 @@ fn look_of(
 fn is_urgent(case: Case) -> bool
     ensures { result ≡ is_urgent case }
 {
-    match case.weight() {
-        Weight::Act => true,
-        Weight::Check | Weight::Note => false,
-    }
+    case.weight().is_urgent()
 }
 
 /// Whether a case is listed in the round of the urgent ones, or in the other one.

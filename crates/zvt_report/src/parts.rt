@@ -196,7 +196,10 @@ fn card_name(card: &Option<Card>) -> Option<Value>
 pub(crate) fn maybe_card(card: &Option<Card>) -> Option<Member>
     ensures { result ≡ maybe_card card.now }
 {
-    said_as(Name::Card, card_name(card)?)
+    match card_name(card) {
+        Some(name) => said_as(Name::Card, name),
+        None => None,
+    }
 }
 
 /// Returns the member of a card's masked number, if it has one.

@@ -7,10 +7,11 @@ ghost use Rattle.zvt_report.specs.Reports.{AnswersReport, StartsIn};
 use crate::books::DayBooks;
 use crate::closings::{Closing, closings};
 use crate::day::Day;
-use crate::findings::{Finder, Finding, listed};
+use crate::findings::{Finder, Finding};
 use crate::reporter::Reporter;
 use crate::rows::OrderMessage;
 use crate::settling::settle;
+use crate::signs::Signs;
 use crate::statements::{Hearing, Statement};
 use crate::times::{Times, timed_day, times_in};
 use crate::zones::Zone;
@@ -67,28 +68,35 @@ pub fn report_trace(
     };
     let tally = walk(&mut listeners, alloc, scope, lengths, trace)?;
     let moments = moments_of(alloc, trace)?;
-    let findings = listed(listeners.second.found)?;
+    let bad = listeners.second.found;
     let by = listeners.first;
-    let report = by
-        .listener
+    let both = by.listener;
+    let signs = both.second;
+    let findings = signs.findings(alloc, bad)?;
+    let report = both
+        .first
         .finish(tally, by.passed, zone, &moments, findings)?;
     Ok(report)
 }
 
-/// Creates a reporter of a connected till that has heard nothing. It hears events in this scope.
-fn connected(alloc: Global, scope: Scope) -> Result<ByControl<Reporter>, AllocError>
+/// Creates a reporter of a connected till that has heard nothing, beside signs of no message. They hear events in this
+/// scope.
+fn connected(alloc: Global, scope: Scope) -> Result<ByControl<Both<Reporter, Signs>>, AllocError>
     ensures { IfOk result (StartsIn scope) }
 {
     let mut day = Day::new(alloc);
     day.take(0, &Happening::Connected)?;
     Ok(ByControl {
-        listener: Reporter {
-            alloc,
-            day,
-            named: NamedCurrency::none(),
-            messages: Vec::new(alloc),
-            hearing: Hearing::new(alloc),
-            terminal: None,
+        listener: Both {
+            first: Reporter {
+                alloc,
+                day,
+                named: NamedCurrency::none(),
+                messages: Vec::new(alloc),
+                hearing: Hearing::new(alloc),
+                terminal: None,
+            },
+            second: Signs::new(),
         },
         scope,
         passed: 0,

@@ -4,10 +4,11 @@ ghost use Rattle.std.specs.Io.KnownBytes.{Consumes};
 ghost use Rattle.zvt_grammar.specs.Lengths.{reading_of};
 ghost use Rattle.zvt_trace.specs.Written.{limit};
 ghost use Rattle.zvt_report.specs.Written.{AnswersDrawn, AnswersFound, AnswersReadWritten, AnswersWritten};
-ghost use Rattle.zvt_report.specs.Written.{looks_of, report_in, summed_up, zone_for};
+ghost use Rattle.zvt_report.specs.Written.{acts_of, looks_of, report_in, summed_up, zone_for};
 
 use crate::cases::{Look, looks};
 use crate::dialogue::{Drawn, dialogue_in};
+use crate::findings::urgent_findings;
 use crate::form::ReportForm;
 use crate::look_list::urgent_count;
 use crate::report::{Report, report_trace};
@@ -24,7 +25,7 @@ use zvt_trace::{Scope, Tally, TraceFault, read_trace};
 #[derive(Clone, Copy)]
 pub struct ReportSummary {
     pub tally: Tally,
-    /// The number of cases that someone must act on.
+    /// The number of cases that someone must act on: orders, and findings about the trace.
     pub acts: u64,
     /// The number of refused messages that were passed over and known by their control bytes alone. It saturates.
     pub passed: u64,
@@ -164,6 +165,14 @@ fn write_found<W: Sink>(
     Ok(summed_up(report, looks))
 }
 
+/// Returns how many orders of a report with these looks someone must act on, and how many of its findings.
+pub(crate) fn acts_of(report: &Report, looks: &[Look]) -> u64
+    requires { looks.now ≡ looks_of report.now }
+    ensures { result ≡ acts_of report.now }
+{
+    urgent_count(looks) as u64 + urgent_findings(report.findings.as_slice()) as u64
+}
+
 /// Returns the findings of a report with these looks.
 pub(crate) fn summed_up(report: &Report, looks: &[Look]) -> ReportSummary
     requires { looks.now ≡ looks_of report.now }
@@ -171,7 +180,7 @@ pub(crate) fn summed_up(report: &Report, looks: &[Look]) -> ReportSummary
 {
     ReportSummary {
         tally: report.tally,
-        acts: urgent_count(looks) as u64,
+        acts: acts_of(report, looks),
         passed: report.passed,
     }
 }

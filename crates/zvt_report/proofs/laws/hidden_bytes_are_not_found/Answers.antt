@@ -1,4 +1,4 @@
-use Rattle.zvt_report.proofs.FindingLemmas as law
+use Rattle.zvt_report.proofs.HiddenFindings as law
 use Rattle.zvt_report.proofs.laws.hidden_bytes_are_not_found.Goals as goal
 
 pub returns : goal.returns
