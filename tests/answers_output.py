@@ -120,6 +120,7 @@ def book_objects(book):
         receipt = None if receipt is None else receipt.hex().upper()
         members = {"amount": amount, "cause": cause, "currency": currency, "receipt": receipt, "trace": trace, **noted(note)}
         yield {"unclear": {name: member for name, member in members.items() if member is not None}}
+    yield from (journal_model.settled_object(*row) for row in book.settled)
     yield {"currency": currency, "total": book.total()}
 
 

@@ -40,6 +40,17 @@ class Dialogue(Writer):
         self.reverse(place, digits(number, 2))
         self.hear(ACK, None)
 
+    def asking(self):
+        """An ask that the terminal works on."""
+        self.ask()
+        self.hear(ACK, None)
+
+    def repeated(self, amount, number, **fields):
+        """An ask that the terminal answers with this status."""
+        self.asking()
+        self.hear(status(amount, number, number, **fields))
+        self.completed()
+
     def again(self):
         """The line was lost, and is up again."""
         self.lost()
@@ -223,6 +234,23 @@ def noted(of):
     of.close()
 
 
+def asked(of):
+    """A payment, a reversal and a payment whose lines were lost, and what the terminal says of each when it is asked."""
+    of.registered()
+    of.paid(1000, 1)
+    of.taken(500)
+    of.again()
+    of.repeated(500, 2)  # a new approval: it was paid
+    of.reversing(1, 1)
+    of.again()
+    of.repeated(500, 2)  # the status from before: it was not reversed
+    of.taken(700)
+    of.again()
+    of.asking()
+    of.given_up(NOT_POSSIBLE)
+    of.repeated(500, 2)  # the status from before: it was not paid
+
+
 def padded(of):
     """A terminal that pads its lengths, read with `--loose`."""
     of.register()
@@ -253,7 +281,7 @@ def by_receipt(of):
 
 
 ALL = (register, pay, decline, abort, reverse, reversal_refused, reversal_unclear, close, lost_line, restart, cancel, several,
-       remarked, noted, padded, by_receipt)
+       remarked, noted, asked, padded, by_receipt)
 
 # What each dialogue comes to when it has ended: entries (amount, trace number, mark), unclear payments, the total.
 BOOKS = {
@@ -273,6 +301,7 @@ BOOKS = {
                (9, "Conflict")], 22),
     remarked: ([(10, 1, None)], [(20, "Line")], 10),
     noted: ([(10, 1, "reversed")], [(20, "Line"), (30, "Line")], 0),
+    asked: ([(1000, 1, "Line")], [(500, "Line"), (700, "Line")], 1000),
     padded: ([(1234, 17, None)], [], 1234),
     by_receipt: ([(1000, 1, "reversed"), (2000, 2, "NoTrace"), (2000, 3, None), (3000, 6, "NoTrace")], [], 7000),
 }

@@ -16,6 +16,7 @@ BY_RECEIPT = b", reversals by receipt"
 ACK = bytes.fromhex("800000")
 REGISTRATION, AUTHORISATION, REVERSAL, END_OF_DAY, CANCEL = b"\x06\x00", b"\x06\x01", b"\x06\x30", b"\x06\x50", b"\x06\xB0"
 STATUS, COMPLETION, ABORT = b"\x04\x0F", b"\x06\x0F", b"\x06\x1E"
+ASK = bytes.fromhex("062003000000")  # repeat receipt, with its password masked
 NACK, ALREADY_REVERSED = 0x84, 0xB4
 WITH_PASSWORD = (REGISTRATION, REVERSAL, END_OF_DAY)
 
@@ -116,6 +117,7 @@ class Book:
     unclear: list = dataclasses.field(default_factory=list)  # an amount and a cause each
     heard: list = dataclasses.field(default_factory=list)  # of each unclear payment: the trace number and the receipt number
     notes: list = dataclasses.field(default_factory=list)  # of each unclear payment
+    settled: list = dataclasses.field(default_factory=list)  # a name, a place from 0, and of a paid one its numbers
 
     def total(self):
         return sum(entry.amount for entry in self.entries if not entry.reversed)
@@ -163,8 +165,67 @@ def takes_back(found, original, sole):
 
 
 def is_remark(line):
-    """A comment of a person: its first word, which is letters, is none of an order or of the opening."""
-    return line[:2] == b"# " and re.match(rb"(register|pay|reverse|close|cancel|zvt)(?![A-Za-z])", line[2:]) is None
+    """A comment of a person: its first word, which is letters, is none of an order, an ask or the opening."""
+    return line[:2] == b"# " and re.match(rb"(register|pay|reverse|close|cancel|ask|zvt)(?![A-Za-z])", line[2:]) is None
+
+
+class Settling:
+    """What the terminal's answers to asks say about unclear orders."""
+
+    def __init__(self, book):
+        self.book, self.statuses = book, []
+        self.last = None  # the status of the terminal's last transaction, if it is known
+        self.pending = None  # the kind and the place of an unclear order, and the status before it
+        self.asking = None  # whether the terminal has accepted the running ask, if one is running
+
+    def sent(self, kind):
+        if kind != "cancel":
+            self.statuses = []
+        if kind in ("pay", "reverse", "close"):
+            self.pending = None
+        if kind == "close":
+            self.last = None
+
+    def one(self):
+        """The only status since the last order or ask, if it names a trace number."""
+        alike = {facts_of(found) for found in self.statuses}
+        return self.statuses[0] if len(alike) == 1 and number_of(only(self.statuses[0], TRACE)) is not None else None
+
+    def done(self):
+        self.last = self.one()
+
+    def unclear(self, kind, place):
+        self.pending = None if self.last is None else (kind, place, self.last)
+        self.last = None
+
+    def answered(self, how):
+        answer = self.one() if how == "completed" else None
+        self.asking = None
+        if answer is None:
+            return
+        if self.pending is not None:
+            decided = self.decided(answer, *self.pending)
+            self.book.settled += [] if decided is None else [decided]
+        self.last, self.pending = answer, None
+
+    def decided(self, answer, kind, place, before):
+        if facts_of(answer) == facts_of(before):
+            return ("NotPaid" if kind == "pay" else "NotReversed", place)
+        amount = self.book.unclear[place][0] if kind == "pay" else self.book.entries[place].amount
+        trace, original = number_of(only(answer, TRACE)), number_of(only(answer, ORIGINAL))
+        if only(answer, RESULT) != b"\0" or number_of(only(answer, AMOUNT)) != amount:
+            return None
+        if any(number_of(content) != self.book.currency for content in answer.get(CURRENCY, [])):
+            return None
+        if kind == "reverse":
+            return ("Reversed", place) if original == self.book.entries[place].trace else None
+        used = [entry.trace for entry in self.book.entries] + [row[2] for row in self.book.settled if row[0] == "Paid"]
+        return None if ORIGINAL in answer or trace in used else ("Paid", place, trace, only(answer, RECEIPT))
+
+
+def facts_of(found):
+    """What two statuses of the same transaction have alike."""
+    return tuple(tuple(found.get(bmp, [])) for bmp in (RESULT, AMOUNT, TRACE, RECEIPT, ORIGINAL, CURRENCY))
 
 
 class Reader:
@@ -172,6 +233,7 @@ class Reader:
 
     def __init__(self, currency, by_receipt):
         self.book, self.by_receipt = Book(currency), by_receipt
+        self.settling = Settling(self.book)
         self.running, self.announced, self.remarked = None, None, False
 
     def read(self, line):
@@ -193,7 +255,7 @@ class Reader:
     def comment(self, line):
         order = NOTE.sub(b"", line)
         words, note = order[1:].split(), line[len(order):].decode()
-        kinds = {b"register": 0, b"pay": 1, b"reverse": 1, b"close": 0, b"cancel": 0}
+        kinds = {b"register": 0, b"pay": 1, b"reverse": 1, b"close": 0, b"cancel": 0, b"ask": 0}
         if not words or kinds.get(words[0]) != len(words) - 1:
             raise NoJournal(f"this comment is no order: {words}")
         number = int(words[1]) if len(words) == 2 else None
@@ -207,19 +269,27 @@ class Reader:
                 raise NoJournal(f"no line before it says which order this is: {apdu.hex()}")
             return
         self.agree(order, apdu)
+        if self.settling.asking is not None:
+            raise NoJournal(f"an ask is running: {apdu.hex()}")
+        if order.kind == "ask":
+            self.settling.asking, self.settling.statuses = False, []
+            return
+        self.settling.sent(order.kind)
         if order.kind != "cancel":
             self.ends("lost")
             self.running = order
 
     def agree(self, order, apdu):
         """The line that announces an order, and its message, say the same."""
-        wanted = {"register": REGISTRATION, "pay": AUTHORISATION, "reverse": REVERSAL, "close": END_OF_DAY, "cancel": CANCEL}
+        wanted = {"register": REGISTRATION, "pay": AUTHORISATION, "reverse": REVERSAL, "close": END_OF_DAY, "cancel": CANCEL, "ask": ASK[:2]}
         data = data_of(apdu)
         holds = apdu[:2] == wanted[order.kind]
         if apdu[:2] in WITH_PASSWORD:
             holds = holds and data[:3] == bytes(3)
         if order.kind == "pay":
             holds = holds and number_of(only(fields_of(data), AMOUNT)) == order.number
+        if order.kind == "ask":
+            holds = apdu == ASK
         if order.kind == "reverse":
             entry = self.book.entries[order.number - 1]
             holds = holds and only(fields_of(data[3:]), RECEIPT) == entry.receipt
@@ -228,6 +298,11 @@ class Reader:
 
     def heard(self, apdu):
         data = data_of(apdu)
+        if apdu[:2] == STATUS:
+            self.settling.statuses.append(fields_of(data))
+        if self.settling.asking is not None:
+            self.ask_heard(apdu)
+            return
         if self.running is None:
             return
         if apdu[:2] == STATUS:
@@ -239,7 +314,17 @@ class Reader:
         elif apdu[0] == NACK:
             self.ends("given up", apdu[1])
 
+    def ask_heard(self, apdu):
+        """A message while an ask is running."""
+        if apdu[:2] == COMPLETION:
+            self.settling.answered("completed")
+        elif apdu[:2] == ABORT or (apdu[0] == NACK and not self.settling.asking):
+            self.settling.answered("given up")
+        elif apdu[:1] == ACK[:1]:
+            self.settling.asking = True
+
     def ends(self, how, code=None):
+        self.settling.asking = None
         order, self.running = self.running, None
         if order is None or order.kind not in ("pay", "reverse"):
             return
@@ -265,10 +350,12 @@ class Reader:
                 cause = "TraceUsed"
         if cause is None:
             self.book.entries.append(Entry(order.number, trace, receipt, order.note))
+            self.settling.done()
         else:
             self.book.unclear.append((order.number, cause))
             self.book.heard.append(last_named(order))
             self.book.notes.append(order.note)
+            self.settling.unclear("pay", len(self.book.unclear) - 1)
 
     def end_reversal(self, order, how):
         entry = self.book.entries[order.number - 1]
@@ -276,6 +363,10 @@ class Reader:
         cause = cause or cause_of(order.statuses, entry.amount, self.book.currency, entry.trace, self.sole_receipt(entry))
         entry.doubt = cause
         entry.reversed = entry.reversed or cause is None
+        if cause is None:
+            self.settling.done()
+        else:
+            self.settling.unclear("reverse", order.number - 1)
 
     def sole_receipt(self, entry):
         """The receipt number of an entry whose amount no other payment has, if the book has the rule on receipt numbers."""
@@ -385,6 +476,9 @@ class Writer:
     def cancel(self):
         self.order("cancel", message(CANCEL))
 
+    def ask(self):
+        self.order("ask", ASK)
+
     def hear(self, apdu, answer=ACK):
         self.records.append(checked(spelled(b"<", apdu) + (spelled(b">", answer) if answer else b"")))
 
@@ -433,7 +527,22 @@ def text_of(book):
         lines.append(f"booked {entry.amount} trace {entry.trace:06} receipt {receipt}{mark}{entry.note}")
     rows = zip(book.unclear, book.heard, book.notes)
     lines += [f"unclear {amount} {cause}{heard_text(*heard)}{note}" for (amount, cause), heard, note in rows]
+    lines += [settled_text(*row) for row in book.settled]
     return "\n".join(lines + [f"total {book.total()}"])
+
+
+def settled_object(name, place, *numbers):
+    """The object of a settlement."""
+    members = {"name": name, ("unclear" if name in ("Paid", "NotPaid") else "booked"): place + 1}
+    if numbers:
+        trace, receipt = numbers
+        members.update({"trace": trace} if receipt is None else {"trace": trace, "receipt": receipt.hex().upper()})
+    return {"settled": members}
+
+
+def settled_text(name, place, *numbers):
+    kind = "unclear" if name in ("Paid", "NotPaid") else "booked"
+    return f"settled {kind} {place + 1} {name}{heard_text(*numbers) if numbers else ''}"
 
 
 def main():
