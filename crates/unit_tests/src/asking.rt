@@ -13,7 +13,7 @@ use zvt_io::Over;
 use zvt_journal::{Memory, open};
 use zvt_kept::{KeptTill, recover};
 use zvt_settle::{Asker, Settlement, run_ask};
-use zvt_stream::{Endpoint, Stream};
+use zvt_stream::Stream;
 use zvt_till::{Keeper, Order, Outcome, RunFault, TillSettings, run_order};
 
 /// What a terminal answers to a registration: an acknowledgement and the completion.
