@@ -74,7 +74,7 @@ fn cut_off(rt: &impl Abort, alloc: Global) -> Result<Book, Fail> {
     assert!(rt; ordered(alloc, &mut till, Order::Pay(price), APPROVED.as_slice()).is_ok());
     let acknowledged = [0x80, 0x00, 0x00];
     assert!(rt; ordered(alloc, &mut till, Order::Pay(price), acknowledged.as_slice()).is_err());
-    assert!(rt; till.settling().is_pending());
+    assert!(rt; till.settling().pending().is_some());
     registers(rt, alloc, &mut till);
     Ok(till)
 }

@@ -57,7 +57,7 @@ fn cut_off(rt: &impl Abort, alloc: Global) -> SettlingTill {
     completes(&mut till, approval(1, 1));
     assert!(rt; till.order(Order::Pay(price(rt))).is_ok());
     let _ = till.lost();
-    assert!(rt; till.is_pending());
+    assert!(rt; till.pending().is_some());
     registers(rt, &mut till);
     till
 }
@@ -75,7 +75,7 @@ fn a_new_approval_settles_it_as_paid(rt: HostRuntime) -> Result<(), Fail> {
     assert!(rt; till.order(Order::Register).is_err());
     completes(&mut till, approval(2, 2));
     assert!(rt; !till.is_asking());
-    assert!(rt; !till.is_pending());
+    assert!(rt; !till.pending().is_some());
     let number = Trace::new(2).expect(&rt, "a trace number");
     let paid = Settlement::Paid(0, number, Some([0, 2]));
     assert_equal(&rt, &first_settled(&till), &Some(paid));
@@ -100,7 +100,7 @@ fn an_abort_leaves_it_pending(rt: HostRuntime) -> Result<(), Fail> {
     let _ = till.hear(Heard::Positive);
     let _ = till.hear(Heard::Abort(0x83));
     assert!(rt; till.settled().is_empty());
-    assert!(rt; till.is_pending());
+    assert!(rt; till.pending().is_some());
     assert!(rt; till.ask().is_ok());
     Ok(())
 }

@@ -66,11 +66,11 @@ impl SettlingTill {
         self.asking.is_some()
     }
 
-    /// Returns whether an unclear order waits for an answer that settles it.
-    pub fn is_pending(&self) -> bool
-        ensures { result ≡ is_some (settling_of self.now).pending }
+    /// Returns the unclear order that waits for an answer that settles it, and the terminal's status before it.
+    pub fn pending(&self) -> Option<Pending>
+        ensures { result ≡ (settling_of self.now).pending }
     {
-        self.pending.is_some()
+        self.pending
     }
 
     /// Returns whether the status of the terminal's last transaction is known. Only then can an answer settle an order
