@@ -1,10 +1,10 @@
 //! The runs of both ends of a line and of a terminal, from the command line, and the parts that all runs share.
-ghost use Rattle.std.specs.Prelude.{◌≡◌, ◌<◌, ◌≤◌, [], Err, IfOk, Result, is_some};
+ghost use Rattle.std.specs.Prelude.{◌≡◌, ◌<◌, ◌≤◌, Err, IfOk, Result, is_some};
 ghost use Rattle.zvt_runs.specs.Reporting.{ReportsNothing, ReportsRun};
 ghost use Rattle.zvt_runs.specs.declared.fault.EndFault.{EndFault};
-ghost use Rattle.zvt_till.specs.Numbers.{no_numbers};
 ghost use Rattle.zvt_till.specs.Settings.{settings_of};
-ghost use Rattle.zvt_till.specs.Till.{new_till};
+ghost use Rattle.zvt_settle.specs.Inside.{both_of};
+ghost use Rattle.zvt_settle.specs.Settling.{new_both};
 ghost use Rattle.zvt_tool.specs.Statuses.{status_of_run};
 ghost use Rattle.zvt.specs.Runs.{MakesSteps, RunsEither, RunsSteps};
 
@@ -21,8 +21,9 @@ use zvt_journal::FileDevice;
 use zvt_kept::KeptTill;
 use zvt_runs::tcp::{LoopRun, TerminalRun, TillRun, run_loop, run_terminal, run_till};
 use zvt_runs::{Clocked, EndFault, Ends, NoNotes, NoteSource, Planned, StepOptions, plan};
+use zvt_settle::{Asker, SettlingTill};
 use zvt_stream::LineForm;
-use zvt_till::{Keeper, Till, TillSettings};
+use zvt_till::{Till, TillSettings};
 use zvt_tool::TerminalOptions;
 use zvt_tool::options::{connections_by, form_by, lengths_by};
 use zvt_tool::statuses::WORDS;
@@ -78,12 +79,12 @@ impl TillSteps<'_, '_> {
         report: &mut E,
     ) -> Result<(), EndFault>
     where
-        K: Keeper,
+        K: Asker,
         N: NoteSource<K>,
         W: Sink,
         E: Sink,
-        ensures run { MakesSteps K.connects K.orders K.hears K.is_resting K.failed K.till K.loses K.malforms N.noted
-            self.now till.old till.new (W.written writer.old) (W.written writer.new)
+        ensures run { MakesSteps K.connects K.orders K.hears K.is_resting K.failed K.till K.loses K.malforms K.asks
+            K.settling N.noted self.now till.old till.new (W.written writer.old) (W.written writer.new)
             (ReportsRun (E.written report.old) (E.written report.new) (E.failures report.old) (E.failures report.new))
             (ReportsNothing (E.written report.old) (E.written report.new) (E.failures report.old)
             (E.failures report.new)) result }
@@ -104,14 +105,14 @@ struct RunEnd {
 }
 
 /// Makes the steps with this till. The lines of the steps go to standard output, and the notes to standard error.
-fn make_with<K: Keeper, N: NoteSource<K>>(
+fn make_with<K: Asker, N: NoteSource<K>>(
     rt: &HostRuntime,
     run: &TillSteps<'_, '_>,
     till: &mut K,
     notes: &N,
 ) -> RunEnd
-    ensures { RunsSteps K.connects K.orders K.hears K.is_resting K.failed K.till K.loses K.malforms N.noted run.now
-        till.old result.answer }
+    ensures { RunsSteps K.connects K.orders K.hears K.is_resting K.failed K.till K.loses K.malforms K.asks K.settling
+        N.noted run.now till.old result.answer }
 {
     let mut writer = Over::new(Output::new(io::writer(rt)));
     let mut report = Over::new(rt.stderr());
@@ -195,12 +196,10 @@ pub fn terminal(rt: &HostRuntime, options: &TerminalOptions<'_>) -> Result<u8, E
 }
 
 /// Returns a new till with these settings.
-fn new_till(rt: &HostRuntime, settings: &TillSettings) -> Till
-    ensures state { result.state ≡ new_till (settings_of settings.now) }
-    ensures numbers { result.numbers ≡ no_numbers }
-    ensures heard { result.heard ≡ [] }
+fn new_till(rt: &HostRuntime, settings: &TillSettings) -> SettlingTill
+    ensures { both_of result ≡ new_both (settings_of settings.now) }
 {
-    Till::with_settings(rt.alloc(), settings)
+    SettlingTill::new(rt.alloc(), Till::with_settings(rt.alloc(), settings))
 }
 
 /// Parses the words as steps. Reports a word that names no step.

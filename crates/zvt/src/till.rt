@@ -10,7 +10,7 @@ use crate::trace_file::{mend_after, run_trace};
 use std::fs::File;
 use std::io;
 use zvt_runs::tcp::TillRun;
-use zvt_runs::{Ends, Planned, StepOptions};
+use zvt_runs::{Ends, Planned, StepOptions, settling_once};
 use zvt_stream::LineForm;
 use zvt_tool::TillOptions;
 use zvt_tool::options::{form_by, lengths_by};
@@ -27,7 +27,7 @@ pub fn till(rt: &HostRuntime, options: &TillOptions<'_>) -> Result<u8, Exit> {
     if report_zero(rt, options)? {
         return Ok(WORDS);
     }
-    let plan = planned(rt, Ends::Till, options.steps.as_slice())?;
+    let plan = till_plan(rt, options)?;
     let RunFiles { kept, trace } = run_files(rt, options.book, options.trace, &settings)?;
     let steps = TillSteps::There(till_run(rt, options, plan.as_slice(), trace.as_ref()));
     if options.steps.is_empty() {
@@ -35,6 +35,15 @@ pub fn till(rt: &HostRuntime, options: &TillOptions<'_>) -> Result<u8, Exit> {
     }
     let status = run_status(rt, &steps, &settings, kept)?;
     Ok(mend_after(rt, options.trace, trace.as_ref(), status)?)
+}
+
+/// Parses the steps. A till with a book also asks once, if an answer can be of use, unless `--no-ask` is given.
+fn till_plan(rt: &HostRuntime, options: &TillOptions<'_>) -> Result<Vec<Planned>, Exit> {
+    let plan = planned(rt, Ends::Till, options.steps.as_slice())?;
+    if options.book.is_none() || options.no_ask {
+        return Ok(plan);
+    }
+    Ok(settling_once(rt.alloc(), plan)?)
 }
 
 /// Returns the run of these steps with the options.

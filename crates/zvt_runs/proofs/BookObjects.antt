@@ -140,10 +140,14 @@ cause_said cause currency later =
 -- ---- whole lines
 
 -- one part before the members, which end the line
-pub before_end : (part said : List ℕ) (later more : Members) → part ++ members_text true later ≡ members_text true more → said ≡ members_text true later ++ codes "}\n"
+pub before_with : (end part said : List ℕ) (later more : Members) → part ++ members_text true later ≡ members_text true more → said ≡ members_text true later ++ end
+    → part ++ said ≡ members_text true more ++ end
+before_with end part said later more same ends =
+    ap (λ (l : List ℕ). part ++ l) ends ∙ sym (append_assoc part (members_text true later) end) ∙ ap (λ (l : List ℕ). l ++ end) same
+
+before_end : (part said : List ℕ) (later more : Members) → part ++ members_text true later ≡ members_text true more → said ≡ members_text true later ++ codes "}\n"
     → part ++ said ≡ members_text true more ++ codes "}\n"
-before_end part said later more same ends =
-    ap (λ (l : List ℕ). part ++ l) ends ∙ sym (append_assoc part (members_text true later) (codes "}\n")) ∙ ap (λ (l : List ℕ). l ++ codes "}\n") same
+before_end part said later more same ends = before_with (codes "}\n") part said later more same ends
 
 no_more : codes "}}\n" ≡ members_text true no_members ++ codes "}\n"
 no_more = refl

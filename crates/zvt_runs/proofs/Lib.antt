@@ -6,6 +6,7 @@ pub mod Turns
 pub mod Seen
 pub mod Alone
 pub mod There
+pub mod Here
 pub mod Parts
 pub mod Unclear
 pub mod BookObjects

@@ -1,18 +1,17 @@
--- The text of a total is that of its value, and no object of a step has a float.
-use Rattle.std.proofs.Common.{◌≡◌, ◌++◌, ℕ, false, List, Option, Some, None, Result, Ok, Err, refl, append_assoc, codes}
+-- The texts of a total and of an ask are those of their values, and no object of a step has a float.
+use Rattle.std.proofs.Common.{◌≡◌, ◌++◌, ℕ, false, List, Option, Some, None, refl, append_assoc, codes}
 use Rattle.std.specs.Fmt.{decimal}
-use Rattle.json.specs.Print.{escape_byte}
+use Rattle.json.specs.Print.{escape, escape_byte}
 use Rattle.serde_json.specs.Data.{object, member}
-use Rattle.serde_json.specs.Written.{has_float}
+use Rattle.serde_json.specs.Written.{compact_text, has_float}
 use Rattle.zvt_json.specs.Fields.{words_of}
 use Rattle.zvt_json.specs.Strings.{byte_value, line_text}
 use Rattle.zvt_text.specs.Meanings.{meaning_of}
-use Rattle.zvt_till.specs.declared.line.RunFault.{RunFault}
-use Rattle.zvt_till.specs.declared.keeper.BookFault.TheVariants.{NoSpace, Failed}
-use Rattle.zvt_till.specs.declared.line.RunFault.TheVariants.{Order, Line, Book as BookBroke}
+use Rattle.zvt_settle.specs.declared.deciding.Settlement.{Settlement}
 use Rattle.zvt_till.specs.declared.outcomes.Outcome.{Outcome}
 use Rattle.zvt_till.specs.declared.outcomes.Outcome.TheVariants.{Registered, Paid, Declined, Refused, Aborted, Unclear, Reversed, DayClosed}
-use Rattle.zvt_runs.specs.Objects.{ended_so, outcome_value, step_value, total_value}
+use Rattle.zvt_runs.specs.Objects.{ended_so, outcome_value, settled_step, total_value}
+use Rattle.zvt_runs.specs.Settlements.{settled_value}
 
 pub total_said : (total : ℕ) → codes "{\"total\":" ++ (decimal total ++ codes "}\n") ≡ line_text (total_value total)
 unfolding escape_byte
@@ -24,7 +23,7 @@ with_words : (name word : List ℕ) (code : ℕ) (meaning : Option (List ℕ)) �
 with_words name word code None = refl
 with_words name word code (Some meaning) = refl
 
-outcome_whole : (word : List ℕ) (outcome : Outcome) → has_float (outcome_value word outcome) ≡ false
+pub outcome_whole : (word : List ℕ) (outcome : Outcome) → has_float (outcome_value word outcome) ≡ false
 outcome_whole word Registered = refl
 outcome_whole word (Paid trace None) = refl
 outcome_whole word (Paid trace (Some receipt)) = refl
@@ -35,11 +34,9 @@ outcome_whole word (Unclear cause) = refl
 outcome_whole word Reversed = refl
 outcome_whole word DayClosed = refl
 
-pub step_whole : (word : List ℕ) (made : Result Outcome RunFault) (last : Option Outcome) → has_float (step_value word made last) ≡ false
-step_whole word (Ok outcome) last = outcome_whole word outcome
-step_whole word (Err (Order why)) last = refl
-step_whole word (Err (Line fault)) None = refl
-step_whole word (Err (Line fault)) (Some outcome) = outcome_whole word outcome
-step_whole word (Err (BookBroke NoSpace)) last = refl
-step_whole word (Err (BookBroke Failed)) None = refl
-step_whole word (Err (BookBroke Failed)) (Some outcome) = outcome_whole word outcome
+-- ---- an ask that settled an order
+
+pub settled_step_said : (word : List ℕ) (settlement : Settlement)
+    → codes "{\"outcome\":\"settled\",\"settled\":" ++ (compact_text (settled_value settlement) ++ (codes ",\"step\":\"" ++ (escape word ++ codes "\"}\n"))) ≡ line_text (settled_step word settlement)
+unfolding escape_byte
+settled_step_said word settlement = simp append_assoc

@@ -9,11 +9,19 @@ use Rattle.zvt_till.specs.declared.line.RunFault.{RunFault}
 use Rattle.zvt_till.specs.declared.keeper.BookFault.{BookFault}
 use Rattle.zvt_till.specs.declared.keeper.BookFault.TheVariants.{NoSpace, Failed}
 use Rattle.zvt_till.specs.declared.line.RunFault.TheVariants.{Order as OrderFault, Line as LineFault, Book as BookBroke}
+use Rattle.zvt_till.specs.declared.orders.Order.{Order}
+use Rattle.zvt_till.specs.declared.orders.OrderRefusal.TheVariants.{Memory as NoMemory}
 use Rattle.zvt_till.specs.declared.outcomes.Outcome.{Outcome}
+use Rattle.zvt_settle.specs.AskRuns.{AskRuns}
+use Rattle.zvt_runs.specs.Asking.{asked_by, ended_by}
+use Rattle.zvt_runs.specs.declared.arguments.Step.{Step}
+use Rattle.zvt_runs.specs.declared.asking.Asked.{Asked as AskEnd}
+use Rattle.zvt_runs.specs.declared.asking.Ended.{Ended}
+use Rattle.zvt_runs.specs.declared.asking.Ended.TheVariants.{Order as EndedOrder, Ask}
 use Rattle.zvt_till.specs.Sending.{Settings}
 use Rattle.zvt_till.proofs.BookStepLemmas.{settings-kept}
-use Rattle.zvt_kept.specs.Keeping.{kept_connects, kept_orders}
-use Rattle.zvt_kept.specs.KeptTill.{Connects, HasLog, Hears, IsKept, Keeps, KeptValue, LosesLine, both_in, has_failed, kept_rests, till_of, unless_up, with_note}
+use Rattle.zvt_kept.specs.Keeping.{kept_asks, kept_connects, kept_orders}
+use Rattle.zvt_kept.specs.KeptTill.{Connects, HasLog, Hears, IsKept, Keeps, KeptValue, LosesLine, both_in, has_failed, kept_rests, settling_in, till_of, unless_up, with_note}
 use Rattle.zvt_kept.specs.Outliving.{CallsOutlive, Did, DidAll, HappenInAll, KeptStep, connects}
 use Rattle.zvt_kept.specs.Runs.{RanKept}
 use Rattle.zvt_runs.specs.declared.fault.EndFault.{EndFault}
@@ -25,8 +33,8 @@ use Rattle.zvt_runs.specs.Made.{Made, stop_of}
 use Rattle.zvt_runs.specs.Runs.{Answers, BreaksIn, EndsInStep, EndsInTotal, GoesOn, MakesAll, MakesTo, RunsOut, Standing, standing}
 use Rattle.zvt_runs.specs.Reporting.{ReportsRun}
 use Rattle.zvt_runs.specs.Steps.{order_of}
-use Rattle.zvt_runs.specs.TillEnd.{BeginsThere, MakesThere}
-use Rattle.zvt_runs.specs.Outliving.{BookRunsOutlive, MakesKept, OutlivesRun, call_of, calls_of}
+use Rattle.zvt_runs.specs.TillEnd.{AskedThere, BeginsThere, OrderedThere, StepThere}
+use Rattle.zvt_runs.specs.Outliving.{BookRunsOutlive, MakesKept, OutlivesRun, call_by, call_of, calls_of}
 
 map_snoc : (done : List Planned) (planned : Planned) → map call_of (done ++ planned ∷ []) ≡ map call_of done ++ call_of planned ∷ []
 map_snoc [] planned = refl
@@ -36,13 +44,8 @@ module _ {D : Type 0} (seen : D → List ℕ) (may_leave : D → List ℕ → Ty
   abbrev Kept : Type 0
   Kept = KeptValue D
 
-  abbrev Makes : EndState → Kept → Planned → Result Outcome RunFault → EndState → Kept → Type 0
+  abbrev Makes : EndState → Kept → Planned → Result Ended RunFault → EndState → Kept → Type 0
   Makes = MakesKept seen may_leave moment left_since faults
-
-  -- the step itself, with its note
-  abbrev MadeSo : EndState → Kept → Planned → Result Outcome RunFault → EndState → Kept → Type 0
-  MadeSo before old planned result after new =
-      MakesThere (kept_orders seen may_leave moment left_since faults) (Hears seen may_leave moment left_since faults) kept_rests has_failed till_of (LosesLine seen may_leave moment left_since faults) (LosesLine seen may_leave moment left_since faults) before old planned.step result after new
 
   abbrev Calls : List KeptStep → Kept → Kept → Type 0
   Calls = DidAll seen may_leave moment left_since faults
@@ -70,38 +73,75 @@ module _ {D : Type 0} (seen : D → List ℕ) (may_leave : D → List ℕ → Ty
 
   -- ---- a step
 
-  ran_of : (planned : Planned) (before after : EndState) (old new : Kept) (result : Result Outcome RunFault) → MadeSo before old planned result after new
-      → RanKept seen may_leave moment left_since faults (order_of planned.step) before.stream after.stream old new before.coming after.coming before.written after.written 100000 before.reads after.reads result
-  ran_of planned before after old new (Ok outcome) m = m.runs
-  ran_of planned before after old new (Err fault) m = m.fails
+  abbrev Ordered : Order → EndState → Kept → Result Ended RunFault → EndState → Kept → Type 0
+  Ordered = OrderedThere (kept_orders seen may_leave moment left_since faults) (Hears seen may_leave moment left_since faults) kept_rests has_failed till_of (LosesLine seen may_leave moment left_since faults) (LosesLine seen may_leave moment left_since faults)
 
-  step_did : (planned : Planned) (before after : Standing EndState Kept) (result : Result Outcome RunFault) → Makes before.line before.till planned result after.line after.till
-      → Did seen may_leave moment left_since faults (call_of planned) before.till after.till
-  step_did planned before after result m = (
-    m.0,
-    before.line.stream,
-    after.line.stream,
-    before.line.coming,
-    after.line.coming,
-    before.line.written,
-    after.line.written,
-    100000,
-    before.line.reads,
-    after.line.reads,
-    result,
-    ran_of planned before.line after.line (with_note before.till m.0) after.till result m.2,
+  abbrev Asked : Step → EndState → Kept → Result Ended RunFault → EndState → Kept → Type 0
+  Asked = AskedThere (Hears seen may_leave moment left_since faults) kept_rests has_failed till_of (LosesLine seen may_leave moment left_since faults) (LosesLine seen may_leave moment left_since faults) (kept_asks seen may_leave moment left_since faults) settling_in
+
+  abbrev Stepped : Step → Option Order → EndState → Kept → Result Ended RunFault → EndState → Kept → Type 0
+  Stepped = StepThere (kept_orders seen may_leave moment left_since faults) (Hears seen may_leave moment left_since faults) kept_rests has_failed till_of (LosesLine seen may_leave moment left_since faults) (LosesLine seen may_leave moment left_since faults) (kept_asks seen may_leave moment left_since faults) settling_in
+
+  abbrev Ran : Order → EndState → Kept → Result Outcome RunFault → EndState → Kept → Type 0
+  Ran order before old result after new =
+      RanKept seen may_leave moment left_since faults order before.stream after.stream old new before.coming after.coming before.written after.written 100000 before.reads after.reads result
+
+  ran_of : (order : Order) (before after : EndState) (old new : Kept) (result : Result Ended RunFault) → Ordered order before old result after new → (outcome : Result Outcome RunFault) × Ran order before old outcome after new
+  ran_of order before after old new (Ok (EndedOrder outcome)) m = (Ok outcome, m.runs)
+  ran_of order before after old new (Ok (Ask asked)) m = absurd m
+  ran_of order before after old new (Err fault) m = (Err fault, m.fails)
+
+  -- An ask that would be of no use is one that is refused for lack of memory, as far as the journal goes.
+  unasked : (before after : EndState) (old new : Kept) → after ≡ before → new ≡ old
+      → AskRuns (kept_asks seen may_leave moment left_since faults) (Hears seen may_leave moment left_since faults) kept_rests 100000 (LosesLine seen may_leave moment left_since faults) (LosesLine seen may_leave moment left_since faults) has_failed (Err (OrderFault NoMemory)) before after old new
+  unasked before after old new same unchanged = inl (
+    (((inl refl, ap (λ (k : Kept). k.standing) unchanged, ap (λ (k : Kept). k.failure) unchanged), unchanged), ap (λ (e : EndState). e.written) same),
+    subst (λ (e : EndState). e ≡ record before { written = e.written; failed_writes = e.failed_writes }) (sym same) refl,
   )
 
-  -- a step after which the next one is made left the journal whole
-  stays_whole : (planned : Planned) (before after : Standing EndState Kept) (result : Result Outcome RunFault) → Makes before.line before.till planned result after.line after.till → GoesOn result
-      → has_failed before.till ≡ false → has_failed after.till ≡ false
-  stays_whole planned before after (Ok outcome) m goes whole = m.2.runs.whole
-  stays_whole planned before after (Err (OrderFault why)) m goes whole = ⊎_elim
+  did_by : (step : Step) (order : Option Order) (before after : EndState) (old new : Kept) (note : List ℕ) (result : Result Ended RunFault) → Stepped step order before (with_note old note) result after new
+      → Did seen may_leave moment left_since faults (call_by order) old new
+  did_by step (Some order) before after old new note result m =
+      let ran = ran_of order before after (with_note old note) new result m in
+      (note, before.stream, after.stream, before.coming, after.coming, before.written, after.written, 100000, before.reads, after.reads, ran.0, ran.1)
+  did_by step None before after old new note result (inl none) = (note, before, after, 100000, Err (OrderFault NoMemory), unasked before after (with_note old note) new none.2 none.3)
+  did_by step None before after old new note result (inr m) = (note, before, after, 100000, m.1, m.2.runs)
+
+  step_did : (planned : Planned) (before after : Standing EndState Kept) (result : Result Ended RunFault) → Makes before.line before.till planned result after.line after.till
+      → Did seen may_leave moment left_since faults (call_of planned) before.till after.till
+  step_did planned before after result m = did_by planned.step (order_of planned.step) before.line after.line before.till after.till m.0 result m.2
+
+  ordered_whole : (order : Order) (before after : EndState) (old new : Kept) (result : Result Ended RunFault) → Ordered order before old result after new → GoesOn result → has_failed old ≡ false → has_failed new ≡ false
+  ordered_whole order before after old new (Ok (EndedOrder outcome)) m goes whole = m.runs.whole
+  ordered_whole order before after old new (Ok (Ask asked)) m goes whole = absurd m
+  ordered_whole order before after old new (Err (OrderFault why)) m goes whole = ⊎_elim
       (λ unsent. subst (λ (k : Kept). has_failed k ≡ false) (sym unsent.0.0.1) whole)
       (λ more. ⊎_elim (λ broke. absurd (cc broke.1)) (λ failed. absurd (cc failed.0)) more)
-      m.2.fails
-  stays_whole planned before after (Err (LineFault fault)) m goes whole = absurd (cc goes.0)
-  stays_whole planned before after (Err (BookBroke why)) m goes whole = absurd (cc goes.0)
+      m.fails
+  ordered_whole order before after old new (Err (LineFault fault)) m goes whole = absurd (cc goes.0)
+  ordered_whole order before after old new (Err (BookBroke why)) m goes whole = absurd (cc goes.0)
+
+  asked_whole : (ran : Result Unit RunFault) (asked : AskEnd) (before after : EndState) (old new : Kept)
+      → AskRuns (kept_asks seen may_leave moment left_since faults) (Hears seen may_leave moment left_since faults) kept_rests 100000 (LosesLine seen may_leave moment left_since faults) (LosesLine seen may_leave moment left_since faults) has_failed ran before after old new
+      → GoesOn (ended_by ran asked) → has_failed old ≡ false → has_failed new ≡ false
+  asked_whole (Ok done) asked before after old new runs goes whole = runs.1
+  asked_whole (Err (OrderFault why)) asked before after old new runs goes whole = ⊎_elim
+      (λ unsent. subst (λ (k : Kept). has_failed k ≡ false) (sym unsent.0.0.1) whole)
+      (λ more. ⊎_elim (λ broke. absurd (cc broke.1)) (λ failed. absurd (cc failed.0)) more)
+      runs
+  asked_whole (Err (LineFault fault)) asked before after old new runs goes whole = absurd (cc goes.0)
+  asked_whole (Err (BookBroke why)) asked before after old new runs goes whole = absurd (cc goes.0)
+
+  whole_by : (step : Step) (order : Option Order) (before after : EndState) (old new : Kept) (result : Result Ended RunFault) → Stepped step order before old result after new → GoesOn result → has_failed old ≡ false → has_failed new ≡ false
+  whole_by step (Some order) before after old new result m goes whole = ordered_whole order before after old new result m goes whole
+  whole_by step None before after old new result (inl none) goes whole = subst (λ (k : Kept). has_failed k ≡ false) (sym none.3) whole
+  whole_by step None before after old new result (inr m) goes whole =
+      asked_whole m.1 (asked_by (settling_in old) (settling_in new)) before after old new m.2.runs (subst (λ (r : Result Ended RunFault). GoesOn r) m.3 goes) whole
+
+  -- a step after which the next one is made left the journal whole
+  stays_whole : (planned : Planned) (before after : Standing EndState Kept) (result : Result Ended RunFault) → Makes before.line before.till planned result after.line after.till → GoesOn result
+      → has_failed before.till ≡ false → has_failed after.till ≡ false
+  stays_whole planned before after result m goes whole = whole_by planned.step (order_of planned.step) before.line after.line (with_note before.till m.0) after.till result m.2 goes whole
 
   -- steps that were all made, and then some calls
   then_calls : (settings : Settings) (plan : List Planned) (before after : Standing EndState Kept) (all : List Made) (calls : List KeptStep) (new : Kept)
@@ -131,7 +171,7 @@ module _ {D : Type 0} (seen : D → List ℕ) (may_leave : D → List ℕ → Ty
   }
 
   -- the steps before one, and that one
-  up_to : (settings : Settings) (plan done later : List Planned) (planned : Planned) (before middle after : Standing EndState Kept) (earlier : List Made) (result : Result Outcome RunFault)
+  up_to : (settings : Settings) (plan done later : List Planned) (planned : Planned) (before middle after : Standing EndState Kept) (earlier : List Made) (result : Result Ended RunFault)
       → plan ≡ done ++ planned ∷ later → Going settings before.till → MakesAll till_of Makes done before middle earlier → Makes middle.line middle.till planned result after.line after.till → Part plan before.till after.till
   up_to settings plan done later planned before middle after earlier result cut g made last = record {
     done = done ++ planned ∷ [];

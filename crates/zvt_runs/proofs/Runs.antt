@@ -14,7 +14,7 @@ use Rattle.zvt_till.specs.Marks.{total}
 use Rattle.zvt_till.specs.View.{TillValue}
 use Rattle.zvt_till.specs.declared.line.RunFault.{RunFault}
 use Rattle.zvt_till.specs.declared.line.RunFault.TheVariants.{Order, Line, Book as BookBroke}
-use Rattle.zvt_till.specs.declared.outcomes.Outcome.{Outcome}
+use Rattle.zvt_runs.specs.declared.asking.Ended.{Ended}
 use Rattle.zvt_runs.specs.declared.fault.EndFault.{EndFault}
 use Rattle.zvt_runs.specs.declared.fault.EndFault.TheVariants.{BadStep, Book, Line as LineBroke, Memory, Net, Silent, Trace, Unsuccessful, Write}
 use Rattle.zvt_runs.specs.declared.plans.Planned.{Planned}
@@ -25,13 +25,13 @@ use Rattle.zvt_runs.specs.Runs.{Answers, AnswersText, BreaksIn, GoesOn, IsMissin
 use Rattle.zvt_runs.specs.Words.{IsNoteOf}
 
 -- a till that was given the note of its step's word made the step
-pub noted_by : {L T : Type 0} (noted : T → List ℕ → T) (makes : StepLaw L T) (line : L) (till ready : T) (planned : Planned) (result : Result Outcome RunFault) (left : L) (new : T) (word : List ℕ)
+pub noted_by : {L T : Type 0} (noted : T → List ℕ → T) (makes : StepLaw L T) (line : L) (till ready : T) (planned : Planned) (result : Result Ended RunFault) (left : L) (new : T) (word : List ℕ)
     → word ≡ string_bytes planned.word → (note : List ℕ) × IsNoteOf word note × (ready ≡ noted till note) → makes line ready planned.step result left new → noting noted makes line till planned result left new
 noted_by {T = T} noted makes line till ready planned result left new word is n made =
     (n.0, subst (λ (w : List ℕ). IsNoteOf w n.0) is n.1, subst (λ (t : T). makes line t planned.step result left new) n.2 made)
 
 -- one step more
-makes_one_more : {L T : Type 0} (seen : T → TillValue) (makes : Law L T) (plan : List Planned) (planned : Planned) (result : Result Outcome RunFault) (before middle after : Standing L T) (all : List Made)
+makes_one_more : {L T : Type 0} (seen : T → TillValue) (makes : Law L T) (plan : List Planned) (planned : Planned) (result : Result Ended RunFault) (before middle after : Standing L T) (all : List Made)
     → MakesAll seen makes plan before middle all → makes middle.line middle.till planned result after.line after.till → GoesOn result
     → MakesAll seen makes (plan ++ planned ∷ []) before after (all ++ made_of seen planned result after.till ∷ [])
 makes_one_more {L} {T} seen makes [] planned result before middle after all made one goes = (
@@ -73,7 +73,7 @@ pub record SoFar {L T : Type 0} (seen : T → TillValue) (makes : Law L T) (opti
   pub noted : Noted (notes_text all)
 
 -- ... and one more, of whose line something was written
-pub record Then {L T : Type 0} (seen : T → TillValue) (makes : Law L T) (options : StepOptions) (Noted : List ℕ → Type 0) (done : List Planned) (planned : Planned) (result : Result Outcome RunFault) (before after : Standing L T) (old now : Option (List ℕ)) (short : Bool) : Type 0 where
+pub record Then {L T : Type 0} (seen : T → TillValue) (makes : Law L T) (options : StepOptions) (Noted : List ℕ → Type 0) (done : List Planned) (planned : Planned) (result : Result Ended RunFault) (before after : Standing L T) (old now : Option (List ℕ)) (short : Bool) : Type 0 where
   pub middle : Standing L T
   pub earlier : List Made
   pub all : MakesAll seen makes done before middle earlier
@@ -89,7 +89,7 @@ pub taken : {A : Type 0} (xs : List A) (i : ℕ) (x : A) → i < length xs → x
 taken xs i x below is = rw add-one (take-suc xs i x below ∙ ap (λ y. take i xs ++ y ∷ []) (sym is))
 
 -- a step was made and its note reported
-pub then : {L T : Type 0} (seen : T → TillValue) (makes : Law L T) (options : StepOptions) (Noted Now : List ℕ → Type 0) (done : List Planned) (planned : Planned) (result : Result Outcome RunFault) (short : Bool) (before middle after : Standing L T) (old now : Option (List ℕ))
+pub then : {L T : Type 0} (seen : T → TillValue) (makes : Law L T) (options : StepOptions) (Noted Now : List ℕ → Type 0) (done : List Planned) (planned : Planned) (result : Result Ended RunFault) (short : Bool) (before middle after : Standing L T) (old now : Option (List ℕ))
     → SoFar seen makes options Noted done short before middle old now → makes middle.line middle.till planned result after.line after.till
     → ((text : List ℕ) → Noted text → Now (text ++ made_note (made_of seen planned result after.till)))
     → Then seen makes options Now done planned result before after old now short
@@ -109,7 +109,7 @@ pub as_told : {L T : Type 0} (seen : T → TillValue) (makes : Law L T) (options
 as_told seen makes options Noted Told done short before now old new told so = record { all = so.all; made = so.made; appended = so.appended; fell = so.fell; noted = told (notes_text so.all) so.noted }
 
 -- its line was written, and the run goes on
-pub one_more : {L T : Type 0} (seen : T → TillValue) (makes : Law L T) (options : StepOptions) (Noted : List ℕ → Type 0) (plan : List Planned) (i : ℕ) (planned : Planned) (result : Result Outcome RunFault) (short next : Bool) (before after : Standing L T) (old now new : Option (List ℕ))
+pub one_more : {L T : Type 0} (seen : T → TillValue) (makes : Law L T) (options : StepOptions) (Noted : List ℕ → Type 0) (plan : List Planned) (i : ℕ) (planned : Planned) (result : Result Ended RunFault) (short next : Bool) (before after : Standing L T) (old now new : Option (List ℕ))
     → i < length plan → planned ≡ get_or plan i planned → GoesOn result → next ≡ (short || fell_short planned.step result) → Then seen makes options Noted (take i plan) planned result before after old now short
     → Appends now new (made_line options.form (made_of seen planned result after.till))
     → SoFar seen makes options Noted (take (i + 1) plan) next before after old new
@@ -125,7 +125,7 @@ one_more {L} {T} seen makes options Noted plan i planned result short next befor
     })
 
 -- the step that stopped the run
-breaks_in : {L T : Type 0} (seen : T → TillValue) (makes : Law L T) (options : StepOptions) (Noted : List ℕ → Type 0) (plan : List Planned) (i : ℕ) (planned : Planned) (result : Result Outcome RunFault) (fault : EndFault) (short : Bool) (before after : Standing L T) (old now : Option (List ℕ))
+breaks_in : {L T : Type 0} (seen : T → TillValue) (makes : Law L T) (options : StepOptions) (Noted : List ℕ → Type 0) (plan : List Planned) (i : ℕ) (planned : Planned) (result : Result Ended RunFault) (fault : EndFault) (short : Bool) (before after : Standing L T) (old now : Option (List ℕ))
     → i < length plan → planned ≡ get_or plan i planned → stop_of result ≡ Some fault → (so : Then seen makes options Noted (take i plan) planned result before after old now short)
     → BreaksIn seen makes plan fault before after (so.earlier ++ made_of seen planned result after.till ∷ [])
 breaks_in {L} {T} seen makes options Noted plan i planned result fault short before after old now below is some so = record {
@@ -143,7 +143,7 @@ breaks_in {L} {T} seen makes options Noted plan i planned result fault short bef
 }
 
 -- a run that was stopped answers why
-stopped : {L T : Type 0} (seen : T → TillValue) (makes : Law L T) (options : StepOptions) (Noted : List ℕ → Type 0) (plan : List Planned) (before after : Standing L T) (old new : Option (List ℕ)) (result : Result Outcome RunFault) (fault : EndFault)
+stopped : {L T : Type 0} (seen : T → TillValue) (makes : Law L T) (options : StepOptions) (Noted : List ℕ → Type 0) (plan : List Planned) (before after : Standing L T) (old new : Option (List ℕ)) (result : Result Ended RunFault) (fault : EndFault)
     → stop_of result ≡ Some fault → Ran seen makes options Noted plan (Some fault) before after old new → Answers seen makes options Noted plan before after old new (Err fault)
 stopped seen makes options Noted plan before after old new (Ok outcome) fault some run = absurd (cc)
 stopped seen makes options Noted plan before after old new (Err (Order why)) fault some run = absurd (cc)
@@ -154,7 +154,7 @@ stopped seen makes options Noted plan before after old new (Err (BookBroke why))
     let is : Book ≡ fault = same_Some Book fault some in
     subst (λ (f : EndFault). Answers seen makes options Noted plan before after old new (Err f)) is (subst (λ (f : EndFault). Ran seen makes options Noted plan (Some f) before after old new) (sym is) run)
 
-pub broke : {L T : Type 0} (seen : T → TillValue) (makes : Law L T) (options : StepOptions) (Noted : List ℕ → Type 0) (plan : List Planned) (i : ℕ) (planned : Planned) (result : Result Outcome RunFault) (fault : EndFault) (short : Bool) (before after : Standing L T) (old now next new : Option (List ℕ))
+pub broke : {L T : Type 0} (seen : T → TillValue) (makes : Law L T) (options : StepOptions) (Noted : List ℕ → Type 0) (plan : List Planned) (i : ℕ) (planned : Planned) (result : Result Ended RunFault) (fault : EndFault) (short : Bool) (before after : Standing L T) (old now next new : Option (List ℕ))
     → i < length plan → planned ≡ get_or plan i planned → stop_of result ≡ Some fault → Then seen makes options Noted (take i plan) planned result before after old now short
     → Appends now next (made_line options.form (made_of seen planned result after.till))
     → Appends next new (total_line options.form (total (seen after.till).state.book)) → Answers seen makes options Noted plan before after old new (Err fault)
@@ -174,7 +174,7 @@ pub nothing_written : (text : List ℕ) (held : Option (List ℕ)) → WritesPar
 nothing_written text held = ([], refl, appends_none held)
 
 -- the line of a step
-pub line_stops : {L T : Type 0} (seen : T → TillValue) (makes : Law L T) (options : StepOptions) (Noted : List ℕ → Type 0) (plan : List Planned) (i : ℕ) (planned : Planned) (result : Result Outcome RunFault) (short : Bool) (before after : Standing L T) (old now new : Option (List ℕ))
+pub line_stops : {L T : Type 0} (seen : T → TillValue) (makes : Law L T) (options : StepOptions) (Noted : List ℕ → Type 0) (plan : List Planned) (i : ℕ) (planned : Planned) (result : Result Ended RunFault) (short : Bool) (before after : Standing L T) (old now new : Option (List ℕ))
     → i < length plan → planned ≡ get_or plan i planned → Then seen makes options Noted (take i plan) planned result before after old now short
     → WritesPart IsPrefix (made_line options.form (made_of seen planned result after.till)) now new → Answers seen makes options Noted plan before after old new (Err Write)
 line_stops seen makes options Noted plan i planned result short before after old now new below is so partly = inl (record {
@@ -194,7 +194,7 @@ line_stops seen makes options Noted plan i planned result short before after old
 })
 
 -- neither the line nor the note of a step
-pub runs_out : {L T : Type 0} (seen : T → TillValue) (makes : Law L T) (options : StepOptions) (Noted : List ℕ → Type 0) (plan : List Planned) (i : ℕ) (planned : Planned) (result : Result Outcome RunFault) (short : Bool) (before middle after : Standing L T) (old now : Option (List ℕ))
+pub runs_out : {L T : Type 0} (seen : T → TillValue) (makes : Law L T) (options : StepOptions) (Noted : List ℕ → Type 0) (plan : List Planned) (i : ℕ) (planned : Planned) (result : Result Ended RunFault) (short : Bool) (before middle after : Standing L T) (old now : Option (List ℕ))
     → i < length plan → planned ≡ get_or plan i planned → SoFar seen makes options Noted (take i plan) short before middle old now
     → makes middle.line middle.till planned result after.line after.till → Answers seen makes options Noted plan before after old now (Err Memory)
 runs_out seen makes options Noted plan i planned result short before middle after old now below is so made = inl (record {
@@ -225,7 +225,7 @@ stops_in_total seen makes options Noted plan broken all before after old now new
 stops_in_total seen makes options Noted plan broken all before after old now new Book made appended noted text = absurd text
 stops_in_total seen makes options Noted plan broken all before after old now new Unsuccessful made appended noted text = absurd text
 
-pub broken_total_stops : {L T : Type 0} (seen : T → TillValue) (makes : Law L T) (options : StepOptions) (Noted : List ℕ → Type 0) (plan : List Planned) (i : ℕ) (planned : Planned) (result : Result Outcome RunFault) (fault : EndFault) (short : Bool) (before after : Standing L T) (old now next new : Option (List ℕ)) (stop : EndFault)
+pub broken_total_stops : {L T : Type 0} (seen : T → TillValue) (makes : Law L T) (options : StepOptions) (Noted : List ℕ → Type 0) (plan : List Planned) (i : ℕ) (planned : Planned) (result : Result Ended RunFault) (fault : EndFault) (short : Bool) (before after : Standing L T) (old now next new : Option (List ℕ)) (stop : EndFault)
     → i < length plan → planned ≡ get_or plan i planned → stop_of result ≡ Some fault → Then seen makes options Noted (take i plan) planned result before after old now short
     → Appends now next (made_line options.form (made_of seen planned result after.till))
     → AnswersText (total_line options.form (total (seen after.till).state.book)) next new (Err stop) → Answers seen makes options Noted plan before after old new (Err stop)

@@ -3,12 +3,14 @@ use Rattle.std.proofs.Common.{◌≡◌, ◌∙◌, Bool, ℕ, List, [], ◌∷�
 use Rattle.zvt_runs.specs.declared.plans.StepOptions.{StepOptions}
 use Rattle.zvt_till.specs.declared.entries.Entry.{Entry}
 use Rattle.zvt_till.specs.declared.keeper.BookFault.{BookFault}
-use Rattle.zvt_till.specs.declared.outcomes.Outcome.{Outcome}
+use Rattle.zvt_runs.specs.declared.asking.Ended.{Ended}
 use Rattle.zvt_till.specs.declared.line.RunFault.{RunFault}
-use Rattle.zvt_till.specs.Keeping.{itself, never_failed, till_connects}
+use Rattle.zvt_settle.specs.declared.settling.SettlingTill.{SettlingTill}
+use Rattle.zvt_settle.specs.Inside.{both_of, till_inside}
+use Rattle.zvt_settle.specs.Keeping.{never_fails, settling_connects}
+use Rattle.zvt_settle.specs.Settling.{Both, Line, new_both, take}
 use Rattle.zvt_till.specs.Sending.{Settings}
 use Rattle.zvt_till.specs.View.{TillValue}
-use Rattle.zvt_till.specs.Till.{new_till, step}
 use Rattle.zvt_till.specs.declared.happenings.Happening.TheVariants.{Connected}
 use Rattle.zvt_runs.specs.declared.fault.EndFault.{EndFault}
 use Rattle.zvt_runs.specs.declared.fault.EndFault.TheVariants.{BadStep, Book, Line as LineBroke, Memory, Net, Silent, Trace, Unsuccessful, Write}
@@ -28,7 +30,7 @@ as_seen seen s = standing (seen s.line) s.till
 -- what a step does by the one law, it does by the other on the line that is seen
 abbrev pub IsSeen : {L S T : Type 0} → (L → S) → Law L T → Law S T → Type 0
 IsSeen {L} {S} {T} seen from to =
-    (line : L) (till : T) (planned : Planned) (result : Result Outcome RunFault) (left : L) (new : T) → from line till planned result left new → to (seen line) till planned result (seen left) new
+    (line : L) (till : T) (planned : Planned) (result : Result Ended RunFault) (left : L) (new : T) → from line till planned result left new → to (seen line) till planned result (seen left) new
 
 module _ {L S T : Type 0} (look : T → TillValue) (seen : L → S) (from : Law L T) (to : Law S T) (is : IsSeen seen from to) where
   all_seen : (plan : List Planned) (before after : Standing L T) (all : List Made) → MakesAll look from plan before after all → MakesAll look to plan (as_seen seen before) (as_seen seen after) all
@@ -156,15 +158,15 @@ plan_seen connects failed look noted seen law begins start options plan old new 
 })
 
 -- a new till alone made the steps
-pub ran_alone : {L : Type 0} (law : StepLaw L TillValue) (begins : L → Type 0) (settings : Settings) (options : StepOptions) (plan : List Planned) (old new : TillValue) (first last : Option (List ℕ)) (Reported : List ℕ → List Entry → Type 0) (Quiet : Type 0) (result : Result Unit EndFault)
-    → old.state ≡ new_till settings → AnswersPlan till_connects never_failed itself (noting forgets law) begins options plan old new first last Reported Quiet result → RunsPlan law begins settings options plan first last Reported result
+pub ran_alone : {L : Type 0} (law : StepLaw L SettlingTill) (begins : L → Type 0) (settings : Settings) (options : StepOptions) (plan : List Planned) (old new : SettlingTill) (first last : Option (List ℕ)) (Reported : List ℕ → List Entry → Type 0) (Quiet : Type 0) (result : Result Unit EndFault)
+    → both_of old ≡ new_both settings → AnswersPlan settling_connects never_fails till_inside (noting forgets law) begins options plan old new first last Reported Quiet result → RunsPlan law begins settings options plan first last Reported result
 ran_alone law begins settings options plan old new first last Reported Quiet result is_new (inl run) = record {
   before = standing run.before run.connected;
   after = standing run.after new;
   begun = run.begun;
-  connected = run.up.0 ∙ ap (λ s. step s Connected) is_new;
-  answers = subst (λ (r : Result Unit EndFault). Answers itself (by_step law) options (λ notes. Reported notes new.state.book) plan (standing run.before run.connected) (standing run.after new) first last r) (sym run.is)
-      (answers_seen itself (λ l. l) (noting forgets law) (by_step law) (λ line till planned r left after made. made.2) options (λ notes. Reported notes new.state.book) (λ notes. Reported notes new.state.book) (λ notes told. told)
+  connected = run.up.0 ∙ ap (λ (b : Both). take b (Line Connected)) is_new;
+  answers = subst (λ (r : Result Unit EndFault). Answers till_inside (by_step law) options (λ notes. Reported notes (till_inside new).state.book) plan (standing run.before run.connected) (standing run.after new) first last r) (sym run.is)
+      (answers_seen till_inside (λ l. l) (noting forgets law) (by_step law) (λ line till planned r left after made. made.2) options (λ notes. Reported notes (till_inside new).state.book) (λ notes. Reported notes (till_inside new).state.book) (λ notes told. told)
       plan (standing run.before run.connected) (standing run.after new) first last run.ended run.answers);
 }
 ran_alone law begins settings options plan old new first last Reported Quiet result is_new (inr none) = absurd none.broke

@@ -4,9 +4,10 @@ use Rattle.zvt_runs.specs.declared.plans.StepOptions.{StepOptions}
 use Rattle.zvt_till.specs.declared.entries.Entry.{Entry}
 use Rattle.zvt_till.specs.Sending.{Settings}
 use Rattle.zvt_runs.specs.RunsPlan.{RunsPlan}
-use Rattle.zvt_till.specs.View.{TillValue}
-use Rattle.zvt_till.specs.Keeping.{itself, never_failed, till_connects}
-use Rattle.zvt_till.specs.Till.{new_till}
+use Rattle.zvt_settle.specs.declared.settling.SettlingTill.{SettlingTill}
+use Rattle.zvt_settle.specs.Inside.{both_of, till_inside}
+use Rattle.zvt_settle.specs.Keeping.{never_fails, settling_connects}
+use Rattle.zvt_settle.specs.Settling.{new_both}
 use Rattle.zvt_runs.specs.Runs.{StepLaw, noting}
 use Rattle.zvt_runs.specs.TillRuns.{forgets}
 use Rattle.zvt_runs.proofs.Alone.{HasNoBook}
@@ -44,14 +45,14 @@ traced Answers true (Err (Net why)) never a = a
 traced Answers true (Err (Silent seconds)) never a = a
 
 -- no run of a till alone ends for its book
-bookless : {L : Type 0} (makes : StepLaw L TillValue) (begins : L → Type 0) (settings : Settings) (options : StepOptions) (plan : List Planned) (old new : Option (List ℕ)) (Reported : List ℕ → List Entry → Type 0)
+bookless : {L : Type 0} (makes : StepLaw L SettlingTill) (begins : L → Type 0) (settings : Settings) (options : StepOptions) (plan : List Planned) (old new : Option (List ℕ)) (Reported : List ℕ → List Entry → Type 0)
     → HasNoBook makes → RunsPlan makes begins settings options plan old new Reported (Err Book) → ⊥
 bookless makes begins settings options plan old new Reported never run =
     let b = run.answers.made in
     never b.middle.line b.middle.till b.planned.step b.result run.after.line run.after.till b.breaks b.stops
 
 -- what a run of steps answers
-answers : {L : Type 0} (makes : StepLaw L TillValue) (begins : L → Type 0) (settings : Settings) (options : StepOptions) (plan : List Planned) (old new : Option (List ℕ)) (Reported : List ℕ → List Entry → Type 0) (Quiet : Type 0) (result : Result Unit EndFault)
+answers : {L : Type 0} (makes : StepLaw L SettlingTill) (begins : L → Type 0) (settings : Settings) (options : StepOptions) (plan : List Planned) (old new : Option (List ℕ)) (Reported : List ℕ → List Entry → Type 0) (Quiet : Type 0) (result : Result Unit EndFault)
     → HasNoBook makes → AnswersTraced (RunsPlan makes begins settings options plan old new Reported) result → AnswersRun makes begins settings options plan old new Reported Quiet result
 answers makes begins settings options plan old new Reported Quiet (Ok done) never runs = runs
 answers makes begins settings options plan old new Reported Quiet (Err (Line fault)) never runs = runs
@@ -65,7 +66,7 @@ answers makes begins settings options plan old new Reported Quiet (Err (Net why)
 answers makes begins settings options plan old new Reported Quiet (Err (Silent seconds)) never runs = absurd runs.answers
 
 -- the terminal was silent for too long, or was not
-silenced : {L : Type 0} (makes : StepLaw L TillValue) (begins : L → Type 0) (settings : Settings) (options : StepOptions) (plan : List Planned) (old new : Option (List ℕ)) (Reported : List ℕ → List Entry → Type 0) (Quiet : Type 0) (waited : Option ℕ) (result : Result Unit EndFault)
+silenced : {L : Type 0} (makes : StepLaw L SettlingTill) (begins : L → Type 0) (settings : Settings) (options : StepOptions) (plan : List Planned) (old new : Option (List ℕ)) (Reported : List ℕ → List Entry → Type 0) (Quiet : Type 0) (waited : Option ℕ) (result : Result Unit EndFault)
     → AnswersRun makes begins settings options plan old new Reported Quiet result → AnswersRun makes begins settings options plan old new Reported Quiet (by_silence waited result)
 silenced makes begins settings options plan old new Reported Quiet None result runs = runs
 silenced makes begins settings options plan old new Reported Quiet (Some seconds) (Ok done) runs = runs
@@ -80,8 +81,8 @@ silenced makes begins settings options plan old new Reported Quiet (Some seconds
 silenced makes begins settings options plan old new Reported Quiet (Some seconds) (Err (Net why)) runs = runs
 
 -- a run of a new till alone, whose trace is whole or broke, and whose terminal was silent for too long or was not
-pub alone : {L : Type 0} (makes : StepLaw L TillValue) (begins : L → Type 0) (settings : Settings) (options : StepOptions) (plan : List Planned) (till left : TillValue) (old new : Option (List ℕ)) (Reported : List ℕ → List Entry → Type 0) (Quiet : Type 0) (result : Result Unit EndFault)
-    → HasNoBook makes → till.state ≡ new_till settings → AnswersOverTcp till_connects never_failed itself (noting forgets makes) begins options plan till left old new Reported Quiet result
+pub alone : {L : Type 0} (makes : StepLaw L SettlingTill) (begins : L → Type 0) (settings : Settings) (options : StepOptions) (plan : List Planned) (till left : SettlingTill) (old new : Option (List ℕ)) (Reported : List ℕ → List Entry → Type 0) (Quiet : Type 0) (result : Result Unit EndFault)
+    → HasNoBook makes → both_of till ≡ new_both settings → AnswersOverTcp settling_connects never_fails till_inside (noting forgets makes) begins options plan till left old new Reported Quiet result
     → AnswersRun makes begins settings options plan old new Reported Quiet result
 alone makes begins settings options plan till left old new Reported Quiet result never is_new (inl run) =
     let ran = ran_alone makes begins settings options plan till left old new Reported Quiet run.ended is_new run.answers in

@@ -20,8 +20,6 @@ use Rattle.zvt_till.proofs.Keepers.{heard-before, hearings-stay, reported-ended,
 use Rattle.zvt_term.specs.Terminal.{TerminalState}
 use Rattle.zvt_term.specs.declared.served.Served.{Served}
 use Rattle.zvt_term.specs.declared.turns.Verdict.{Verdict}
-use Rattle.zvt_runs.specs.declared.arguments.Step.{Step}
-use Rattle.zvt_runs.specs.Steps.{order_of}
 use Rattle.zvt_runs.specs.BothEnds.{Alternates, Begins, BeginsNot, BreaksOff, Comes, Fails, Line, Underway, ended_of}
 use Rattle.zvt_runs.specs.LineEnd.{Turn}
 use Rattle.zvt_runs.specs.Runs.{Standing}
@@ -53,8 +51,8 @@ module _ {K : Type 0} {orders : K → Order → Result Outgoing Untaken → K �
   known_after : (old new : Standing Line K) → Alternates orders hears is_resting failed till loses malforms old new → Known old.till → Known new.till
   known_after old new a k = known_turn old new a.till_turn k
 
-  known_begun : (step : Step) (old new : Standing Line K) → Begins orders hears is_resting failed till loses malforms step old new → Known new.till
-  known_begun step old new b = taken-stays follows old.till (order_of step) b.ordered.sends.outgoing new.till b.ordered.sends.ordered
+  known_begun : (order : Order) (verdict : Verdict) (old new : Standing Line K) → Begins orders hears is_resting failed till loses malforms order verdict old new → Known new.till
+  known_begun order verdict old new b = taken-stays follows old.till order b.ordered.sends.outgoing new.till b.ordered.sends.ordered
 
   over_lost : (old new : K) → loses old new → Known old → IsEnded (till new).state
   over_lost old new lost k = lost-over (till old).state (till new).state (follows.loses_as old new lost).0 k.0
@@ -67,28 +65,28 @@ module _ {K : Type 0} {orders : K → Order → Result Outgoing Untaken → K �
       let heard = heard-before hears fault _ _ broken.read broken.written old.till b.middle broken.breaks in
       reported-ended follows fault b.middle new.till b.reported (hearings-stay follows old.till b.middle heard.0 heard.1 heard.2 k).0
 
-  -- ---- a step
+  -- ---- an order
 
   -- that many alternations were made, and it is known what became of the order where none runs
-  pub record Going (step : Step) (count : ℕ) (old now : Standing Line K) : Type 0 where
-    pub underway : Underway orders hears is_resting failed till loses malforms step count old now
+  pub record Going (order : Order) (verdict : Verdict) (count : ℕ) (old now : Standing Line K) : Type 0 where
+    pub underway : Underway orders hears is_resting failed till loses malforms order verdict count old now
     pub known : Known now.till
 
-  pub begun : (step : Step) (old sent : Standing Line K) → Begins orders hears is_resting failed till loses malforms step old sent → Going step 0 old sent
-  begun step old sent b = record {
+  pub begun : (order : Order) (verdict : Verdict) (old sent : Standing Line K) → Begins orders hears is_resting failed till loses malforms order verdict old sent → Going order verdict 0 old sent
+  begun order verdict old sent b = record {
     underway = record { sent = sent; begins = b; alternations = refl };
-    known = known_begun step old sent b;
+    known = known_begun order verdict old sent b;
   }
 
-  pub begun_not : (step : Step) (fault : RunFault) (old new : Standing Line K) → BeginsNot orders hears is_resting failed till loses malforms step fault old new → Fails orders hears is_resting failed till loses malforms step fault old new
-  begun_not step fault old new b = record {
+  pub begun_not : (order : Order) (verdict : Verdict) (fault : RunFault) (old new : Standing Line K) → BeginsNot orders hears is_resting failed till loses malforms order verdict fault old new → Fails orders hears is_resting failed till loses malforms order verdict fault old new
+  begun_not order verdict fault old new b = record {
     fails = inl b;
-    over = unsent-over follows fault (order_of step) old.till new.till _ _ b.not_ordered.not_sent;
+    over = unsent-over follows fault order old.till new.till _ _ b.not_ordered.not_sent;
   }
 
-  pub goes_on : (step : Step) (count : ℕ) (old now new : Standing Line K) (ended : Option Outcome) → Going step count old now → Alternates orders hears is_resting failed till loses malforms now new
-      → failed new.till ≡ false → ended ≡ ended_of (till new.till) → ended ≡ None → Going step (count + 1) old new
-  goes_on step count old now new ended going a whole is none =
+  pub goes_on : (order : Order) (verdict : Verdict) (count : ℕ) (old now new : Standing Line K) (ended : Option Outcome) → Going order verdict count old now → Alternates orders hears is_resting failed till loses malforms now new
+      → failed new.till ≡ false → ended ≡ ended_of (till new.till) → ended ≡ None → Going order verdict (count + 1) old new
+  goes_on order verdict count old now new ended going a whole is none =
       let known = known_after now new a going.known in
       rw add-one (record {
         underway = record {
@@ -99,9 +97,9 @@ module _ {K : Type 0} {orders : K → Order → Result Outgoing Untaken → K �
         known = known;
       })
 
-  pub comes : (step : Step) (count : ℕ) (outcome : Outcome) (old now new : Standing Line K) (ended : Option Outcome) → count < 1000 → Going step count old now → Alternates orders hears is_resting failed till loses malforms now new
-      → failed new.till ≡ false → ended ≡ ended_of (till new.till) → ended ≡ Some outcome → Comes orders hears is_resting failed till loses malforms step outcome old new
-  comes step count outcome old now new ended fewer going a whole is some =
+  pub comes : (order : Order) (verdict : Verdict) (count : ℕ) (outcome : Outcome) (old now new : Standing Line K) (ended : Option Outcome) → count < 1000 → Going order verdict count old now → Alternates orders hears is_resting failed till loses malforms now new
+      → failed new.till ≡ false → ended ≡ ended_of (till new.till) → ended ≡ Some outcome → Comes orders hears is_resting failed till loses malforms order verdict outcome old new
+  comes order verdict count outcome old now new ended fewer going a whole is some =
       let came = idle (till_rests (till new.till)) (till new.till).state.last_outcome outcome (sym is ∙ some) in
       record {
         at_last = record { count = count; middle = now; fewer = fewer; underway = going.underway; last = a };
@@ -110,16 +108,16 @@ module _ {K : Type 0} {orders : K → Order → Result Outgoing Untaken → K �
         came = came.1;
       }
 
-  pub breaks : (step : Step) (count : ℕ) (fault : LineFault) (old now new : Standing Line K) → count < 1000 → Going step count old now → BreaksOff orders hears is_resting failed till loses malforms fault now new
-      → Fails orders hears is_resting failed till loses malforms step (LineBroke fault) old new
-  breaks step count fault old now new fewer going b = record {
+  pub breaks : (order : Order) (verdict : Verdict) (count : ℕ) (fault : LineFault) (old now new : Standing Line K) → count < 1000 → Going order verdict count old now → BreaksOff orders hears is_resting failed till loses malforms fault now new
+      → Fails orders hears is_resting failed till loses malforms order verdict (LineBroke fault) old new
+  breaks order verdict count fault old now new fewer going b = record {
     fails = inr (inl (record { count = count; middle = now; broken = fault; fewer = fewer; underway = going.underway; last = b; is = refl }));
     over = over_broken fault now new b going.known;
   }
 
-  pub book_fails : (step : Step) (count : ℕ) (old now new : Standing Line K) → count < 1000 → Going step count old now → Alternates orders hears is_resting failed till loses malforms now new → failed new.till ≡ true
-      → Fails orders hears is_resting failed till loses malforms step (BookBroke Failed) old new
-  book_fails step count old now new fewer going a is = record {
+  pub book_fails : (order : Order) (verdict : Verdict) (count : ℕ) (old now new : Standing Line K) → count < 1000 → Going order verdict count old now → Alternates orders hears is_resting failed till loses malforms now new → failed new.till ≡ true
+      → Fails orders hears is_resting failed till loses malforms order verdict (BookBroke Failed) old new
+  book_fails order verdict count old now new fewer going a is = record {
     fails = inr (inr (inl (record {
       at_last = record { count = count; middle = now; fewer = fewer; underway = going.underway; last = a };
       has_failed = is;
@@ -128,12 +126,12 @@ module _ {K : Type 0} {orders : K → Order → Result Outgoing Untaken → K �
     over = (known_after now new a going.known).1 is;
   }
 
-  pub given_up : (step : Step) (count : ℕ) (old now new : Standing Line K) → count ≡ 1000 → Going step count old now → new.line ≡ now.line → loses now.till new.till
-      → Fails orders hears is_resting failed till loses malforms step (LineBroke faults.Turns) old new
-  given_up step count old now new all going line lost = record {
+  pub given_up : (order : Order) (verdict : Verdict) (count : ℕ) (old now new : Standing Line K) → count ≡ 1000 → Going order verdict count old now → new.line ≡ now.line → loses now.till new.till
+      → Fails orders hears is_resting failed till loses malforms order verdict (LineBroke faults.Turns) old new
+  given_up order verdict count old now new all going line lost = record {
     fails = inr (inr (inr (record {
       middle = now;
-      underway = subst (λ n. Underway orders hears is_resting failed till loses malforms step n old now) all going.underway;
+      underway = subst (λ n. Underway orders hears is_resting failed till loses malforms order verdict n old now) all going.underway;
       same_line = line;
       loses_line = lost;
       is = refl;

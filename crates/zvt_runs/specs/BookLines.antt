@@ -8,14 +8,15 @@ use Rattle.zvt_kept.specs.declared.recovery.Recovered.{Recovered}
 use Rattle.zvt_runs.specs.BookObjects.{entries_json, sum_value, unclears_json}
 use Rattle.zvt_runs.specs.Books.{entries_text, unclears_text}
 use Rattle.zvt_runs.specs.Outcomes.{total_text}
-use Rattle.zvt_runs.specs.Settlements.{settled_lines}
+use Rattle.zvt_runs.specs.SettledSum.{settled_part}
 
--- the entries, the unclear payments, what the asks have settled, and the sum of the entries that were not reversed
+-- The entries, the unclear payments, and what the asks have settled; the sum of what was settled as paid, and the sum of
+-- the entries that were not reversed.
 abbrev pub book_text : Recovered → List ℕ
 book_text recovered =
     let till = recovered.till.till in
     entries_text till.state.book recovered.booked.items ++ unclears_text till.state.unclear till.heard recovered.unclear.items
-    ++ settled_lines Text recovered.till.settled.items ++ total_text (total till.state.book)
+    ++ settled_part Text till.state.book till.state.unclear recovered.till.settled.items ++ total_text (total till.state.book)
 
 -- the same as objects
 abbrev pub book_json : Recovered → List ℕ
@@ -24,7 +25,7 @@ book_json recovered =
     let s = till.state in
     entries_json s.settings.currency s.book recovered.booked.items
     ++ unclears_json s.settings.currency s.unclear till.heard recovered.unclear.items
-    ++ settled_lines Json recovered.till.settled.items
+    ++ settled_part Json s.book s.unclear recovered.till.settled.items
     ++ line_text (sum_value s.settings.currency (total s.book))
 
 -- the book in this form

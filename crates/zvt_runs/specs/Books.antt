@@ -9,7 +9,7 @@ use Rattle.zvt_till.specs.declared.entries.Doubt.TheVariants.{No, Unclear, Taken
 use Rattle.zvt_till.specs.declared.entries.Entry.{Entry}
 use Rattle.zvt_till.specs.declared.numbers.Numbers.{Numbers}
 use Rattle.zvt_till.specs.declared.outcomes.Cause.{Cause}
-use Rattle.zvt_runs.specs.Notes.{named_text}
+use Rattle.zvt_runs.specs.Named.{named_text}
 
 -- the text after an entry that a completed reversal took back
 abbrev pub reversed_text : Bool → List ℕ

@@ -3,6 +3,7 @@ pub mod Steps
 pub mod Outcomes
 pub mod Objects
 pub mod Made
+pub mod Named
 pub mod Notes
 pub mod Plans
 pub mod Runs
@@ -11,8 +12,10 @@ pub mod TillEnd
 pub mod BothEnds
 pub mod TillRuns
 pub mod Books
+pub mod Asking
 pub mod BookLines
 pub mod Settlements
+pub mod SettledSum
 pub mod BookObjects
 pub mod Service
 pub mod Settings

@@ -17,18 +17,21 @@ use Rattle.zvt_till.specs.declared.outcomes.Cause.{Cause}
 use Rattle.zvt_till.specs.declared.outcomes.Outcome.{Outcome}
 use Rattle.zvt_till.specs.declared.outcomes.Outcome.TheVariants.{Registered, Paid, Declined, Refused, Aborted, Unclear, Reversed, DayClosed}
 use Rattle.zvt_runs.specs.declared.arguments.Step.{Step}
-use Rattle.zvt_runs.specs.declared.arguments.Step.TheVariants.{Register, Pay, Reverse, CloseDay, Decline}
+use Rattle.zvt_settle.specs.Names.{settlement_words}
+use Rattle.zvt_settle.specs.declared.deciding.Settlement.{Settlement}
+use Rattle.zvt_settle.specs.declared.deciding.Settlement.TheVariants.{Paid as PaidThen, NotPaid, Reversed as ReversedThen, NotReversed}
+use Rattle.zvt_runs.specs.declared.arguments.Step.TheVariants.{Register, Pay, Reverse, CloseDay, Decline, Ask as AskStep, Settle}
+use Rattle.zvt_runs.specs.declared.asking.Asked.{Asked}
+use Rattle.zvt_runs.specs.declared.asking.Asked.TheVariants.{Nothing, Unsettled, Settled}
+use Rattle.zvt_runs.specs.declared.asking.Ended.{Ended}
+use Rattle.zvt_runs.specs.declared.asking.Ended.TheVariants.{Order as EndedOrder, Ask}
 use Rattle.zvt_runs.specs.Made.{Made}
+use Rattle.zvt_runs.specs.Named.{named_text}
+use Rattle.zvt_runs.specs.Settlements.{counted}
 
 -- the name of the cause, and its meaning
 abbrev pub why_unclear : Cause → List ℕ
 why_unclear cause = codes " is unclear (" ++ cause_name cause ++ codes ": " ++ cause_words cause ++ codes ")"
-
--- the numbers that the terminal named for a payment, each after a space
-abbrev pub named_text : (trace : Option ℕ) → (receipt : Option (List ℕ)) → List ℕ
-named_text None None = []
-named_text None (Some receipt) = codes " receipt " ++ encode_upper receipt
-named_text (Some trace) receipt = 32 ∷ numbers_text trace receipt
 
 -- the numbers that the terminal named, in words
 abbrev pub heard_text : Option ℕ → Option (List ℕ) → List ℕ
@@ -75,6 +78,8 @@ unclear_note (Pay amount) cause till = payment_note amount cause till.numbers
 unclear_note (Decline amount code) cause till = payment_note amount cause till.numbers
 unclear_note (Reverse place) cause till = row_note place (slice_get till.state.book place) cause till.numbers
 unclear_note CloseDay cause till = closing_note cause
+unclear_note AskStep cause till = []
+unclear_note Settle cause till = []
 
 -- the note on an order with this outcome
 abbrev pub outcome_note : Step → Outcome → TillValue → List ℕ
@@ -100,14 +105,41 @@ abbrev pub no_space_note : List ℕ → List ℕ
 no_space_note word =
     codes "zvt: " ++ word ++ codes " was not sent (NoSpace): the disk of the book has no room for the records of a payment: free some space, then run the step again\n"
 
+-- the row that was settled
+abbrev pub row_settled : Settlement → List ℕ
+row_settled (PaidThen row trace receipt) = counted (codes "unclear payment ") row (codes ": ")
+row_settled (NotPaid row) = counted (codes "unclear payment ") row (codes ": ")
+row_settled (ReversedThen entry) = counted (codes "booked payment ") entry (codes ": ")
+row_settled (NotReversed entry) = counted (codes "booked payment ") entry (codes ": ")
+
+-- what follows from a settlement
+abbrev pub advice : Settlement → List ℕ
+advice (PaidThen row trace receipt) = codes " as" ++ named_text (Some trace) receipt ++ codes ": do not order it again\n"
+advice (NotPaid row) = codes ": you may order it again\n"
+advice (ReversedThen entry) = codes ": do not refund the amount again\n"
+advice (NotReversed entry) = codes ": you may reverse it again\n"
+
+abbrev pub settlement_note : Settlement → List ℕ
+settlement_note settlement = codes "zvt: " ++ row_settled settlement ++ settlement_words settlement ++ advice settlement
+
+-- the note on an ask
+abbrev pub asked_note : Asked → List ℕ
+asked_note Nothing = []
+asked_note Unsettled = codes "zvt: the terminal's answer does not settle the unclear order: look at the terminal's journal or its last receipt\n"
+asked_note (Settled settlement) = settlement_note settlement
+
+abbrev pub ended_note : Step → Ended → TillValue → List ℕ
+ended_note step (EndedOrder outcome) till = outcome_note step outcome till
+ended_note step (Ask asked) till = asked_note asked
+
 -- the note on an order with the outcome that the till reports, if any
 abbrev pub last_note : Step → Option Outcome → TillValue → List ℕ
 last_note step None till = []
 last_note step (Some outcome) till = outcome_note step outcome till
 
 -- the note on a step with this result, given the till after it
-abbrev pub step_note : (word : List ℕ) → Step → Result Outcome RunFault → TillValue → List ℕ
-step_note word step (Ok outcome) till = outcome_note step outcome till
+abbrev pub step_note : (word : List ℕ) → Step → Result Ended RunFault → TillValue → List ℕ
+step_note word step (Ok ended) till = ended_note step ended till
 step_note word step (Err (Order why)) till = unsent_note word why
 step_note word step (Err (Line fault)) till = last_note step till.state.last_outcome till
 step_note word step (Err (BookBroke NoSpace)) till = no_space_note word

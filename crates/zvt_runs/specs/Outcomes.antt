@@ -1,4 +1,4 @@
--- The texts of outcomes.
+-- The texts of what steps came to: the outcomes of orders and asks.
 use Rattle.std.specs.Prelude.{ℕ, List, [], ◌∷◌, ◌++◌, codes, Option, Some, None, Result, Ok, Err}
 use Rattle.std.specs.Fmt.{decimal}
 use Rattle.zvt_text.specs.Numbers.{numbers_text}
@@ -9,6 +9,11 @@ use Rattle.zvt_till.specs.declared.keeper.BookFault.TheVariants.{NoSpace, Failed
 use Rattle.zvt_till.specs.declared.line.RunFault.TheVariants.{Order, Line, Book as BookBroke}
 use Rattle.zvt_till.specs.declared.outcomes.Outcome.{Outcome}
 use Rattle.zvt_till.specs.declared.outcomes.Outcome.TheVariants.{Registered, Paid, Declined, Refused, Aborted, Unclear, Reversed, DayClosed}
+use Rattle.zvt_runs.specs.declared.asking.Asked.{Asked}
+use Rattle.zvt_runs.specs.declared.asking.Asked.TheVariants.{Nothing, Unsettled, Settled}
+use Rattle.zvt_runs.specs.declared.asking.Ended.{Ended}
+use Rattle.zvt_runs.specs.declared.asking.Ended.TheVariants.{Order as EndedOrder, Ask}
+use Rattle.zvt_runs.specs.Settlements.{settled_words}
 
 -- a booked payment, by its numbers
 abbrev pub paid_text : ℕ → Option (List ℕ) → List ℕ
@@ -32,14 +37,24 @@ outcome_text DayClosed = codes "day closed"
 abbrev pub no_space : List ℕ
 no_space = codes "NoSpace"
 
--- the outcome of an order whose line broke or whose book failed
-abbrev pub broken_text : Option Outcome → List ℕ
-broken_text None = []
-broken_text (Some outcome) = outcome_text outcome
+-- what an ask came to
+abbrev pub asked_text : Asked → List ℕ
+asked_text Nothing = codes "nothing to settle"
+asked_text Unsettled = codes "not settled"
+asked_text (Settled settlement) = settled_words settlement
 
--- the outcome of a step; `last` is the outcome of the till's last order
-abbrev pub ending_text : Result Outcome RunFault → Option Outcome → List ℕ
-ending_text (Ok outcome) last = outcome_text outcome
+abbrev pub ended_text : Ended → List ℕ
+ended_text (EndedOrder outcome) = outcome_text outcome
+ended_text (Ask asked) = asked_text asked
+
+-- what a step came to whose line broke or whose book failed
+abbrev pub broken_text : Option Ended → List ℕ
+broken_text None = []
+broken_text (Some ended) = ended_text ended
+
+-- what a step came to; `last` is its end where the line broke or the book failed
+abbrev pub ending_text : Result Ended RunFault → Option Ended → List ℕ
+ending_text (Ok ended) last = ended_text ended
 ending_text (Err (Order why)) last = codes "not sent: " ++ refusal_name why
 ending_text (Err (Line fault)) last = broken_text last
 ending_text (Err (BookBroke NoSpace)) last = codes "not sent: " ++ no_space

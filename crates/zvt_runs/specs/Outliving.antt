@@ -1,13 +1,14 @@
 -- The book that a crash at any moment of a run over TCP leaves.
-use Rattle.std.specs.Prelude.{◌≡◌, ℕ, false, List, ◌∷◌, ◌++◌, map, Option, Result}
+use Rattle.std.specs.Prelude.{◌≡◌, ℕ, false, List, ◌∷◌, ◌++◌, map, Option, None, Some, Result}
 use Rattle.zvt_stream.specs.LineReading.{LineReading}
 use Rattle.zvt_stream.specs.EndState.{EndState}
 use Rattle.zvt_till.specs.declared.happenings.Happening.{Happening}
+use Rattle.zvt_till.specs.declared.orders.Order.{Order}
 use Rattle.zvt_till.specs.Sending.{Settings}
 use Rattle.zvt_journal.specs.Device.{LeavesOnly}
-use Rattle.zvt_kept.specs.Keeping.{kept_connects, kept_orders}
-use Rattle.zvt_kept.specs.KeptTill.{HasLog, Hears, KeptValue, LosesLine, has_failed, kept_rests, till_of, with_note}
-use Rattle.zvt_kept.specs.Outliving.{HappenInAll, IsBetween, KeptStep, connects, runs}
+use Rattle.zvt_kept.specs.Keeping.{kept_asks, kept_connects, kept_orders}
+use Rattle.zvt_kept.specs.KeptTill.{HasLog, Hears, KeptValue, LosesLine, has_failed, kept_rests, settling_in, till_of, with_note}
+use Rattle.zvt_kept.specs.Outliving.{HappenInAll, IsBetween, KeptStep, asks, connects, runs}
 use Rattle.zvt_runs.specs.declared.fault.EndFault.{EndFault}
 use Rattle.zvt_runs.specs.declared.plans.Planned.{Planned}
 use Rattle.zvt_runs.specs.declared.plans.StepOptions.{StepOptions}
@@ -17,9 +18,13 @@ use Rattle.zvt_runs.specs.Steps.{order_of}
 use Rattle.zvt_runs.specs.TillEnd.{BeginsThere, MakesThere}
 use Rattle.zvt_runs.specs.OverTcp.{AnswersOverTcp}
 
+abbrev pub call_by : Option Order → KeptStep
+call_by None = asks
+call_by (Some order) = runs order
+
 -- the call of a till with a journal that makes a step
 abbrev pub call_of : Planned → KeptStep
-call_of planned = runs (order_of planned.step)
+call_of planned = call_by (order_of planned.step)
 
 -- the calls of a run that makes these steps: it gets a line, and then makes them
 abbrev pub calls_of : List Planned → List KeptStep
@@ -28,7 +33,7 @@ calls_of plan = connects ∷ map call_of plan
 module _ {D : Type 0} (seen : D → List ℕ) (may_leave : D → List ℕ → Type 0) (moment : D → ℕ) (left_since : D → ℕ → List ℕ → Type 0) (faults : D → ℕ) where
   -- the result of a step of a till with a journal, whose order has the note of the step's word
   abbrev pub MakesKept : Law EndState (KeptValue D)
-  MakesKept = noting with_note (MakesThere (kept_orders seen may_leave moment left_since faults) (Hears seen may_leave moment left_since faults) kept_rests has_failed till_of (LosesLine seen may_leave moment left_since faults) (LosesLine seen may_leave moment left_since faults))
+  MakesKept = noting with_note (MakesThere (kept_orders seen may_leave moment left_since faults) (Hears seen may_leave moment left_since faults) kept_rests has_failed till_of (LosesLine seen may_leave moment left_since faults) (LosesLine seen may_leave moment left_since faults) (kept_asks seen may_leave moment left_since faults) settling_in)
 
   -- The first steps of the plan were made. A crash at any moment leaves a journal of the till's log and a prefix of the
   -- events of these steps. At the end the journal contains all of them, unless it failed.

@@ -7,6 +7,7 @@ use Rattle.zvt_till.specs.declared.keeper.BookFault.{BookFault}
 use Rattle.zvt_till.specs.Sending.{Settings}
 use Rattle.zvt_stream.specs.declared.line.LineFault.{LineFault}
 use Rattle.zvt_till.specs.View.{TillValue}
+use Rattle.zvt_settle.specs.declared.settling.SettlingTill.{SettlingTill}
 use Rattle.zvt_runs.specs.Runs.{Law, StepLaw}
 use Rattle.zvt_runs.specs.RunsPlan.{RunsPlan}
 use Rattle.zvt_runs.specs.TillRuns.{AnswersPlan}
@@ -46,7 +47,7 @@ module _ {L K : Type 0} (connects : K → Result Unit BookFault → K → Type 0
 
 -- The result of a run of these steps, possibly with a trace. Without a connection nothing is written or reported. The
 -- words of the steps were parsed before, so none of them is wrong.
-abbrev pub AnswersRun : {L : Type 0} → StepLaw L TillValue → (L → Type 0) → Settings → StepOptions → List Planned → (old new : Option (List ℕ)) → (Reported : List ℕ → List Entry → Type 0) → (Quiet : Type 0) → Result Unit EndFault → Type 0
+abbrev pub AnswersRun : {L : Type 0} → StepLaw L SettlingTill → (L → Type 0) → Settings → StepOptions → List Planned → (old new : Option (List ℕ)) → (Reported : List ℕ → List Entry → Type 0) → (Quiet : Type 0) → Result Unit EndFault → Type 0
 AnswersRun makes begins settings options plan old new Reported Quiet (Ok done) = AnswersTraced (RunsPlan makes begins settings options plan old new Reported) (Ok done)
 AnswersRun makes begins settings options plan old new Reported Quiet (Err (LineBroke fault)) = AnswersTraced (RunsPlan makes begins settings options plan old new Reported) (Err (LineBroke fault))
 AnswersRun makes begins settings options plan old new Reported Quiet (Err (Silent seconds)) = (fault : LineFault) × AnswersTraced (RunsPlan makes begins settings options plan old new Reported) (Err (LineBroke fault))

@@ -1,5 +1,6 @@
 -- The steps that the words of a run name.
-use Rattle.std.specs.Prelude.{◌≡◌, ℕ, List, [], ◌∷◌, ◌++◌, codes, map, take, Some, None, Result, Ok, Err, slice_get, Vec}
+use Rattle.std.specs.Prelude.{◌≡◌, ℕ, ◌+◌, Bool, true, false, List, [], ◌∷◌, ◌++◌, codes, map, take, Option, Some, None, Result, Ok, Err, slice_get, Vec}
+use Rattle.std.specs.List.{insert, position}
 use Rattle.std.specs.String.{string_bytes}
 use Rattle.std.specs.Global.{Global}
 use Rattle.zvt_runs.specs.declared.fault.EndFault.{EndFault}
@@ -8,6 +9,7 @@ use Rattle.zvt_runs.specs.declared.plans.Planned.{Planned}
 use Rattle.zvt_runs.specs.declared.arguments.Ends.{Ends}
 use Rattle.zvt_runs.specs.declared.arguments.Ends.TheVariants.{Both, Till}
 use Rattle.zvt_runs.specs.declared.arguments.Step.{Step}
+use Rattle.zvt_runs.specs.declared.arguments.Step.TheVariants.{Register, Settle}
 use Rattle.zvt_runs.specs.Words.{step_of}
 
 -- the default words of a run
@@ -30,6 +32,28 @@ pub record AddsStep (word : List ℕ) (step : Step) (old new : List Planned) : T
   pub added : new ≡ old ++ planned ∷ []
   pub its_word : string_bytes planned.word ≡ word
   pub its_step : planned.step ≡ step
+
+abbrev pub is_registration : Step → Bool
+is_registration Register = true
+is_registration _ = false
+
+abbrev pub registers : Planned → Bool
+registers planned = is_registration planned.step
+
+-- This step asks if an answer can be of use. It was inserted behind the registration at this index.
+pub record SettlesBehind (place : ℕ) (plan settling : List Planned) : Type 0 where
+  pub settle : Planned
+  pub inserted : settling ≡ insert plan (place + 1) settle
+  pub its_word : string_bytes settle.word ≡ codes "ask"
+  pub its_step : settle.step ≡ Settle
+
+-- the step is added behind the first registration, if there is one
+abbrev pub SettlesAt : Option ℕ → (plan settling : List Planned) → Type 0
+SettlesAt None plan settling = settling ≡ plan
+SettlesAt (Some place) plan settling = SettlesBehind place plan settling
+
+abbrev pub SettlesOnce : (plan settling : List Planned) → Type 0
+SettlesOnce plan settling = SettlesAt (position registers plan) plan settling
 
 -- the words before this one name steps, and this one names none
 pub record StopsAt (ends : Ends) (words : List (List ℕ)) (at : ℕ) : Type 0 where

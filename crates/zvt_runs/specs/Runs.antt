@@ -7,7 +7,7 @@ use Rattle.zvt_runs.specs.declared.plans.StepOptions.{StepOptions}
 use Rattle.zvt_till.specs.Marks.{total}
 use Rattle.zvt_till.specs.View.{TillValue}
 use Rattle.zvt_till.specs.declared.line.RunFault.{RunFault}
-use Rattle.zvt_till.specs.declared.outcomes.Outcome.{Outcome}
+use Rattle.zvt_runs.specs.declared.asking.Ended.{Ended}
 use Rattle.zvt_runs.specs.declared.fault.EndFault.{EndFault}
 use Rattle.zvt_runs.specs.declared.fault.EndFault.TheVariants.{Book, Line as LineBroke, Memory, Unsuccessful, Write}
 use Rattle.zvt_runs.specs.declared.plans.Planned.{Planned}
@@ -18,7 +18,7 @@ use Rattle.zvt_runs.specs.Objects.{total_line}
 use Rattle.zvt_runs.specs.Words.{IsNoteOf}
 
 -- the next step is made
-abbrev pub GoesOn : Result Outcome RunFault → Type 0
+abbrev pub GoesOn : Result Ended RunFault → Type 0
 GoesOn result = (stop_of result ≡ None) × (wants_memory result ≡ false)
 
 -- a line and its till
@@ -31,11 +31,11 @@ standing line till = record { line = line; till = till }
 
 -- the result of a step that a till, alone or with a book, makes on a line
 abbrev pub StepLaw : Type 0 → Type 0 → Type 1
-StepLaw L T = L → T → Step → Result Outcome RunFault → L → T → Type 0
+StepLaw L T = L → T → Step → Result Ended RunFault → L → T → Type 0
 
 -- the result of a step that a word names
 abbrev pub Law : Type 0 → Type 0 → Type 1
-Law L T = L → T → Planned → Result Outcome RunFault → L → T → Type 0
+Law L T = L → T → Planned → Result Ended RunFault → L → T → Type 0
 
 -- the step itself counts, and the rest of the word does not
 abbrev pub by_step : {L T : Type 0} → StepLaw L T → Law L T
@@ -47,14 +47,14 @@ noting noted makes line till planned result left new =
     (note : List ℕ) × IsNoteOf (string_bytes planned.word) note × makes line (noted till note) planned.step result left new
 
 -- a step that was made, with the till after it as contracts see it
-abbrev pub made_of : {T : Type 0} → (T → TillValue) → Planned → Result Outcome RunFault → T → Made
+abbrev pub made_of : {T : Type 0} → (T → TillValue) → Planned → Result Ended RunFault → T → Made
 made_of seen planned result till = record { planned = planned; result = result; till = seen till }
 
 -- These steps were made one after another. None stopped the run, and memory sufficed for each order.
 abbrev pub MakesAll : {L T : Type 0} → (T → TillValue) → Law L T → List Planned → Standing L T → Standing L T → List Made → Type 0
 MakesAll seen makes [] before after all = (after ≡ before) × (all ≡ [])
 MakesAll {L} {T} seen makes (planned ∷ plan) before after all =
-    (result : Result Outcome RunFault) × (middle : Standing L T) × (later : List Made)
+    (result : Result Ended RunFault) × (middle : Standing L T) × (later : List Made)
     × makes before.line before.till planned result middle.line middle.till × GoesOn result × MakesAll seen makes plan middle after later
     × (all ≡ made_of seen planned result middle.till ∷ later)
 
@@ -64,7 +64,7 @@ pub record BreaksIn {L T : Type 0} (seen : T → TillValue) (makes : Law L T) (p
   pub planned : Planned
   pub later : List Planned
   pub middle : Standing L T
-  pub result : Result Outcome RunFault
+  pub result : Result Ended RunFault
   pub earlier : List Made
   pub cut : plan ≡ done ++ planned ∷ later
   pub made : MakesAll seen makes done before middle earlier
@@ -101,7 +101,7 @@ pub record EndsInStep {L T : Type 0} (seen : T → TillValue) (makes : Law L T) 
   pub planned : Planned
   pub later : List Planned
   pub middle : Standing L T
-  pub result : Result Outcome RunFault
+  pub result : Result Ended RunFault
   pub earlier : List Made
   pub between : Option (List ℕ)
   pub cut : plan ≡ done ++ planned ∷ later
@@ -118,7 +118,7 @@ pub record RunsOut {L T : Type 0} (seen : T → TillValue) (makes : Law L T) (op
   pub planned : Planned
   pub later : List Planned
   pub middle : Standing L T
-  pub result : Result Outcome RunFault
+  pub result : Result Ended RunFault
   pub earlier : List Made
   pub cut : plan ≡ done ++ planned ∷ later
   pub all : MakesAll seen makes done before middle earlier

@@ -11,7 +11,7 @@ use Rattle.zvt_text.specs.declared.form.Form.TheVariants.{Text, Json}
 use Rattle.zvt_settle.specs.declared.deciding.Settlement.{Settlement}
 use Rattle.zvt_settle.specs.declared.deciding.Settlement.TheVariants.{Paid, NotPaid, Reversed, NotReversed}
 use Rattle.zvt_runs.specs.BookObjects.{receipt_part, trace_part, with_receipt, with_trace}
-use Rattle.zvt_runs.specs.Notes.{named_text}
+use Rattle.zvt_runs.specs.Named.{named_text}
 
 -- ---- as text
 
@@ -21,33 +21,40 @@ counted words index more = words ++ decimal (index + 1) ++ more
 
 -- The unclear payment or the entry of the book that was settled, by its number among the lines of its kind; the name of the
 -- settlement; and the numbers of a payment that was settled as paid.
+abbrev pub settled_words : Settlement → List ℕ
+settled_words (Paid row trace receipt) = counted (codes "settled unclear ") row (codes " Paid") ++ named_text (Some trace) receipt
+settled_words (NotPaid row) = counted (codes "settled unclear ") row (codes " NotPaid")
+settled_words (Reversed entry) = counted (codes "settled booked ") entry (codes " Reversed")
+settled_words (NotReversed entry) = counted (codes "settled booked ") entry (codes " NotReversed")
+
 abbrev pub settlement_text : Settlement → List ℕ
-settlement_text (Paid row trace receipt) = counted (codes "settled unclear ") row (codes " Paid") ++ named_text (Some trace) receipt ++ 10 ∷ []
-settlement_text (NotPaid row) = counted (codes "settled unclear ") row (codes " NotPaid\n")
-settlement_text (Reversed entry) = counted (codes "settled booked ") entry (codes " Reversed\n")
-settlement_text (NotReversed entry) = counted (codes "settled booked ") entry (codes " NotReversed\n")
+settlement_text settlement = settled_words settlement ++ 10 ∷ []
 
 -- ---- as JSON
 
-abbrev pub settled_as : Members → Data
-settled_as members = object (member (codes "settled") (object members) no_members)
+abbrev pub settled_as : Data → Data
+settled_as what = object (member (codes "settled") what no_members)
 
 abbrev pub unclear_member : (row : ℕ) → Members
 unclear_member row = member (codes "unclear") (count_value (row + 1)) no_members
 
 -- the name of the settlement and the number of the unclear payment
 abbrev pub payment_settled : (name : List ℕ) → (receipt : Option (List ℕ)) → (trace : Option ℕ) → (row : ℕ) → Data
-payment_settled name receipt trace row = settled_as (member (codes "name") (string name) (with_receipt receipt (with_trace trace (unclear_member row))))
+payment_settled name receipt trace row = object (member (codes "name") (string name) (with_receipt receipt (with_trace trace (unclear_member row))))
 
 -- the number of the entry and the name of the settlement
 abbrev pub reversal_settled : (name : List ℕ) → (entry : ℕ) → Data
-reversal_settled name entry = settled_as (member (codes "booked") (count_value (entry + 1)) (member (codes "name") (string name) no_members))
+reversal_settled name entry = object (member (codes "booked") (count_value (entry + 1)) (member (codes "name") (string name) no_members))
+
+-- a settlement, by its name and its numbers
+abbrev pub settled_value : Settlement → Data
+settled_value (Paid row trace receipt) = payment_settled (codes "Paid") receipt (Some trace) row
+settled_value (NotPaid row) = payment_settled (codes "NotPaid") None None row
+settled_value (Reversed entry) = reversal_settled (codes "Reversed") entry
+settled_value (NotReversed entry) = reversal_settled (codes "NotReversed") entry
 
 abbrev pub settlement_value : Settlement → Data
-settlement_value (Paid row trace receipt) = payment_settled (codes "Paid") receipt (Some trace) row
-settlement_value (NotPaid row) = payment_settled (codes "NotPaid") None None row
-settlement_value (Reversed entry) = reversal_settled (codes "Reversed") entry
-settlement_value (NotReversed entry) = reversal_settled (codes "NotReversed") entry
+settlement_value settlement = settled_as (settled_value settlement)
 
 -- ---- in each form
 
@@ -75,10 +82,10 @@ the_same_day = refl
 -- ---- the same texts, as they are written
 
 unfoldable pub paid_json : (row trace : ℕ) → (receipt : Option (List ℕ)) → List ℕ
-paid_json row trace receipt = codes "{\"settled\":{\"name\":\"Paid\"" ++ receipt_part receipt ++ trace_part (Some trace) ++ counted (codes ",\"unclear\":") row (codes "}}\n")
+paid_json row trace receipt = codes "{\"name\":\"Paid\"" ++ receipt_part receipt ++ trace_part (Some trace) ++ counted (codes ",\"unclear\":") row (codes "}")
 
-abbrev pub settlement_json : Settlement → List ℕ
-settlement_json (Paid row trace receipt) = paid_json row trace receipt
-settlement_json (NotPaid row) = counted (codes "{\"settled\":{\"name\":\"NotPaid\",\"unclear\":") row (codes "}}\n")
-settlement_json (Reversed entry) = counted (codes "{\"settled\":{\"booked\":") entry (codes ",\"name\":\"Reversed\"}}\n")
-settlement_json (NotReversed entry) = counted (codes "{\"settled\":{\"booked\":") entry (codes ",\"name\":\"NotReversed\"}}\n")
+abbrev pub settled_json : Settlement → List ℕ
+settled_json (Paid row trace receipt) = paid_json row trace receipt
+settled_json (NotPaid row) = counted (codes "{\"name\":\"NotPaid\",\"unclear\":") row (codes "}")
+settled_json (Reversed entry) = counted (codes "{\"booked\":") entry (codes ",\"name\":\"Reversed\"}")
+settled_json (NotReversed entry) = counted (codes "{\"booked\":") entry (codes ",\"name\":\"NotReversed\"}")

@@ -8,7 +8,7 @@ use Rattle.zvt_text.specs.Words.{number_in, trailing}
 use Rattle.zvt_runs.specs.declared.arguments.Ends.{Ends}
 use Rattle.zvt_runs.specs.declared.arguments.Ends.TheVariants.{Both, Till}
 use Rattle.zvt_runs.specs.declared.arguments.Step.{Step}
-use Rattle.zvt_runs.specs.declared.arguments.Step.TheVariants.{Register, Pay, Reverse, CloseDay, Decline}
+use Rattle.zvt_runs.specs.declared.arguments.Step.TheVariants.{Register, Pay, Reverse, CloseDay, Decline, Ask}
 
 -- ---- numbers
 
@@ -91,11 +91,17 @@ behind_sign (sign ∷ rest) = Some rest
 abbrev pub reference_of : List ℕ → Option (List ℕ)
 reference_of word = behind_sign (drop (position_or_len (λ byte. byte == 61) word) word)
 
+-- the till asks a terminal that is elsewhere
+abbrev pub ask_of : Ends → Option Step
+ask_of Both = None
+ask_of Till = Some Ask
+
 -- the step that a word names
 abbrev pub step_of : Ends → List ℕ → Option Step
 step_of ends word =
     cond (bytes_eq word (codes "register")) (Some Register)
-    (cond (bytes_eq word (codes "close")) (Some CloseDay) (numbered ends word))
+    (cond (bytes_eq word (codes "close")) (Some CloseDay)
+    (cond (bytes_eq word (codes "ask")) (ask_of ends) (numbered ends word)))
 
 -- The note of an order: a time or none, and the reference in the word that names its step. If these do not form a note,
 -- it is empty.

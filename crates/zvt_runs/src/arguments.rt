@@ -1,8 +1,8 @@
 //! Steps of a run, and the words that name them.
 ghost use Rattle.std.specs.Prelude.{◌≡◌, if◌then◌else◌, Some, None, option_map};
 ghost use Rattle.std.specs.Char.{digit_value, is_ascii_hexdigit};
-ghost use Rattle.zvt_runs.specs.Words.{amount_of, code_in, code_of, declined, declining, digits_of, ends_number};
-ghost use Rattle.zvt_runs.specs.Words.{entry_of, numbered, step_of};
+ghost use Rattle.zvt_runs.specs.Words.{amount_of, ask_of, code_in, code_of, declined, declining, digits_of};
+ghost use Rattle.zvt_runs.specs.Words.{ends_number, entry_of, numbered, step_of};
 
 use zvt_bcd::Amount;
 use zvt_kept::is_reference;
@@ -32,21 +32,27 @@ pub enum Step {
     CloseDay,
     /// Pays this amount, and the terminal declines it with this result code.
     Decline { amount: Amount, code: u8 },
+    /// Asks the terminal for its last transaction (PA00P015, Repeat Receipt).
+    Ask,
+    /// Asks as [`Step::Ask`] does, if the till is registered and the answer can be of use: an unclear order is pending,
+    /// or the till does not know the terminal's last transaction.
+    Settle,
 }
 
 impl Step {
     ghost use Rattle.zvt_runs.specs.Steps.{order_of, verdict_of};
 
-    /// Returns the order that the till is given.
-    pub fn order(&self) -> Order
+    /// Returns the order that the till is given. A step that asks gives it none.
+    pub fn order(&self) -> Option<Order>
         ensures { result ≡ order_of self.now }
     {
         match self {
-            Step::Register => Order::Register,
-            Step::Pay(amount) => Order::Pay(*amount),
-            Step::Reverse(entry) => Order::Reverse(*entry),
-            Step::CloseDay => Order::CloseDay,
-            Step::Decline { amount, .. } => Order::Pay(*amount),
+            Step::Register => Some(Order::Register),
+            Step::Pay(amount) => Some(Order::Pay(*amount)),
+            Step::Reverse(entry) => Some(Order::Reverse(*entry)),
+            Step::CloseDay => Some(Order::CloseDay),
+            Step::Decline { amount, .. } => Some(Order::Pay(*amount)),
+            Step::Ask | Step::Settle => None,
         }
     }
 
@@ -166,7 +172,18 @@ fn numbered(ends: Ends, word: &[u8]) -> Option<Step>
     }
 }
 
-/// Parses a step: `register`, `pay:N`, `reverse:N`, `close` and, if the run operates both ends, `decline:N:XX`.
+/// Returns the step that asks, if the terminal is elsewhere.
+fn ask_of(ends: Ends) -> Option<Step>
+    ensures { result ≡ ask_of ends }
+{
+    match ends {
+        Ends::Both => None,
+        Ends::Till => Some(Step::Ask),
+    }
+}
+
+/// Parses a step: `register`, `pay:N`, `reverse:N` and `close`. A run of the till alone also has `ask`, and a run of
+/// both ends has `decline:N:XX`.
 ///
 /// N is one to twelve decimal digits, not all of them 0. In `pay` and `decline` it is an amount in the currency's
 /// smallest unit, and in `reverse` an entry of the book, counted from 1. XX is two hexadecimal digits in upper or lower
@@ -178,6 +195,7 @@ pub fn step_of(ends: Ends, word: &str) -> Option<Step>
     match word {
         "register" => Some(Step::Register),
         "close" => Some(Step::CloseDay),
+        "ask" => ask_of(ends),
         _ => numbered(ends, word.as_bytes()),
     }
 }

@@ -13,7 +13,7 @@ ghost use Rattle.zvt_runs.specs.BookObjects.{unclear_reversal_part, unclear_valu
 
 use crate::books::{heard_at, note_at};
 use crate::quoted::say_escaped;
-use crate::settlements::say_settlements;
+use crate::settled_sum::say_settled_part;
 use std::alloc::AllocError;
 use zvt_bcd::{Amount, Currency, Trace};
 use zvt_kept::{Note, Recovered};
@@ -36,7 +36,7 @@ pub(crate) fn say_objects(text: &mut Text, recovered: &Recovered) -> Result<(), 
         till.heard(),
         recovered.unclear.as_slice(),
     )?;
-    say_settlements(text, Form::Json, recovered.till.settled())?;
+    say_settled_part(text, Form::Json, &recovered.till)?;
     say_sum(text, currency, till.total())
 }
 

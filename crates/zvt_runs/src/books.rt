@@ -10,7 +10,7 @@ ghost use Rattle.zvt_runs.specs.Runs.{AnswersText};
 use crate::book_objects::say_objects;
 use crate::fault::EndFault;
 use crate::notes::say_named;
-use crate::settlements::say_settlements;
+use crate::settled_sum::say_settled_part;
 use crate::steps::say_total;
 use std::alloc::{AllocError, Global};
 use zvt_bcd::Amount;
@@ -19,10 +19,10 @@ use zvt_kept::{Note, Recovered};
 use zvt_text::{Form, Text};
 use zvt_till::{Cause, Doubt, Entry, Numbers};
 
-/// Writes a till's book: one line per entry, per unclear payment and per settlement, and the total of the entries that
-/// were not reversed. The line of an entry has the state of its reversals, and the line of an unclear payment the
-/// numbers that the terminal named. The line of a payment ends with the time and the reference of its order, if its
-/// record has them.
+/// Writes a till's book: one line per entry, per unclear payment and per settlement, the sum of what was settled as
+/// paid if there is any, and the total of the entries that were not reversed. The line of an entry has the state of its
+/// reversals, and the line of an unclear payment the numbers that the terminal named. The line of a payment ends with
+/// the time and the reference of its order, if its record has them.
 ///
 /// Fails with `Memory` if an allocation fails, and has then written nothing. Fails with `Write` if the writer fails,
 /// and has then written some prefix of the text.
@@ -75,7 +75,7 @@ fn say_book(text: &mut Text, recovered: &Recovered) -> Result<(), AllocError>
         till.heard(),
         recovered.unclear.as_slice(),
     )?;
-    say_settlements(text, Form::Text, recovered.till.settled())?;
+    say_settled_part(text, Form::Text, &recovered.till)?;
     say_total(text, till.total())
 }
 

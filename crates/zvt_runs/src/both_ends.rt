@@ -1,11 +1,13 @@
 //! Both ends of a line, which take turns.
 ghost use Rattle.std.specs.Prelude.{◌≡◌, ◌<◌, Err, MatchResult};
-ghost use Rattle.zvt_runs.specs.BothEnds.{Alternates, BeginsHere, BreaksOff, MakesHere, ended_of, here, line_of};
+ghost use Rattle.zvt_runs.specs.BothEnds.{Alternates, BeginsHere, BreaksOff, MakesHere, RunsHere, ended_of};
+ghost use Rattle.zvt_runs.specs.BothEnds.{here, line_of};
 ghost use Rattle.zvt_runs.specs.Reporting.{ReportsNothing, ReportsRun};
 ghost use Rattle.zvt_runs.specs.Runs.{noting};
 ghost use Rattle.zvt_runs.specs.TillRuns.{AnswersPlan};
 
 use crate::arguments::Step;
+use crate::asking::{Asked, Ended};
 use crate::fault::EndFault;
 use crate::line_end::LineEnd;
 use crate::order_notes::NoteSource;
@@ -15,8 +17,8 @@ use crate::till_runs::run_connected;
 use std::alloc::Global;
 use zvt_io::Sink;
 use zvt_stream::LineFault;
-use zvt_term::Served;
-use zvt_till::{BookFault, Keeper, Outcome, RunFault, Till};
+use zvt_term::{Served, Verdict};
+use zvt_till::{BookFault, Keeper, Order, Outcome, RunFault, Till};
 
 /// The number of turns of each end before an order is given up.
 const ALTERNATIONS: u64 = 1_000;
@@ -44,17 +46,21 @@ impl<A: LineEnd, B: LineEnd> BothEnds<A, B> {
         }
         self.till.turn(alloc, till)
     }
-}
 
-impl<A: LineEnd, B: LineEnd, K: Keeper> StepLine<K> for BothEnds<A, B> {
-    ghost use Rattle.zvt_runs.specs.BothEnds.{MakesHere, line_of};
-
-    ghost makes = { λ old till step result new left. MakesHere K.orders K.hears K.is_resting K.failed K.till K.loses
-        K.malforms (line_of A.state B.state old) till step result (line_of A.state B.state new) left };
-
-    fn make(&mut self, alloc: Global, till: &mut K, step: &Step) -> Result<Outcome, RunFault> {
-        self.served.decide(step.verdict());
-        if let Err(fault) = self.till.order(alloc, till, step.order()) {
+    /// Gives the till an order, and lets the ends take turns until it has ended. Returns the outcome of the order.
+    fn run_order<K: Keeper>(
+        &mut self,
+        alloc: Global,
+        till: &mut K,
+        order: Order,
+        verdict: Verdict,
+    ) -> Result<Outcome, RunFault>
+        ensures { RunsHere K.orders K.hears K.is_resting K.failed K.till K.loses K.malforms
+            (line_of A.state B.state self.old) till.old order verdict result (line_of A.state B.state self.new)
+            till.new }
+    {
+        self.served.decide(verdict);
+        if let Err(fault) = self.till.order(alloc, till, order) {
             return Err(fault);
         }
         'alternations: for made in 0..ALTERNATIONS {
@@ -73,7 +79,23 @@ impl<A: LineEnd, B: LineEnd, K: Keeper> StepLine<K> for BothEnds<A, B> {
     }
 }
 
-/// Runs the steps with a till, alone or with a book, on this fresh line.
+/// The till does not ask: the terminal is new, and has no last transaction.
+impl<A: LineEnd, B: LineEnd, K: Keeper> StepLine<K> for BothEnds<A, B> {
+    ghost use Rattle.zvt_runs.specs.BothEnds.{MakesHere, line_of};
+
+    ghost makes = { λ old till step result new left. MakesHere K.orders K.hears K.is_resting K.failed K.till K.loses
+        K.malforms (line_of A.state B.state old) till step result (line_of A.state B.state new) left };
+
+    fn make(&mut self, alloc: Global, till: &mut K, step: &Step) -> Result<Ended, RunFault> {
+        let Some(order) = step.order() else {
+            return Ok(Ended::Ask(Asked::Nothing));
+        };
+        let outcome = self.run_order(alloc, till, order, step.verdict())?;
+        Ok(Ended::Order(outcome))
+    }
+}
+
+/// Runs the steps with a till, alone or with a book, on this fresh line. A step that asks sends nothing.
 ///
 /// Each step writes a line when it ends, with its word and its outcome; the last line is the till's total, including
 /// the entries that it had before. `steps` selects the form of these lines. If the line breaks, the remaining steps are

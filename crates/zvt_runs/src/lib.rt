@@ -6,6 +6,7 @@
 #![tactic(auto)]
 
 mod arguments;
+mod asking;
 mod book_objects;
 mod books;
 mod both_ends;
@@ -21,6 +22,7 @@ mod quoted;
 mod reversals;
 mod service;
 mod settings;
+mod settled_sum;
 mod settlements;
 mod steps;
 pub mod tcp;
@@ -29,13 +31,14 @@ mod till_runs;
 mod trace_marks;
 
 pub use arguments::{Ends, Step, result_code, step_of};
+pub use asking::{Asked, Ended};
 pub use books::{write_book, write_records};
 pub use both_ends::{BothEnds, run_both_ends};
 pub use fault::{EndFault, NetFault};
 pub use laws::{calls_are_moves, crashes_are_losses, undelayed_serves};
 pub use line_end::LineEnd;
 pub use order_notes::{Clocked, NoNotes, NoteSource};
-pub use plans::{Planned, StepOptions, StepRun, plan};
+pub use plans::{Planned, StepOptions, StepRun, plan, settling_once};
 pub use service::{Delay, serve};
 pub use settings::{config_of, currency_of, password_of};
 pub use till_end::run_till_end;

@@ -3,17 +3,21 @@ ghost use Rattle.std.specs.Prelude.{◌≡◌, ◌++◌, IfErr, IfOk, List, OnOk
 ghost use Rattle.std.specs.String.{string_bytes};
 ghost use Rattle.hex.specs.Hex.{encode_upper};
 ghost use Rattle.zvt_runs.specs.Reporting.{ReportedSoFar};
-ghost use Rattle.zvt_runs.specs.Notes.{closing_note, entry_numbers, heard_text, last_note, named_text};
-ghost use Rattle.zvt_runs.specs.Notes.{no_space_note, of_payment, outcome_note, payment_note, registration_note};
-ghost use Rattle.zvt_runs.specs.Notes.{reversal_note, reversing, row_note, step_note, unsent_note, why_unclear};
-ghost use Rattle.zvt_runs.specs.Notes.{why_unsent};
+ghost use Rattle.zvt_runs.specs.Named.{named_text};
+ghost use Rattle.zvt_runs.specs.Notes.{advice, asked_note, closing_note, ended_note, entry_numbers, heard_text};
+ghost use Rattle.zvt_runs.specs.Notes.{last_note, no_space_note, of_payment, outcome_note, payment_note};
+ghost use Rattle.zvt_runs.specs.Notes.{registration_note, reversal_note, reversing, row_note, row_settled};
+ghost use Rattle.zvt_runs.specs.Notes.{settlement_note, step_note, unsent_note, why_unclear, why_unsent};
 
 use crate::arguments::Step;
+use crate::asking::{Asked, Ended};
 use crate::fault::EndFault;
 use crate::plans::Planned;
+use crate::settlements::say_counted;
 use std::alloc::{AllocError, Global};
 use zvt_bcd::Amount;
 use zvt_io::Sink;
+use zvt_settle::Settlement;
 use zvt_text::Text;
 use zvt_till::{BookFault, Cause, Entry, Numbers, OrderRefusal, Outcome, RunFault, Till};
 
@@ -23,7 +27,7 @@ use zvt_till::{BookFault, Cause, Entry, Numbers, OrderRefusal, Outcome, RunFault
 pub(crate) fn note_of(
     alloc: Global,
     planned: &Planned,
-    made: &Result<Outcome, RunFault>,
+    made: &Result<Ended, RunFault>,
     till: &Till,
 ) -> Result<Text, EndFault>
     ensures text { IfOk result (λ text. text ≡ step_note (string_bytes planned.now.word) planned.now.step made.now
@@ -52,18 +56,81 @@ pub(crate) fn report_note<E: Sink>(works: bool, note: &Text, report: &mut E) -> 
 fn say_note(
     text: &mut Text,
     planned: &Planned,
-    made: &Result<Outcome, RunFault>,
+    made: &Result<Ended, RunFault>,
     till: &Till,
 ) -> Result<(), AllocError>
     ensures { OnOk result (text.new ≡ text.old ++ step_note (string_bytes planned.now.word) planned.now.step made.now
         till.now) }
 {
     match made {
-        Ok(outcome) => say_outcome(text, &planned.step, outcome, till),
+        Ok(ended) => say_ended(text, &planned.step, ended, till),
         Err(RunFault::Order(why)) => say_unsent(text, planned.word.as_str(), *why),
         Err(RunFault::Book(BookFault::NoSpace)) => say_no_space(text, planned.word.as_str()),
         Err(RunFault::Book(BookFault::Failed)) => say_last(text, &planned.step, till),
         Err(RunFault::Line(_)) => say_last(text, &planned.step, till),
+    }
+}
+
+/// Adds the note on a step that was made to its end.
+fn say_ended(text: &mut Text, step: &Step, ended: &Ended, till: &Till) -> Result<(), AllocError>
+    ensures { OnOk result (text.new ≡ text.old ++ ended_note step.now ended.now till.now) }
+{
+    match ended {
+        Ended::Order(outcome) => say_outcome(text, step, outcome, till),
+        Ended::Ask(asked) => say_asked(text, asked),
+    }
+}
+
+/// Adds the note on an ask.
+fn say_asked(text: &mut Text, asked: &Asked) -> Result<(), AllocError>
+    ensures { OnOk result (text.new ≡ text.old ++ asked_note asked.now) }
+{
+    match asked {
+        Asked::Nothing => Ok(()),
+        Asked::Unsettled => text.word(
+            b"zvt: the terminal's answer does not settle the unclear order: look at the terminal's journal or its \
+                last receipt\n",
+        ),
+        Asked::Settled(settlement) => say_settlement(text, settlement),
+    }
+}
+
+/// Adds the note on a settlement: what became of which order, and what follows.
+fn say_settlement(text: &mut Text, settlement: &Settlement) -> Result<(), AllocError>
+    ensures { OnOk result (text.new ≡ text.old ++ settlement_note settlement.now) }
+{
+    text.word(b"zvt: ")?;
+    say_row_settled(text, settlement)?;
+    text.word(settlement.words().as_bytes())?;
+    say_advice(text, settlement)
+}
+
+/// Adds which row of the book was settled.
+fn say_row_settled(text: &mut Text, settlement: &Settlement) -> Result<(), AllocError>
+    ensures { OnOk result (text.new ≡ text.old ++ row_settled settlement.now) }
+{
+    match *settlement {
+        Settlement::Paid(row, ..) => say_counted(text, b"unclear payment ", row, b": "),
+        Settlement::NotPaid(row) => say_counted(text, b"unclear payment ", row, b": "),
+        Settlement::Reversed(entry) => say_counted(text, b"booked payment ", entry, b": "),
+        Settlement::NotReversed(entry) => say_counted(text, b"booked payment ", entry, b": "),
+    }
+}
+
+/// Adds what follows from a settlement.
+fn say_advice(text: &mut Text, settlement: &Settlement) -> Result<(), AllocError>
+    ensures { OnOk result (text.new ≡ text.old ++ advice settlement.now) }
+{
+    match *settlement {
+        Settlement::Paid(_, trace, receipt) => {
+            let trace = Some(trace);
+            text.word(b" as")?;
+            say_named(text, Numbers { trace, receipt })?;
+            text.word(b": do not order it again\n")
+        }
+        Settlement::NotPaid(_) => text.word(b": you may order it again\n"),
+        Settlement::Reversed(_) => text.word(b": do not refund the amount again\n"),
+        Settlement::NotReversed(_) => text.word(b": you may reverse it again\n"),
     }
 }
 
@@ -128,6 +195,7 @@ fn say_outcome(
         Step::Decline { amount, .. } => say_payment(text, *amount, *cause, till.numbers()),
         Step::Reverse(entry) => say_row(text, *entry, *cause, till),
         Step::CloseDay => say_closing(text, *cause),
+        Step::Ask | Step::Settle => Ok(()),
     }
 }
 

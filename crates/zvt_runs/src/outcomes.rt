@@ -1,11 +1,34 @@
-//! The texts of the outcomes of orders.
+//! The texts of what steps came to: the outcomes of orders and asks.
 ghost use Rattle.std.specs.Prelude.{◌≡◌, ◌++◌, OnOk};
-ghost use Rattle.zvt_runs.specs.Outcomes.{coded_text, outcome_text, paid_text};
+ghost use Rattle.zvt_runs.specs.Outcomes.{asked_text, coded_text, ended_text, outcome_text, paid_text};
 
+use crate::asking::{Asked, Ended};
+use crate::settlements::settled_words;
 use std::alloc::AllocError;
 use zvt_bcd::Trace;
 use zvt_text::Text;
 use zvt_till::Outcome;
+
+/// Adds what a step came to that was made to its end.
+pub(crate) fn ended_text(text: &mut Text, ended: &Ended) -> Result<(), AllocError>
+    ensures { OnOk result (text.new ≡ text.old ++ ended_text ended.now) }
+{
+    match ended {
+        Ended::Order(outcome) => outcome_text(text, outcome),
+        Ended::Ask(asked) => asked_text(text, asked),
+    }
+}
+
+/// Adds what an ask came to, such as `settled unclear 1 NotPaid` or `nothing to settle`.
+fn asked_text(text: &mut Text, asked: &Asked) -> Result<(), AllocError>
+    ensures { OnOk result (text.new ≡ text.old ++ asked_text asked.now) }
+{
+    match asked {
+        Asked::Nothing => text.word(b"nothing to settle"),
+        Asked::Unsettled => text.word(b"not settled"),
+        Asked::Settled(settlement) => settled_words(text, settlement),
+    }
+}
 
 /// Adds the outcome of an order, such as `paid trace 000001 receipt 0001` or `declined 6F wrong currency`. Fails if an
 /// allocation fails; the text is then incomplete.

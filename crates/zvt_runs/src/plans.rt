@@ -1,7 +1,8 @@
 //! The steps of a run, from the words that name them.
-ghost use Rattle.std.specs.Prelude.{◌≡◌, ◌++◌, ◌∷◌, [], OnOk, map};
+ghost use Rattle.std.specs.Prelude.{◌≡◌, ◌++◌, ◌∷◌, [], IfOk, OnOk, map};
+ghost use Rattle.std.specs.List.{position};
 ghost use Rattle.std.specs.String.{string_bytes};
-ghost use Rattle.zvt_runs.specs.Plans.{AddsStep, PlansOrStops, words_of};
+ghost use Rattle.zvt_runs.specs.Plans.{AddsStep, PlansOrStops, SettlesOnce, registers, words_of};
 
 use crate::arguments::{Ends, Step, step_of};
 use crate::fault::EndFault;
@@ -57,6 +58,36 @@ pub fn plan(alloc: Global, ends: Ends, words: &[&str]) -> Result<Vec<Planned>, E
         Ends::Both => plan_words(alloc, ends, BOTH_ENDS.as_slice()),
         Ends::Till => plan_words(alloc, ends, TILL_ALONE.as_slice()),
     }
+}
+
+/// Adds a step behind the first registration of the plan that asks the terminal for its last transaction, if the answer
+/// can be of use. A plan without a registration stays as it is.
+pub fn settling_once(alloc: Global, mut plan: Vec<Planned>) -> Result<Vec<Planned>, AllocError>
+    ensures { IfOk result (λ settling. SettlesOnce plan.items settling.items) }
+{
+    let Some(place) = first_registration(plan.as_slice()) else {
+        return Ok(plan);
+    };
+    let step = Planned {
+        word: String::from_str(alloc, "ask")?,
+        step: Step::Settle,
+    };
+    plan.insert(place + 1, step)?;
+    Ok(plan)
+}
+
+/// Returns the index of the first step that registers the till.
+fn first_registration(plan: &[Planned]) -> Option<usize>
+    ensures { result ≡ position registers plan.now }
+{
+    plan.iter().position(|planned| registers(planned))
+}
+
+/// Whether a step registers the till.
+fn registers(planned: &Planned) -> bool
+    ensures { result ≡ registers planned.now }
+{
+    matches!(planned.step, Step::Register)
 }
 
 /// Parses these words as steps.

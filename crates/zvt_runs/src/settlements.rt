@@ -1,8 +1,9 @@
 //! What the asks of a book have settled: a line for each settlement, as text and as JSON.
 ghost use Rattle.std.specs.Prelude.{◌≡◌, ◌++◌, OnOk};
+ghost use Rattle.serde_json.specs.Written.{compact_text};
 ghost use Rattle.zvt_json.specs.Strings.{line_text};
-ghost use Rattle.zvt_runs.specs.Settlements.{counted, paid_json, settled_lines, settlement_line, settlement_text};
-ghost use Rattle.zvt_runs.specs.Settlements.{settlement_json, settlement_value};
+ghost use Rattle.zvt_runs.specs.Settlements.{counted, paid_json, settled_json, settled_lines, settled_value};
+ghost use Rattle.zvt_runs.specs.Settlements.{settled_words, settlement_line, settlement_text, settlement_value};
 
 use crate::book_objects::{say_receipt, say_trace};
 use crate::notes::say_named;
@@ -40,25 +41,36 @@ fn say_settlement(text: &mut Text, form: Form, settlement: &Settlement) -> Resul
 fn say_settlement_text(text: &mut Text, settlement: &Settlement) -> Result<(), AllocError>
     ensures { OnOk result (text.new ≡ text.old ++ settlement_text settlement.now) }
 {
+    settled_words(text, settlement)?;
+    text.push(b'\n')
+}
+
+/// Adds a settlement in words, such as `settled unclear 1 Paid trace 000002 receipt 0002` or
+/// `settled booked 3 Reversed`.
+pub(crate) fn settled_words(text: &mut Text, settlement: &Settlement) -> Result<(), AllocError>
+    ensures { OnOk result (text.new ≡ text.old ++ settled_words settlement.now) }
+{
     match *settlement {
         Settlement::Paid(row, trace, receipt) => {
             say_counted(text, b"settled unclear ", row, b" Paid")?;
             let trace = Some(trace);
-            say_named(text, Numbers { trace, receipt })?;
-            text.push(b'\n')
+            say_named(text, Numbers { trace, receipt })
         }
-        Settlement::NotPaid(row) => say_counted(text, b"settled unclear ", row, b" NotPaid\n"),
-        Settlement::Reversed(entry) => {
-            say_counted(text, b"settled booked ", entry, b" Reversed\n")
-        }
+        Settlement::NotPaid(row) => say_counted(text, b"settled unclear ", row, b" NotPaid"),
+        Settlement::Reversed(entry) => say_counted(text, b"settled booked ", entry, b" Reversed"),
         Settlement::NotReversed(entry) => {
-            say_counted(text, b"settled booked ", entry, b" NotReversed\n")
+            say_counted(text, b"settled booked ", entry, b" NotReversed")
         }
     }
 }
 
 /// Adds words, the number of the row at this index, and more words. Numbers count from 1.
-fn say_counted(text: &mut Text, words: &[u8], index: usize, more: &[u8]) -> Result<(), AllocError>
+pub(crate) fn say_counted(
+    text: &mut Text,
+    words: &[u8],
+    index: usize,
+    more: &[u8],
+) -> Result<(), AllocError>
     ensures { OnOk result (text.new ≡ text.old ++ counted words.now index more.now) }
 {
     text.word(words)?;
@@ -66,36 +78,41 @@ fn say_counted(text: &mut Text, words: &[u8], index: usize, more: &[u8]) -> Resu
     text.word(more)
 }
 
-/// Adds the object of a settlement.
-#[tactic(auto, using(crate::proofs::SettlementLemmas::settled_said))]
+/// Adds the object of a settlement as a line.
 fn say_settlement_object(text: &mut Text, settlement: &Settlement) -> Result<(), AllocError>
     ensures { OnOk result (text.new ≡ text.old ++ line_text (settlement_value settlement.now)) }
 {
-    write_settlement(text, settlement)
+    text.word(b"{\"settled\":")?;
+    say_settled(text, settlement)?;
+    text.word(b"}\n")
 }
 
-/// Writes the object of a settlement.
-fn write_settlement(text: &mut Text, settlement: &Settlement) -> Result<(), AllocError>
-    ensures { OnOk result (text.new ≡ text.old ++ settlement_json settlement.now) }
+/// Adds a settlement as a JSON object.
+pub(crate) fn say_settled(text: &mut Text, settlement: &Settlement) -> Result<(), AllocError>
+    ensures { OnOk result (text.new ≡ text.old ++ compact_text (settled_value settlement.now)) }
+{
+    write_settled(text, settlement)
+}
+
+/// Writes a settlement as a JSON object, part by part.
+fn write_settled(text: &mut Text, settlement: &Settlement) -> Result<(), AllocError>
+    ensures { OnOk result (text.new ≡ text.old ++ settled_json settlement.now) }
 {
     match *settlement {
         Settlement::Paid(row, trace, receipt) => write_paid(text, row, trace, receipt),
         Settlement::NotPaid(row) => {
-            let words = b"{\"settled\":{\"name\":\"NotPaid\",\"unclear\":";
-            say_counted(text, words, row, b"}}\n")
+            say_counted(text, b"{\"name\":\"NotPaid\",\"unclear\":", row, b"}")
         }
         Settlement::Reversed(entry) => {
-            let more = b",\"name\":\"Reversed\"}}\n";
-            say_counted(text, b"{\"settled\":{\"booked\":", entry, more)
+            say_counted(text, b"{\"booked\":", entry, b",\"name\":\"Reversed\"}")
         }
         Settlement::NotReversed(entry) => {
-            let more = b",\"name\":\"NotReversed\"}}\n";
-            say_counted(text, b"{\"settled\":{\"booked\":", entry, more)
+            say_counted(text, b"{\"booked\":", entry, b",\"name\":\"NotReversed\"}")
         }
     }
 }
 
-/// Writes the object of a payment that was settled as paid, part by part.
+/// Writes a payment that was settled as paid, part by part.
 #[tactic(auto, unfolding(crate::specs::Settlements::paid_json))]
 fn write_paid(
     text: &mut Text,
@@ -105,8 +122,8 @@ fn write_paid(
 ) -> Result<(), AllocError>
     ensures { OnOk result (text.new ≡ text.old ++ paid_json row trace receipt) }
 {
-    text.word(b"{\"settled\":{\"name\":\"Paid\"")?;
+    text.word(b"{\"name\":\"Paid\"")?;
     say_receipt(text, receipt)?;
     say_trace(text, Some(trace))?;
-    say_counted(text, b",\"unclear\":", row, b"}}\n")
+    say_counted(text, b",\"unclear\":", row, b"}")
 }

@@ -17,6 +17,7 @@ till_app = command_app (codes "till") (
     option_rule (codes "trace") ∷
     flag_rule (codes "no-times") ∷
     option_rule (codes "book") ∷
+    flag_rule (codes "no-ask") ∷
     flag_rule (codes "check") ∷
     flag_rule (codes "show") ∷
     flag_rule (codes "close-by-completion") ∷
@@ -38,6 +39,7 @@ pub record AreTillOptionsOf (rows : List Row) (options : TillOptions) : Type 0 w
   pub trace : IsTextOf (codes "trace") rows options.trace
   pub no_times : IsFlagOf (codes "no-times") rows options.no_times
   pub book : IsTextOf (codes "book") rows options.book
+  pub no_ask : IsFlagOf (codes "no-ask") rows options.no_ask
   pub check : IsFlagOf (codes "check") rows options.check
   pub show : IsFlagOf (codes "show") rows options.show
   pub close_by_completion : IsFlagOf (codes "close-by-completion") rows options.close_by_completion

@@ -23,6 +23,7 @@ Steps, run in the given order:
   decline:N:XX  Pay the amount N, but have the terminal decline it with code XX (loop only)
   reverse:N     Reverse the payment in entry N of the till's book; the first entry is 1
   close         Close the day
+  ask           Ask the terminal for its last transaction, which may settle an unclear order (till only)
 N is a positive number of at most 12 digits; amounts are in the smallest unit of the currency, such as cents.
 pay:N:ref=R and reverse:N:ref=R keep the reference R in the till's book: 1 to 40 printable characters, no space.
 XX is two hexadecimal digits, not 00.
@@ -53,6 +54,10 @@ pub const NO_TIMES: &str = "Write no time marks into the trace";
 pub const KEEP_BOOK: &str =
     "Keep the till's book in FILE, so that it survives the process and any crash. FILE is created if it does not \
         exist. Use a new file for each day: a book holds at most 10000 entries.";
+
+pub const NO_ASK: &str =
+    "With --book, do not ask the terminal for its last transaction after registering. Some terminals print a copy of \
+        the receipt when asked.";
 
 pub const LOOSE: &str = "Accept padded lengths, as some terminals send them";
 

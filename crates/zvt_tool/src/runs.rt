@@ -19,6 +19,7 @@ use std::rt::Clock;
 use zvt_io::{Failed, Sink};
 use zvt_runs::tcp::{LoopRun, PATIENCE_SECONDS, TerminalRun, TillRun};
 use zvt_runs::{EndFault, Ends, NoNotes, StepOptions, plan};
+use zvt_settle::SettlingTill;
 use zvt_stream::LineForm;
 use zvt_term::{Extras, Verdict};
 use zvt_text::Form;
@@ -137,7 +138,7 @@ where
         (ReportsRun None None 0 0) (ReportsNothing None None 0 0) result }
     ensures write { result ≡ Err EndFault.Write → W.failures writer.old < W.failures writer.new }
 {
-    let mut till = zvt_till::Till::with_defaults(alloc);
+    let mut till = SettlingTill::new(alloc, zvt_till::Till::with_defaults(alloc));
     zvt_runs::tcp::run_loop(rt, alloc, run, &mut till, &NoNotes, writer, &mut Unreported)
 }
 
@@ -156,7 +157,7 @@ where
         (ReportsRun None None 0 0) (ReportsNothing None None 0 0) result }
     ensures write { result ≡ Err EndFault.Write → W.failures writer.old < W.failures writer.new }
 {
-    let mut till = zvt_till::Till::with_defaults(alloc);
+    let mut till = SettlingTill::new(alloc, zvt_till::Till::with_defaults(alloc));
     zvt_runs::tcp::run_till(rt, alloc, run, &mut till, &NoNotes, writer, &mut Unreported)
 }
 

@@ -27,6 +27,8 @@ pub struct TillOptions<'a> {
     /// Whether the trace has no time marks.
     pub no_times: bool,
     pub book: Option<&'a str>,
+    /// Whether a till with a book does not ask by itself.
+    pub no_ask: bool,
     /// Whether a step that does not succeed is a fault.
     pub check: bool,
     /// Whether the messages of the terminal are shown.
@@ -45,7 +47,7 @@ pub struct TillOptions<'a> {
 }
 
 /// The options of `till`, in the order of its help.
-const OPTIONS: [CommandOption<'static>; 17] = [
+const OPTIONS: [CommandOption<'static>; 18] = [
     CommandOption::NeededPort("port", "TCP port of the terminal"),
     CommandOption::Host("Host name or address of the terminal"),
     CommandOption::Value(
@@ -72,6 +74,7 @@ const OPTIONS: [CommandOption<'static>; 17] = [
     CommandOption::Value("trace", "FILE", help::TRACE),
     CommandOption::Flag("no-times", help::NO_TIMES),
     CommandOption::Value("book", "FILE", help::KEEP_BOOK),
+    CommandOption::Flag("no-ask", help::NO_ASK),
     CommandOption::Flag("check", help::CHECK_STEPS),
     CommandOption::Flag(
         "show",
@@ -94,7 +97,7 @@ const OPTIONS: [CommandOption<'static>; 17] = [
     CommandOption::Several(
         "step",
         "STEP",
-        "register, pay:N, reverse:N or close (see zvt --help)",
+        "register, pay:N, reverse:N, close or ask (see zvt --help)",
     ),
 ];
 
@@ -107,8 +110,10 @@ pub fn till_row() -> CommandRow<'static>
         about: "Act as a till: connect to a terminal and run steps",
         more: "Every connection starts unregistered, also with --book: begin the steps with 'register'.
 Without steps, the till registers and closes the day.
-A payment is 'unclear' if the connection broke, or if the terminal's answers do not add up. It may have been charged:
-check the terminal's journal before you charge the customer again.
+A payment is 'unclear' if the connection broke, or if the terminal's answers do not add up. It may have been charged.
+The step 'ask' asks the terminal for its last transaction, which may settle it. With --book the till asks by itself
+once per connection, after it has registered. If an order stays unclear, check the terminal's journal before you charge
+the customer again.
 
 Example:
   zvt till --port 20007 --book day.book --check register pay:1234 close",
@@ -143,6 +148,7 @@ pub fn read_till<'a>(
         trace: text(inner, "trace"),
         no_times: flag(inner, "no-times"),
         book: text(inner, "book"),
+        no_ask: flag(inner, "no-ask"),
         check: flag(inner, "check"),
         show: flag(inner, "show"),
         close_by_completion: flag(inner, "close-by-completion"),

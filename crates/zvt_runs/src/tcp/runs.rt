@@ -19,6 +19,7 @@ use std::net::{Net, TcpListener, TcpStream};
 use std::rt::Clock;
 use zvt_grammar::Lengths;
 use zvt_io::Sink;
+use zvt_settle::Asker;
 use zvt_till::Keeper;
 
 /// Runs the steps between a till, alone or with a book, and a terminal in the same process. Listens on a free port of
@@ -76,12 +77,12 @@ pub fn run_till<R, K, N, W, E>(
 ) -> Result<(), EndFault>
 where
     R: Net<Listener = TcpListener, Stream = TcpStream> + Clock,
-    K: Keeper,
+    K: Asker,
     N: NoteSource<K>,
     W: Sink,
     E: Sink,
     ensures run { AnswersOverTcp K.connects K.failed K.till
-        (noting N.noted (MakesThere K.orders K.hears K.is_resting K.failed K.till K.loses K.malforms))
+        (noting N.noted (MakesThere K.orders K.hears K.is_resting K.failed K.till K.loses K.malforms K.asks K.settling))
         (BeginsThere (reading_as run.now.line)) run.now.options run.now.plan.now till.old till.new
         (W.written writer.old) (W.written writer.new)
         (ReportsRun (E.written report.old) (E.written report.new) (E.failures report.old) (E.failures report.new))

@@ -6,9 +6,8 @@ use Rattle.std.specs.String.{string_bytes}
 use Rattle.zvt_io.specs.Devices.{IsPrefix}
 use Rattle.zvt_till.specs.View.{TillValue}
 use Rattle.zvt_runs.specs.declared.plans.Planned.{Planned}
-use Rattle.zvt_runs.specs.Made.{made_line}
+use Rattle.zvt_runs.specs.Made.{line_of, made_line}
 use Rattle.zvt_runs.specs.Notes.{made_note, step_note}
-use Rattle.zvt_runs.specs.Objects.{step_line}
 use Rattle.zvt_runs.specs.Reporting.{ReportedSoFar, Reports}
 use Rattle.zvt_runs.specs.Runs.{WritesPart, made_of, noting, standing}
 use Rattle.zvt_runs.proofs.Noted.{reported}
@@ -32,7 +31,7 @@ pub returns-in_err-write_all-clause-run : goal.returns-in_err-write_all-clause-r
 returns-in_err-write_all-clause-run g c =
     let p = err_from_is_err_and c.from_residual-in_err-write_all.result c.from_residual-in_err-write_all.ensures.1 in
     let named : c.in_ok-note.note ≡ made_note (made_of g.K.Keeper.till c.planned-item.result c.make-made.result c.make-made.new.till) = c.in_ok-note.ensures.text ∙ ap (λ (t : TillValue). step_note (string_bytes c.planned-item.result.word) c.planned-item.result.step c.make-made.result t) c.look-in-steps.ensures in
-    let lined : c.bytes.result.now ≡ made_line c.args.steps.now.options.form (made_of g.K.Keeper.till c.planned-item.result c.make-made.result c.make-made.new.till) = c.bytes.ensures ∙ c.in_ok-text.ensures.text ∙ ap (λ (t : TillValue). step_line c.args.steps.now.options.form (string_bytes c.planned-item.result.word) c.make-made.result t.state.last_outcome) c.look.ensures in
+    let lined : c.bytes.result.now ≡ made_line c.args.steps.now.options.form (made_of g.K.Keeper.till c.planned-item.result c.make-made.result c.make-made.new.till) = c.bytes.ensures ∙ c.in_ok-text.ensures.text ∙ ap (λ (t : TillValue). line_of c.args.steps.now.options.form (string_bytes c.planned-item.result.word) c.planned-item.result.step c.make-made.result t.state.last_outcome) c.look.ensures in
     let so = then g.K.Keeper.till (noting g.N.NoteSource.noted g.L.StepLine.makes) c.args.steps.now.options (ReportedSoFar c.steps.reports (g.E.Sink.written c.args.report.now) (g.E.Sink.written c.steps.report) (g.E.Sink.failures c.args.report.now) (g.E.Sink.failures c.steps.report)) (λ notes. Reports notes (g.E.Sink.written c.args.report.now) (g.E.Sink.written c.report_note-reports.new.report) (g.E.Sink.failures c.args.report.now) (g.E.Sink.failures c.report_note-reports.new.report)) _ c.planned-item.result c.make-made.result c.steps.short (standing c.args.line.now c.args.till.now) (standing c.steps.line c.steps.till) (standing c.make-made.new.self c.make-made.new.till) _ _ c.steps.invariant.so_far (noted_by g.N.NoteSource.noted g.L.StepLine.makes c.steps.line c.steps.till c.note_next.new.till c.planned-item.result c.make-made.result c.make-made.new.self c.make-made.new.till c.as_bytes.result.now c.as_bytes.ensures.value c.note_next.ensures c.make-made.ensures) (λ text told. reported c.report_note-reports.result (g.E.Sink.written c.args.report.now) (g.E.Sink.written c.report_note-reports.new.report) (g.E.Sink.failures c.args.report.now) (g.E.Sink.failures c.report_note-reports.new.report) _ (subst (λ (n : List ℕ). ReportedSoFar c.report_note-reports.result (g.E.Sink.written c.args.report.now) (g.E.Sink.written c.report_note-reports.new.report) (g.E.Sink.failures c.args.report.now) (g.E.Sink.failures c.report_note-reports.new.report) (text ++ n)) named (c.report_note-reports.ensures (g.E.Sink.written c.args.report.now) (g.E.Sink.failures c.args.report.now) text told))) in
     let partly = subst (λ (t : List ℕ). WritesPart IsPrefix t (g.W.Sink.written c.steps.writer) (g.W.Sink.written c.write_all.new.self)) lined c.in_err-write_all.ensures.bytes in
     rw (p.1, p.2) (line_stops g.K.Keeper.till (noting g.N.NoteSource.noted g.L.StepLine.makes) c.args.steps.now.options (λ notes. Reports notes (g.E.Sink.written c.args.report.now) (g.E.Sink.written c.report_note-reports.new.report) (g.E.Sink.failures c.args.report.now) (g.E.Sink.failures c.report_note-reports.new.report)) c.args.steps.now.plan.now c.steps.planned-index c.planned-item.result c.make-made.result c.steps.short (standing c.args.line.now c.args.till.now) (standing c.make-made.new.self c.make-made.new.till) _ _ _ c.steps-test.true c.planned-item.is so partly)
@@ -41,7 +40,7 @@ pub returns-in_err-write_total-clause-run : goal.returns-in_err-write_total-clau
 returns-in_err-write_total-clause-run g c =
     let p = err_from_is_err_and c.from_residual-in_err-write_total.result c.from_residual-in_err-write_total.ensures.1 in
     let named : c.in_ok-note.note ≡ made_note (made_of g.K.Keeper.till c.planned-item.result c.make-made.result c.make-made.new.till) = c.in_ok-note.ensures.text ∙ ap (λ (t : TillValue). step_note (string_bytes c.planned-item.result.word) c.planned-item.result.step c.make-made.result t) c.look-in-steps.ensures in
-    let lined : c.bytes.result.now ≡ made_line c.args.steps.now.options.form (made_of g.K.Keeper.till c.planned-item.result c.make-made.result c.make-made.new.till) = c.bytes.ensures ∙ c.in_ok-text.ensures.text ∙ ap (λ (t : TillValue). step_line c.args.steps.now.options.form (string_bytes c.planned-item.result.word) c.make-made.result t.state.last_outcome) c.look.ensures in
+    let lined : c.bytes.result.now ≡ made_line c.args.steps.now.options.form (made_of g.K.Keeper.till c.planned-item.result c.make-made.result c.make-made.new.till) = c.bytes.ensures ∙ c.in_ok-text.ensures.text ∙ ap (λ (t : TillValue). line_of c.args.steps.now.options.form (string_bytes c.planned-item.result.word) c.planned-item.result.step c.make-made.result t.state.last_outcome) c.look.ensures in
     let so = then g.K.Keeper.till (noting g.N.NoteSource.noted g.L.StepLine.makes) c.args.steps.now.options (ReportedSoFar c.steps.reports (g.E.Sink.written c.args.report.now) (g.E.Sink.written c.steps.report) (g.E.Sink.failures c.args.report.now) (g.E.Sink.failures c.steps.report)) (λ notes. Reports notes (g.E.Sink.written c.args.report.now) (g.E.Sink.written c.report_note-reports.new.report) (g.E.Sink.failures c.args.report.now) (g.E.Sink.failures c.report_note-reports.new.report)) _ c.planned-item.result c.make-made.result c.steps.short (standing c.args.line.now c.args.till.now) (standing c.steps.line c.steps.till) (standing c.make-made.new.self c.make-made.new.till) _ _ c.steps.invariant.so_far (noted_by g.N.NoteSource.noted g.L.StepLine.makes c.steps.line c.steps.till c.note_next.new.till c.planned-item.result c.make-made.result c.make-made.new.self c.make-made.new.till c.as_bytes.result.now c.as_bytes.ensures.value c.note_next.ensures c.make-made.ensures) (λ text told. reported c.report_note-reports.result (g.E.Sink.written c.args.report.now) (g.E.Sink.written c.report_note-reports.new.report) (g.E.Sink.failures c.args.report.now) (g.E.Sink.failures c.report_note-reports.new.report) _ (subst (λ (n : List ℕ). ReportedSoFar c.report_note-reports.result (g.E.Sink.written c.args.report.now) (g.E.Sink.written c.report_note-reports.new.report) (g.E.Sink.failures c.args.report.now) (g.E.Sink.failures c.report_note-reports.new.report) (text ++ n)) named (c.report_note-reports.ensures (g.E.Sink.written c.args.report.now) (g.E.Sink.failures c.args.report.now) text told))) in
     rw (p.1, p.2) (broken_total_stops g.K.Keeper.till (noting g.N.NoteSource.noted g.L.StepLine.makes) c.args.steps.now.options (λ notes. Reports notes (g.E.Sink.written c.args.report.now) (g.E.Sink.written c.report_note-reports.new.report) (g.E.Sink.failures c.args.report.now) (g.E.Sink.failures c.report_note-reports.new.report)) c.args.steps.now.plan.now c.steps.planned-index c.planned-item.result c.make-made.result c.in-Some.fault c.steps.short (standing c.args.line.now c.args.till.now) (standing c.make-made.new.self c.make-made.new.till) _ _ _ _ c.in_err-write_total.field-0.0 c.steps-test.true c.planned-item.is (sym c.stop_of.ensures ∙ c.in-Some.is) so
     (subst (λ (t : List ℕ). Appends (g.W.Sink.written c.steps.writer) (g.W.Sink.written c.write_all.new.self) t) lined c.in_ok-write_all.ensures.bytes) c.in_err-write_total.ensures.text)
@@ -49,7 +48,7 @@ returns-in_err-write_total-clause-run g c =
 pub returns-in-Some-clause-run : goal.returns-in-Some-clause-run
 returns-in-Some-clause-run g c =
     let named : c.in_ok-note.note ≡ made_note (made_of g.K.Keeper.till c.planned-item.result c.make-made.result c.make-made.new.till) = c.in_ok-note.ensures.text ∙ ap (λ (t : TillValue). step_note (string_bytes c.planned-item.result.word) c.planned-item.result.step c.make-made.result t) c.look-in-steps.ensures in
-    let lined : c.bytes.result.now ≡ made_line c.args.steps.now.options.form (made_of g.K.Keeper.till c.planned-item.result c.make-made.result c.make-made.new.till) = c.bytes.ensures ∙ c.in_ok-text.ensures.text ∙ ap (λ (t : TillValue). step_line c.args.steps.now.options.form (string_bytes c.planned-item.result.word) c.make-made.result t.state.last_outcome) c.look.ensures in
+    let lined : c.bytes.result.now ≡ made_line c.args.steps.now.options.form (made_of g.K.Keeper.till c.planned-item.result c.make-made.result c.make-made.new.till) = c.bytes.ensures ∙ c.in_ok-text.ensures.text ∙ ap (λ (t : TillValue). line_of c.args.steps.now.options.form (string_bytes c.planned-item.result.word) c.planned-item.result.step c.make-made.result t.state.last_outcome) c.look.ensures in
     let so = then g.K.Keeper.till (noting g.N.NoteSource.noted g.L.StepLine.makes) c.args.steps.now.options (ReportedSoFar c.steps.reports (g.E.Sink.written c.args.report.now) (g.E.Sink.written c.steps.report) (g.E.Sink.failures c.args.report.now) (g.E.Sink.failures c.steps.report)) (λ notes. Reports notes (g.E.Sink.written c.args.report.now) (g.E.Sink.written c.report_note-reports.new.report) (g.E.Sink.failures c.args.report.now) (g.E.Sink.failures c.report_note-reports.new.report)) _ c.planned-item.result c.make-made.result c.steps.short (standing c.args.line.now c.args.till.now) (standing c.steps.line c.steps.till) (standing c.make-made.new.self c.make-made.new.till) _ _ c.steps.invariant.so_far (noted_by g.N.NoteSource.noted g.L.StepLine.makes c.steps.line c.steps.till c.note_next.new.till c.planned-item.result c.make-made.result c.make-made.new.self c.make-made.new.till c.as_bytes.result.now c.as_bytes.ensures.value c.note_next.ensures c.make-made.ensures) (λ text told. reported c.report_note-reports.result (g.E.Sink.written c.args.report.now) (g.E.Sink.written c.report_note-reports.new.report) (g.E.Sink.failures c.args.report.now) (g.E.Sink.failures c.report_note-reports.new.report) _ (subst (λ (n : List ℕ). ReportedSoFar c.report_note-reports.result (g.E.Sink.written c.args.report.now) (g.E.Sink.written c.report_note-reports.new.report) (g.E.Sink.failures c.args.report.now) (g.E.Sink.failures c.report_note-reports.new.report) (text ++ n)) named (c.report_note-reports.ensures (g.E.Sink.written c.args.report.now) (g.E.Sink.failures c.args.report.now) text told))) in
     broke g.K.Keeper.till (noting g.N.NoteSource.noted g.L.StepLine.makes) c.args.steps.now.options (λ notes. Reports notes (g.E.Sink.written c.args.report.now) (g.E.Sink.written c.report_note-reports.new.report) (g.E.Sink.failures c.args.report.now) (g.E.Sink.failures c.report_note-reports.new.report)) c.args.steps.now.plan.now c.steps.planned-index c.planned-item.result c.make-made.result c.in-Some.fault c.steps.short (standing c.args.line.now c.args.till.now) (standing c.make-made.new.self c.make-made.new.till) _ _ _ _ c.steps-test.true c.planned-item.is (sym c.stop_of.ensures ∙ c.in-Some.is) so
     (subst (λ (t : List ℕ). Appends (g.W.Sink.written c.steps.writer) (g.W.Sink.written c.write_all.new.self) t) lined c.in_ok-write_all.ensures.bytes) c.in_ok-write_total.ensures.text
@@ -57,7 +56,7 @@ returns-in-Some-clause-run g c =
 pub steps-preserved : goal.steps-preserved
 steps-preserved g c =
     let named : c.in_ok-note.note ≡ made_note (made_of g.K.Keeper.till c.planned-item.result c.make-made.result c.make-made.new.till) = c.in_ok-note.ensures.text ∙ ap (λ (t : TillValue). step_note (string_bytes c.planned-item.result.word) c.planned-item.result.step c.make-made.result t) c.look-in-steps.ensures in
-    let lined : c.bytes.result.now ≡ made_line c.args.steps.now.options.form (made_of g.K.Keeper.till c.planned-item.result c.make-made.result c.make-made.new.till) = c.bytes.ensures ∙ c.in_ok-text.ensures.text ∙ ap (λ (t : TillValue). step_line c.args.steps.now.options.form (string_bytes c.planned-item.result.word) c.make-made.result t.state.last_outcome) c.look.ensures in
+    let lined : c.bytes.result.now ≡ made_line c.args.steps.now.options.form (made_of g.K.Keeper.till c.planned-item.result c.make-made.result c.make-made.new.till) = c.bytes.ensures ∙ c.in_ok-text.ensures.text ∙ ap (λ (t : TillValue). line_of c.args.steps.now.options.form (string_bytes c.planned-item.result.word) c.planned-item.result.step c.make-made.result t.state.last_outcome) c.look.ensures in
     let so = then g.K.Keeper.till (noting g.N.NoteSource.noted g.L.StepLine.makes) c.args.steps.now.options (ReportedSoFar c.steps.reports (g.E.Sink.written c.args.report.now) (g.E.Sink.written c.steps.report) (g.E.Sink.failures c.args.report.now) (g.E.Sink.failures c.steps.report)) (ReportedSoFar c.report_note-reports.result (g.E.Sink.written c.args.report.now) (g.E.Sink.written c.report_note-reports.new.report) (g.E.Sink.failures c.args.report.now) (g.E.Sink.failures c.report_note-reports.new.report)) _ c.planned-item.result c.make-made.result c.steps.short (standing c.args.line.now c.args.till.now) (standing c.steps.line c.steps.till) (standing c.make-made.new.self c.make-made.new.till) _ _ c.steps.invariant.so_far (noted_by g.N.NoteSource.noted g.L.StepLine.makes c.steps.line c.steps.till c.note_next.new.till c.planned-item.result c.make-made.result c.make-made.new.self c.make-made.new.till c.as_bytes.result.now c.as_bytes.ensures.value c.note_next.ensures c.make-made.ensures) (λ text told. subst (λ (n : List ℕ). ReportedSoFar c.report_note-reports.result (g.E.Sink.written c.args.report.now) (g.E.Sink.written c.report_note-reports.new.report) (g.E.Sink.failures c.args.report.now) (g.E.Sink.failures c.report_note-reports.new.report) (text ++ n)) named (c.report_note-reports.ensures (g.E.Sink.written c.args.report.now) (g.E.Sink.failures c.args.report.now) text told)) in
     record {
       so_far = one_more g.K.Keeper.till (noting g.N.NoteSource.noted g.L.StepLine.makes) c.args.steps.now.options (ReportedSoFar c.report_note-reports.result (g.E.Sink.written c.args.report.now) (g.E.Sink.written c.report_note-reports.new.report) (g.E.Sink.failures c.args.report.now) (g.E.Sink.failures c.report_note-reports.new.report)) c.args.steps.now.plan.now c.steps.planned-index c.planned-item.result c.make-made.result c.steps.short _ (standing c.args.line.now c.args.till.now) (standing c.make-made.new.self c.make-made.new.till) _ _ _ c.steps-test.true c.planned-item.is (sym c.stop_of.ensures ∙ c.in_default.is, c.in_ok-text.ensures.sent)

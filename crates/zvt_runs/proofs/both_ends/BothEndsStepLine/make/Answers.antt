@@ -1,54 +1,23 @@
-use Rattle.std.proofs.Common.{refl, sym, arith, subst, ◌≡◌, ◌∙◌}
-use Rattle.zvt_till.specs.View.{TillValue}
-use Rattle.zvt_till.specs.declared.orders.Order.{Order}
-use Rattle.zvt_runs.specs.BothEnds.{ended_of, here, line_of}
-use Rattle.zvt_runs.specs.LineEnd.{NotOrdered, Ordered}
-use Rattle.zvt_runs.specs.Steps.{verdict_of}
-use Rattle.zvt_runs.proofs.Turns.{begun, begun_not, book_fails, breaks, comes, decided, given_up, goes_on}
+use Rattle.std.proofs.Common.{Err, Ok, refl}
+use Rattle.std.proofs.lemmas.Result.{err_from_is_err_and}
+use Rattle.zvt_runs.specs.BothEnds.{line_of}
+use Rattle.zvt_runs.specs.declared.asking.Ended.TheVariants.{Order as EndedOrder}
+use Rattle.zvt_runs.proofs.Here.{made_here, unasked_here}
 use Rattle.zvt_runs.proofs.both_ends.BothEndsStepLine.make.Goals as goal
-
-pub returns-in-Err : goal.returns-in-Err
-returns-in-Err g c =
-    let seen = here g.A.LineEnd.state g.B.LineEnd.state in
-    begun_not g.met.K.Keeper.follows c.args.step.now c.in-Err.fault (seen c.args.self.now c.args.till.now) (seen (record { till = c.order-2.new.self; terminal = c.args.self.now.terminal; served = c.decide.new.self }) c.order-2.new.till) (record {
-      decided = record { terminal_end = refl; served = decided c.decide.new.self c.args.self.now.served.terminal (verdict_of c.args.step.now) c.decide.ensures.terminal (c.decide.ensures.verdict ∙ c.verdict.ensures) };
-      not_ordered = subst (λ (o : Order). NotOrdered g.K.Keeper.orders g.K.Machine.loses c.in-Err.fault o (g.A.LineEnd.state c.args.self.now.till) c.args.till.now (g.A.LineEnd.state c.order-2.new.self) c.order-2.new.till) c.order.ensures c.in-Err.ensures;
-    })
-
-pub alternations-init : goal.alternations-init
-alternations-init g c =
-    let seen = here g.A.LineEnd.state g.B.LineEnd.state in
-    begun g.met.K.Keeper.follows c.args.step.now (seen c.args.self.now c.args.till.now) (seen (record { till = c.order-2.new.self; terminal = c.args.self.now.terminal; served = c.decide.new.self }) c.order-2.new.till) (record {
-      decided = record { terminal_end = refl; served = decided c.decide.new.self c.args.self.now.served.terminal (verdict_of c.args.step.now) c.decide.ensures.terminal (c.decide.ensures.verdict ∙ c.verdict.ensures) };
-      ordered = subst (λ (o : Order). Ordered g.K.Keeper.orders o (g.A.LineEnd.state c.args.self.now.till) c.args.till.now (g.A.LineEnd.state c.order-2.new.self) c.order-2.new.till) c.order.ensures c.in_default.ensures;
-    })
-
-pub returns-in-Err-alternate : goal.returns-in-Err-alternate
-returns-in-Err-alternate g c =
-    let seen = here g.A.LineEnd.state g.B.LineEnd.state in
-    breaks g.met.K.Keeper.follows c.args.step.now c.alternations.made c.in-Err-alternate.fault (seen c.args.self.now c.args.till.now) (seen c.alternations.self c.alternations.till) (seen c.alternate.new.self c.alternate.new.till)
-    c.alternations-test.true c.alternations.invariant c.in-Err-alternate.ensures
-
-pub returns-then-has_failed : goal.returns-then-has_failed
-returns-then-has_failed g c =
-    let seen = here g.A.LineEnd.state g.B.LineEnd.state in
-    book_fails g.met.K.Keeper.follows c.args.step.now c.alternations.made (seen c.args.self.now c.args.till.now) (seen c.alternations.self c.alternations.till) (seen c.alternate.new.self c.alternate.new.till)
-    c.alternations-test.true c.alternations.invariant c.in_default-alternate.ensures (sym c.has_failed.ensures ∙ c.if-has_failed.true)
-
-pub returns-in-Some : goal.returns-in-Some
-returns-in-Some g c =
-    let seen = here g.A.LineEnd.state g.B.LineEnd.state in
-    comes g.met.K.Keeper.follows c.args.step.now c.alternations.made c.in-Some.outcome (seen c.args.self.now c.args.till.now) (seen c.alternations.self c.alternations.till) (seen c.alternate.new.self c.alternate.new.till) c.ended.result
-    c.alternations-test.true c.alternations.invariant c.in_default-alternate.ensures (sym c.has_failed.ensures ∙ c.if-has_failed.false) (subst (λ (t : TillValue). c.ended.result ≡ ended_of t) c.look.ensures c.ended.ensures) c.in-Some.is
-
-pub alternations-preserved : goal.alternations-preserved
-alternations-preserved g c =
-    let seen = here g.A.LineEnd.state g.B.LineEnd.state in
-    goes_on g.met.K.Keeper.follows c.args.step.now c.alternations.made (seen c.args.self.now c.args.till.now) (seen c.alternations.self c.alternations.till) (seen c.alternate.new.self c.alternate.new.till) c.ended.result
-    c.alternations.invariant c.in_default-alternate.ensures (sym c.has_failed.ensures ∙ c.if-has_failed.false) (subst (λ (t : TillValue). c.ended.result ≡ ended_of t) c.look.ensures c.ended.ensures) c.in_default-ended.is
 
 pub returns : goal.returns
 returns g c =
-    let seen = here g.A.LineEnd.state g.B.LineEnd.state in
-    given_up g.met.K.Keeper.follows c.args.step.now c.alternations.made (seen c.args.self.now c.args.till.now) (seen c.alternations.self c.alternations.till) (seen c.alternations.self c.lost.new.self)
-    (omega (arith, c.alternations.auto.made-end, c.alternations-test.false)) c.alternations.invariant refl c.lost.ensures
+    let seen = line_of g.A.LineEnd.state g.B.LineEnd.state in
+    made_here g.K.Keeper.orders g.K.Machine.hears g.K.Machine.is_resting g.K.Keeper.failed g.K.Keeper.till g.K.Machine.loses g.K.Machine.malforms c.args.step.now c.in-Some.order c.order.result c.verdict.result (seen c.args.self.now) c.args.till.now (seen c.run_order.new.self) c.run_order.new.till (Ok c.in_ok-outcome.outcome) (Ok (EndedOrder c.in_ok-outcome.outcome))
+    c.order.ensures c.in-Some.is c.verdict.ensures refl c.in_ok-outcome.ensures
+
+pub returns-in_err-outcome : goal.returns-in_err-outcome
+returns-in_err-outcome g c =
+    let seen = line_of g.A.LineEnd.state g.B.LineEnd.state in
+    let fault = c.in_err-outcome.field-0.0 in
+    let p = err_from_is_err_and c.from_residual.result c.from_residual.ensures.1 in
+    rw (p.1, p.2) (made_here g.K.Keeper.orders g.K.Machine.hears g.K.Machine.is_resting g.K.Keeper.failed g.K.Keeper.till g.K.Machine.loses g.K.Machine.malforms c.args.step.now c.in-Some.order c.order.result c.verdict.result (seen c.args.self.now) c.args.till.now (seen c.run_order.new.self) c.run_order.new.till (Err fault) (Err fault)
+    c.order.ensures c.in-Some.is c.verdict.ensures refl c.in_err-outcome.ensures)
+
+pub returns-in_default : goal.returns-in_default
+returns-in_default g c = unasked_here g.K.Keeper.orders g.K.Machine.hears g.K.Machine.is_resting g.K.Keeper.failed g.K.Keeper.till g.K.Machine.loses g.K.Machine.malforms c.args.step.now c.order.result (line_of g.A.LineEnd.state g.B.LineEnd.state c.args.self.now) c.args.till.now c.order.ensures c.in_default.is
