@@ -34,6 +34,8 @@ static class TillCheck {
         Layout(typeof(Native.Line));
         Layout(typeof(Native.State));
         Layout(typeof(Native.Entry));
+        Layout(typeof(Native.Settlement));
+        Layout(typeof(Native.Pending));
     }
 
     static void Layout(Type type) {
@@ -172,6 +174,9 @@ static class TillCheck {
         Tells("closed save", () => closed.Save());
         Tells("closed load", () => { closed.Load(new byte[8]); return null; });
         Tells("closed connect", () => { closed.Connect(new Memory(), Second); return null; });
+        Tells("closed ask", () => closed.Ask());
+        Tells("closed settled", () => closed.Settled);
+        Tells("closed pending", () => closed.Pending);
         closed.Disconnect();
 
         var first = new Memory();
@@ -257,19 +262,25 @@ static class TillCheck {
                 case "register": return till.Register().ToString();
                 case "pay": return till.Pay(long.Parse(words[1])).ToString();
                 case "reverse": return till.Reverse(int.Parse(words[1])).ToString();
+                case "ask": return Settled(till.Ask());
                 default: return till.CloseDay().ToString();
             }
         } catch (LineException lost) {
-            return lost.Outcome + ", and the line is lost";
+            return (lost.Outcome == null ? "ask" : lost.Outcome.ToString()) + ", and the line is lost";
         } catch (RefusedException refused) {
             return "refused: " + (uint)refused.Status;
         }
     }
 
+    static string Settled(Settlement one) { return one == null ? "nothing" : $"{one}, {one.Place}"; }
+
     static void Show(Till till) {
         if (till == null) return;
         foreach (var entry in till.Book) Console.WriteLine("booked " + entry);
         foreach (var entry in till.Unclear) Console.WriteLine("unclear " + entry);
+        foreach (var one in till.Settled) Console.WriteLine("settled " + Settled(one));
+        var pending = till.Pending;
+        Console.WriteLine(pending == null ? $"knows last {(till.KnowsLast ? 1 : 0)}" : $"pending {(int)pending.Kind}, {pending.Place}");
         Console.WriteLine($"total {till.Total}, saved {Digits(till.Save())}");
         till.Dispose();
     }

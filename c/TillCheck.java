@@ -36,8 +36,9 @@ public final class TillCheck {
     private static void layouts() throws Exception {
         Method offset = Structure.class.getDeclaredMethod("fieldOffset", String.class);
         offset.setAccessible(true);
-        Structure[] structs = {new Zvt.Answer(), new Zvt.OutcomeNumbers(), new Zvt.Step(), new Zvt.LineNumbers(), new Zvt.State(), new Zvt.EntryNumbers()};
-        String[] names = {"_Answer", "_Outcome", "_Step", "_Line", "_State", "_Entry"};
+        Structure[] structs = {new Zvt.Answer(), new Zvt.OutcomeNumbers(), new Zvt.Step(), new Zvt.LineNumbers(), new Zvt.State(), new Zvt.EntryNumbers(),
+            new Zvt.SettlementNumbers(), new Zvt.PendingNumbers()};
+        String[] names = {"_Answer", "_Outcome", "_Step", "_Line", "_State", "_Entry", "_Settlement", "_Pending"};
         System.out.println("version " + Zvt.version(LIBRARY));
         for (int at = 0; at < structs.length; at++) {
             StringBuilder line = new StringBuilder(names[at] + " " + structs[at].size());
@@ -159,6 +160,9 @@ public final class TillCheck {
         tells("closed save", closed::save);
         tells("closed load", () -> { closed.load(new byte[8]); return null; });
         tells("closed connect", () -> { closed.connect(new Memory(), SECOND); return null; });
+        tells("closed ask", closed::ask);
+        tells("closed settled", closed::settled);
+        tells("closed pending", closed::pending);
         closed.disconnect();
 
         Memory first = new Memory();
@@ -262,14 +266,17 @@ public final class TillCheck {
                 case "register": return till.register().toString();
                 case "pay": return till.pay(Long.parseLong(words[1])).toString();
                 case "reverse": return till.reverse(Integer.parseInt(words[1])).toString();
+                case "ask": return settled(till.ask());
                 default: return till.closeDay().toString();
             }
         } catch (Zvt.LineException lost) {
-            return lost.outcome + ", and the line is lost";
+            return (lost.outcome == null ? "ask" : lost.outcome.toString()) + ", and the line is lost";
         } catch (Zvt.RefusedException refused) {
             return "refused: " + refused.status;
         }
     }
+
+    private static String settled(Zvt.Settlement one) { return one == null ? "nothing" : one + ", " + one.place; }
 
     private static void show(Zvt.Till till) {
         if (till == null) {
@@ -277,6 +284,9 @@ public final class TillCheck {
         }
         till.book().forEach(entry -> System.out.println("booked " + entry));
         till.unclear().forEach(entry -> System.out.println("unclear " + entry));
+        till.settled().forEach(one -> System.out.println("settled " + settled(one)));
+        Zvt.Pending pending = till.pending();
+        System.out.println(pending == null ? "knows last " + (till.knowsLast() ? 1 : 0) : "pending " + (pending.kind.ordinal() + 1) + ", " + pending.place);
         System.out.println("total " + till.total() + ", saved " + digits(till.save()));
         till.close();
     }

@@ -44,10 +44,10 @@ namespace Zvt {
     }
 
     /// <summary>The connection ended, failed, timed out or sent invalid bytes, and was closed. The outcome is the result of the
-    /// order: a payment or a reversal is unclear.</summary>
+    /// order: a payment or a reversal is unclear. It is null if an ask was running.</summary>
     public sealed class LineException : IOException {
         public Outcome Outcome { get; }
-        internal LineException(Outcome outcome, Exception cause) : base("the line is lost: " + outcome, cause) { Outcome = outcome; }
+        internal LineException(Outcome outcome, Exception cause) : base("the line is lost" + (outcome == null ? "" : ": " + outcome), cause) { Outcome = outcome; }
     }
 
     /// <summary>The book can't be opened or written. Its till sends nothing more: create a new till, which opens the book
@@ -122,6 +122,44 @@ namespace Zvt {
             return Amount + Words.Numbers(Trace, Receipt) + (Reversed ? ", taken back" : "")
                 + (Doubt == Doubt.TakenBack ? ", taken back before, said the terminal" : Doubt == Doubt.UnclearReversal ? ", unclear reversal" : "")
                 + (Cause == null ? "" : ": " + Words.Of(Cause));
+        }
+    }
+
+    /// <summary>What became of an unclear order.</summary>
+    public enum SettlementKind { Paid = 1, NotPaid, Reversed, NotReversed }
+
+    /// <summary>What the answer to an ask says about an unclear order.</summary>
+    public sealed class Settlement {
+        public SettlementKind Kind { get; }
+        /// <summary>The index of the unclear payment, or for a reversal of the booked payment, from 0.</summary>
+        public int Place { get; }
+        /// <summary>The trace number, if the payment was paid.</summary>
+        public int? Trace { get; }
+        /// <summary>The receipt number, if the payment was paid and the terminal gave one.</summary>
+        public int? Receipt { get; }
+
+        internal Settlement(Native.Settlement from) {
+            Kind = (SettlementKind)from.kind;
+            Place = (int)from.place;
+            if (Kind == SettlementKind.Paid) Trace = (int)from.trace;
+            if (from.has_receipt == 1) Receipt = (int)from.receipt;
+        }
+
+        public override string ToString() { return Words.Of(Kind) + Words.Numbers(Trace, Receipt); }
+    }
+
+    /// <summary>The kind of a pending order.</summary>
+    public enum PendingKind { Payment = 1, Reversal }
+
+    /// <summary>An unclear order that the next answer can settle.</summary>
+    public sealed class Pending {
+        public PendingKind Kind { get; }
+        /// <summary>The index of the unclear payment, or for a reversal of the booked payment, from 0.</summary>
+        public int Place { get; }
+
+        internal Pending(Native.Pending from) {
+            Kind = (PendingKind)from.kind;
+            Place = (int)from.place;
         }
     }
 
@@ -359,20 +397,40 @@ namespace Zvt {
 
         public Outcome CloseDay() { return Run(Native.CloseDay, 0, CancellationToken.None); }
 
-        /// <summary>Runs an order to its end. Throws a LineException if the connection ended the order, a BookException if the book
-        /// failed, a RefusedException if the library refused the order, and, once the order has ended, the exception of a
-        /// callback.</summary>
+        /// <summary>Asks the terminal to repeat its last receipt, and returns the settlement of the pending order, or null if the
+        /// answer settles nothing. Ask after a registration if an order is pending, or if KnowsLast is false. The terminal has to
+        /// serve this till alone, and must not continue an order whose connection was lost. The book keeps the time of the ask
+        /// and the reference. Lines that the terminal wants printed again are handed out as usual.</summary>
+        public Settlement Ask(string reference = null) {
+            var named = Words.Reference(nameof(reference), reference);
+            RefuseWithin();
+            int before = (int)State().settled;
+            Check(Native.zvt_till_ask(handle, output, Native.Size(output), out var step));
+            var message = Part(output, 0, (int)step.send);
+            Exchange(() => RecordAndSendAsk(message, named), () => State().running != Native.Ask, CancellationToken.None);
+            var settled = Settled;
+            return settled.Count > before ? settled[before] : null;
+        }
+
+        /// <summary>Runs an order to its end, and returns its outcome.</summary>
         Outcome Run(uint order, long number, CancellationToken cancel, string reference = null) {
             var named = Words.Reference(nameof(reference), reference);
             RefuseWithin();
             var message = Order(order, number);
+            Exchange(() => KeepAndSend(order, number, message, named), () => outcome != null, cancel);
+            return outcome;
+        }
+
+        /// <summary>Sends the message of an order or an ask, and reads until that is over. Throws a LineException if the connection
+        /// ended it, a BookException if the book failed, and, once it is over, the exception of a callback.</summary>
+        void Exchange(Action send, Func<bool> isOver, CancellationToken cancel) {
             raised = null;
             outcome = null;
             running = true;
             Exception broken = null;
             try {
-                KeepAndSend(order, number, message, named);
-                HearOut(cancel);
+                send();
+                HearOut(isOver, cancel);
             } catch (BookException) {
                 GiveUp();
                 throw;
@@ -388,7 +446,6 @@ namespace Zvt {
             }
             if (raised != null) System.Runtime.ExceptionServices.ExceptionDispatchInfo.Capture(raised).Throw();
             if (broken != null) throw new LineException(outcome, broken);
-            return outcome;
         }
 
         byte[] Order(uint order, long number) {
@@ -405,11 +462,30 @@ namespace Zvt {
         /// <summary>Makes the order durable and then sends it.</summary>
         void KeepAndSend(uint order, long number, byte[] message, byte[] reference) {
             if (journal != null) {
-                var at = Encoding.ASCII.GetBytes(DateTime.UtcNow.ToString("yyyy-MM-dd'T'HH:mm:ss'Z'", CultureInfo.InvariantCulture));
+                var at = Now();
                 Native.zvt_record_order(order, (ulong)number, message, Native.Size(message), at, Native.Size(at), reference,
                     Native.Size(reference), record, Native.Size(record), out var answer);
                 MakeDurable(answer);
             }
+            Send(message);
+        }
+
+        /// <summary>Makes the ask durable and then sends it.</summary>
+        void RecordAndSendAsk(byte[] message, byte[] reference) {
+            if (journal != null) {
+                var at = Now();
+                Native.zvt_record_ask(at, Native.Size(at), reference, Native.Size(reference), record, Native.Size(record), out var answer);
+                MakeDurable(answer);
+            }
+            Send(message);
+        }
+
+        /// <summary>The time in UTC, in the form of a record.</summary>
+        static byte[] Now() {
+            return Encoding.ASCII.GetBytes(DateTime.UtcNow.ToString("yyyy-MM-dd'T'HH:mm:ss'Z'", CultureInfo.InvariantCulture));
+        }
+
+        void Send(byte[] message) {
             line.Write(message, 0, message.Length);
             line.Flush();
         }
@@ -425,10 +501,10 @@ namespace Zvt {
             if (step.outcome.kind != 0) outcome = new Outcome(step.outcome);
         }
 
-        /// <summary>Reads from the terminal until the order has ended.</summary>
-        void HearOut(CancellationToken cancel) {
+        /// <summary>Reads from the terminal until the order or the ask is over.</summary>
+        void HearOut(Func<bool> isOver, CancellationToken cancel) {
             var room = new byte[4096];
-            while (outcome == null) {
+            while (!isOver()) {
                 var reading = line.ReadAsync(room, 0, room.Length);
                 if (!Ends(reading, cancel)) {
                     if (Cancels()) cancel = CancellationToken.None;
@@ -583,6 +659,34 @@ namespace Zvt {
 
         /// <summary>The unclear payments: the terminal may have booked them or not.</summary>
         public IReadOnlyList<Entry> Unclear { get { return Entries(State().unclear, false); } }
+
+        /// <summary>What the answers to asks settled, in their order. Neither the book nor the list of unclear payments changes.</summary>
+        public IReadOnlyList<Settlement> Settled {
+            get {
+                var settled = new Settlement[State().settled];
+                for (int place = 0; place < settled.Length; place++) {
+                    Check(Native.zvt_till_settled(handle, (UIntPtr)place, out var one));
+                    settled[place] = new Settlement(one);
+                }
+                return settled;
+            }
+        }
+
+        Native.Pending PendingNumbers() {
+            Check(Native.zvt_till_pending(handle, out var pending));
+            return pending;
+        }
+
+        /// <summary>The unclear order that the next answer can settle, or null. After Load there is none.</summary>
+        public Pending Pending {
+            get {
+                var pending = PendingNumbers();
+                return pending.kind == 0 ? null : new Pending(pending);
+            }
+        }
+
+        /// <summary>Whether the till knows the terminal's last status. Only then can an order that becomes unclear be settled.</summary>
+        public bool KnowsLast { get { return PendingNumbers().last_known == 1; } }
 
         Entry[] Entries(ulong count, bool booked) {
             var entries = new Entry[count];
@@ -818,9 +922,11 @@ namespace Zvt {
     static class Native {
         public const string Library = "libzvt.so.0";
         /// <summary>The layouts and calls that this file is made for.</summary>
-        public const uint Abi = 3;
+        public const uint Abi = 4;
         public const uint More = 1;
         public const uint Register = 1, Pay = 2, Reverse = 3, CloseDay = 4, Cancel = 5;
+        /// <summary>What runs while an ask does.</summary>
+        public const uint Ask = 6;
 
         public static UIntPtr Size(byte[] bytes) { return (UIntPtr)bytes.Length; }
 
@@ -849,10 +955,16 @@ namespace Zvt {
         public struct Line { public ulong size; public uint copy; }
 
         [StructLayout(LayoutKind.Sequential)]
-        public struct State { public ulong total, booked, unclear, unclear_reversals, held; public uint registered, running; public Outcome last; }
+        public struct State { public ulong total, booked, unclear, unclear_reversals, settled, held; public uint registered, running; public Outcome last; }
 
         [StructLayout(LayoutKind.Sequential)]
         public struct Entry { public ulong amount; public uint trace, receipt, has_receipt, reversed, cause, doubt; }
+
+        [StructLayout(LayoutKind.Sequential)]
+        public struct Settlement { public ulong place; public uint kind, trace, receipt, has_receipt; }
+
+        [StructLayout(LayoutKind.Sequential)]
+        public struct Pending { public ulong place; public uint kind, last_known; }
 
         /// <summary>The struct zvt_till. It stays where it is, and is freed once.</summary>
         public sealed class TillHandle : SafeHandle {
@@ -883,6 +995,9 @@ namespace Zvt {
         [DllImport(Library)] public static extern uint zvt_till_connected(TillHandle till);
         [DllImport(Library)] public static extern uint zvt_till_lost(TillHandle till, out Step step);
         [DllImport(Library)] public static extern uint zvt_till_order(TillHandle till, uint order, ulong number, [Out] byte[] room, UIntPtr length, out Step step);
+        [DllImport(Library)] public static extern uint zvt_till_ask(TillHandle till, [Out] byte[] room, UIntPtr length, out Step step);
+        [DllImport(Library)] public static extern uint zvt_till_settled(TillHandle till, UIntPtr place, out Settlement settlement);
+        [DllImport(Library)] public static extern uint zvt_till_pending(TillHandle till, out Pending pending);
         [DllImport(Library)] public static extern uint zvt_till_feed_all(TillHandle till, byte[] piece, UIntPtr length, [Out] byte[] room,
             UIntPtr roomLength, [Out] byte[] line, UIntPtr lineLength, out Step step);
         [DllImport(Library)] public static extern uint zvt_till_line(TillHandle till, UIntPtr place, uint codepage, [Out] byte[] room, UIntPtr length, out Line line);
@@ -897,6 +1012,8 @@ namespace Zvt {
         [DllImport(Library)] public static extern void zvt_record_opening(ushort currency, [Out] byte[] room, UIntPtr length, out Answer answer);
         [DllImport(Library)] public static extern void zvt_record_order(uint order, ulong number, byte[] sent, UIntPtr sentLength, byte[] at,
             UIntPtr atLength, byte[] reference, UIntPtr referenceLength, [Out] byte[] room, UIntPtr length, out Answer answer);
+        [DllImport(Library)] public static extern void zvt_record_ask(byte[] at, UIntPtr atLength, byte[] reference, UIntPtr referenceLength,
+            [Out] byte[] room, UIntPtr length, out Answer answer);
         [DllImport(Library)] public static extern UIntPtr zvt_record_heard(byte[] bytes, UIntPtr length, [Out] byte[] room, UIntPtr roomLength, out Answer answer);
         [DllImport(Library)] public static extern void zvt_record_lost([Out] byte[] room, UIntPtr length, out Answer answer);
         [DllImport(Library)] public static extern void zvt_record_notes(TillHandle till, byte[] text, UIntPtr length, [Out] byte[] room,

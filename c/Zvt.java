@@ -45,7 +45,7 @@ public final class Zvt {
     private Zvt() {}
 
     /** Version of the struct layouts and calls that this file expects. */
-    static final int ABI = 3;
+    static final int ABI = 4;
     private static final int ROOM = 8 * 32, LINE_ROOM = 65534, RECORD_ROOM = 131200;
     private static final long MAX_AMOUNT = 999_999_999_999L;
 
@@ -65,6 +65,8 @@ public final class Zvt {
 
     private static final int OK = 0, MORE = 1, REFUSED = 2, ARGUMENT = 5, CLOSED = 6, NOTHING_TO_CANCEL = 13;
     private static final int REGISTER = 1, PAY = 2, REVERSE = 3, CLOSE_DAY = 4, CANCEL = 5;
+    /** What runs while an ask does. */
+    private static final int ASK = 6;
 
     /** The library refused a call. The till has not changed. The status is one of zvt.h. */
     public static final class RefusedException extends RuntimeException {
@@ -83,7 +85,7 @@ public final class Zvt {
                 case 7: return "this line brought bytes before that begin no message";
                 case 10: return "the line is down";
                 case 11: return "the till is not registered";
-                case 12: return "an order runs";
+                case 12: return "an order or an ask runs";
                 case 13: return "no payment runs that could be cancelled";
                 case 14: return "the book is full";
                 case 15: return "no such payment is booked";
@@ -97,11 +99,11 @@ public final class Zvt {
     /** The connection ended, failed, timed out or sent invalid bytes, and was closed. */
     public static final class LineException extends IOException {
         private static final long serialVersionUID = 1;
-        /** The outcome of the order: a payment or a reversal is unclear. */
+        /** The outcome of the order: a payment or a reversal is unclear. It is null if an ask was running. */
         public final transient Outcome outcome;
 
         LineException(Outcome outcome, IOException cause) {
-            super("the line is lost: " + outcome, cause);
+            super("the line is lost" + (outcome == null ? "" : ": " + outcome), cause);
             this.outcome = outcome;
         }
     }
@@ -174,6 +176,42 @@ public final class Zvt {
             String text = amount + numbers(trace, receipt) + (reversed ? ", taken back" : "");
             text += doubt == Doubt.TAKEN_BACK ? ", taken back before, said the terminal" : doubt == Doubt.UNCLEAR_REVERSAL ? ", unclear reversal" : "";
             return text + (cause == null ? "" : ": " + words(cause));
+        }
+    }
+
+    /** What became of an unclear order. */
+    public enum SettlementKind { PAID, NOT_PAID, REVERSED, NOT_REVERSED }
+
+    /** What the answer to an ask says about an unclear order. */
+    public static final class Settlement {
+        public final SettlementKind kind;
+        /** The index of the unclear payment, or for a reversal of the booked payment, from 0. */
+        public final int place;
+        /** The numbers of a payment that was paid; the receipt number only if the terminal gave one. */
+        public final Integer trace, receipt;
+
+        Settlement(SettlementNumbers from) {
+            kind = SettlementKind.values()[from.kind - 1];
+            place = (int) from.place;
+            trace = kind == SettlementKind.PAID ? Integer.valueOf(from.trace) : null;
+            receipt = from.has_receipt == 1 ? from.receipt : null;
+        }
+
+        @Override public String toString() { return words(kind) + numbers(trace, receipt); }
+    }
+
+    /** The kind of a pending order. */
+    public enum PendingKind { PAYMENT, REVERSAL }
+
+    /** An unclear order that the next answer can settle. */
+    public static final class Pending {
+        public final PendingKind kind;
+        /** The index of the unclear payment, or for a reversal of the booked payment, from 0. */
+        public final int place;
+
+        Pending(PendingNumbers from) {
+            kind = PendingKind.values()[from.kind - 1];
+            place = (int) from.place;
         }
     }
 
@@ -467,19 +505,45 @@ public final class Zvt {
 
         public Outcome closeDay() throws IOException { return run(CLOSE_DAY, 0, null, null); }
 
-        /** Runs an order to its end. Throws a LineException if the connection ended the order, a BookException if the book failed,
-         * a RefusedException if the library refused the order, and, once the order has ended, the exception of a callback. */
+        public Settlement ask() throws IOException { return ask(null); }
+
+        /**
+         * Asks the terminal to repeat its last receipt, and returns the settlement of the pending order, or null if the answer settles
+         * nothing. Ask after a registration if an order is pending, or if knowsLast() is false. The terminal has to serve this till
+         * alone, and must not continue an order whose connection was lost. The book keeps the time of the ask and the reference.
+         * Lines that the terminal wants printed again are handed out as usual.
+         */
+        public Settlement ask(String reference) throws IOException {
+            byte[] named = referenced(reference);
+            refuseWithin();
+            int before = (int) state().settled;
+            Step step = new Step();
+            check(calls.zvt_till_ask(handle, out, new NativeLong(ROOM), step));
+            byte[] message = Arrays.copyOf(out, (int) step.send);
+            exchange(() -> recordAndSendAsk(message, named), () -> state().running != ASK, null);
+            List<Settlement> settled = settled();
+            return settled.size() > before ? settled.get(before) : null;
+        }
+
+        /** Runs an order to its end, and returns its outcome. */
         private Outcome run(int order, long number, BooleanSupplier wantsCancel, String reference) throws IOException {
             byte[] named = referenced(reference);
             refuseWithin();
             byte[] message = order(order, number);
+            exchange(() -> keepAndSend(order, number, message, named), () -> outcome != null, wantsCancel);
+            return outcome;
+        }
+
+        /** Sends the message of an order or an ask, and reads until that is over. Throws a LineException if the connection ended it, a
+         * BookException if the book failed, and, once it is over, the exception of a callback. */
+        private void exchange(Sending send, BooleanSupplier isOver, BooleanSupplier wantsCancel) throws IOException {
             raised = null;
             outcome = null;
             running = true;
             IOException broken = null;
             try {
-                keepAndSend(order, number, message, named);
-                hearOut(wantsCancel);
+                send.run();
+                hearOut(isOver, wantsCancel);
             } catch (BookException error) {
                 giveUp();
                 throw error;
@@ -502,7 +566,6 @@ public final class Zvt {
             if (broken != null) {
                 throw new LineException(outcome, broken);
             }
-            return outcome;
         }
 
         private byte[] order(int order, long number) {
@@ -515,9 +578,21 @@ public final class Zvt {
         private void keepAndSend(int order, long number, byte[] message, byte[] reference) throws IOException {
             if (book != null) {
                 Answer answer = new Answer();
-                byte[] at = Instant.now().truncatedTo(ChronoUnit.SECONDS).toString().getBytes(StandardCharsets.US_ASCII);
+                byte[] at = now();
                 calls.zvt_record_order(order, number, message, new NativeLong(message.length), at, new NativeLong(at.length), reference,
                     new NativeLong(reference.length), record, new NativeLong(RECORD_ROOM), answer);
+                makeDurable(answer);
+            }
+            line.write(message);
+        }
+
+        /** Makes the ask durable and then sends it. */
+        private void recordAndSendAsk(byte[] message, byte[] reference) throws IOException {
+            if (book != null) {
+                Answer answer = new Answer();
+                byte[] at = now();
+                calls.zvt_record_ask(at, new NativeLong(at.length), reference, new NativeLong(reference.length), record,
+                    new NativeLong(RECORD_ROOM), answer);
                 makeDurable(answer);
             }
             line.write(message);
@@ -544,11 +619,11 @@ public final class Zvt {
             }
         }
 
-        /** Reads from the terminal until the order has ended. An Error of a callback closes the connection at once. */
-        private void hearOut(BooleanSupplier wantsCancel) throws IOException {
+        /** Reads from the terminal until the order or the ask is over. An Error of a callback closes the connection at once. */
+        private void hearOut(BooleanSupplier isOver, BooleanSupplier wantsCancel) throws IOException {
             byte[] room = new byte[4096];
             long since = System.nanoTime();
-            while (outcome == null) {
+            while (!isOver.getAsBoolean()) {
                 if (raised instanceof Error) {
                     throw new IOException("a callback ended the order");
                 }
@@ -757,6 +832,32 @@ public final class Zvt {
         /** The unclear payments: the terminal may have booked them or not. */
         public List<Entry> unclear() { return entries(state().unclear, false); }
 
+        /** What the answers to asks settled, in their order. Neither the book nor the list of unclear payments changes. */
+        public List<Settlement> settled() {
+            List<Settlement> settled = new ArrayList<>();
+            for (long count = state().settled; settled.size() < count; ) {
+                SettlementNumbers one = new SettlementNumbers();
+                check(calls.zvt_till_settled(handle, new NativeLong(settled.size()), one));
+                settled.add(new Settlement(one));
+            }
+            return settled;
+        }
+
+        private PendingNumbers pendingNumbers() {
+            PendingNumbers pending = new PendingNumbers();
+            check(calls.zvt_till_pending(handle, pending));
+            return pending;
+        }
+
+        /** The unclear order that the next answer can settle, or null. After load there is none. */
+        public Pending pending() {
+            PendingNumbers pending = pendingNumbers();
+            return pending.kind == 0 ? null : new Pending(pending);
+        }
+
+        /** Whether the till knows the terminal's last status. Only then can an order that becomes unclear be settled. */
+        public boolean knowsLast() { return pendingNumbers().last_known == 1; }
+
         private List<Entry> entries(long count, boolean booked) {
             List<Entry> entries = new ArrayList<>();
             List<Map<String, String>> notes = notes(booked ? "booked" : "unclear");
@@ -836,6 +937,14 @@ public final class Zvt {
             state();
             check(calls.zvt_till_load(handle, saved, new NativeLong(saved.length)));
         }
+    }
+
+    /** Sends a message. */
+    private interface Sending { void run() throws IOException; }
+
+    /** The time in UTC, in the form of a record. */
+    private static byte[] now() {
+        return Instant.now().truncatedTo(ChronoUnit.SECONDS).toString().getBytes(StandardCharsets.US_ASCII);
     }
 
     private static byte[] joined(byte[] first, byte[] second) {
@@ -1074,6 +1183,9 @@ public final class Zvt {
         int zvt_till_connected(Pointer till);
         int zvt_till_lost(Pointer till, Step step);
         int zvt_till_order(Pointer till, int order, long number, byte[] out, NativeLong length, Step step);
+        int zvt_till_ask(Pointer till, byte[] out, NativeLong length, Step step);
+        int zvt_till_settled(Pointer till, NativeLong place, SettlementNumbers settlement);
+        int zvt_till_pending(Pointer till, PendingNumbers pending);
         int zvt_till_feed_all(Pointer till, byte[] piece, NativeLong length, byte[] out, NativeLong outLength, byte[] line, NativeLong lineLength, Step step);
         int zvt_till_line(Pointer till, NativeLong place, int codepage, byte[] room, NativeLong length, LineNumbers line);
         NativeLong zvt_till_card_name(Pointer till, byte[] room, NativeLong length);
@@ -1087,6 +1199,8 @@ public final class Zvt {
         void zvt_record_opening(short currency, byte[] room, NativeLong length, Answer answer);
         void zvt_record_order(int order, long number, byte[] sent, NativeLong sentLength, byte[] at, NativeLong atLength, byte[] reference,
             NativeLong referenceLength, byte[] room, NativeLong length, Answer answer);
+        void zvt_record_ask(byte[] at, NativeLong atLength, byte[] reference, NativeLong referenceLength, byte[] room, NativeLong length,
+            Answer answer);
         NativeLong zvt_record_heard(byte[] bytes, NativeLong length, byte[] room, NativeLong roomLength, Answer answer);
         void zvt_record_lost(byte[] room, NativeLong length, Answer answer);
         void zvt_record_notes(Pointer till, byte[] text, NativeLong length, byte[] room, NativeLong roomLength, Answer answer);
@@ -1118,9 +1232,9 @@ public final class Zvt {
         public int copy;
     }
 
-    @Structure.FieldOrder({"total", "booked", "unclear", "unclear_reversals", "held", "registered", "running", "last"})
+    @Structure.FieldOrder({"total", "booked", "unclear", "unclear_reversals", "settled", "held", "registered", "running", "last"})
     public static class State extends Structure {
-        public long total, booked, unclear, unclear_reversals, held;
+        public long total, booked, unclear, unclear_reversals, settled, held;
         public int registered, running;
         public OutcomeNumbers last;
     }
@@ -1129,5 +1243,17 @@ public final class Zvt {
     public static class EntryNumbers extends Structure {
         public long amount;
         public int trace, receipt, has_receipt, reversed, cause, doubt;
+    }
+
+    @Structure.FieldOrder({"place", "kind", "trace", "receipt", "has_receipt"})
+    public static class SettlementNumbers extends Structure {
+        public long place;
+        public int kind, trace, receipt, has_receipt;
+    }
+
+    @Structure.FieldOrder({"place", "kind", "last_known"})
+    public static class PendingNumbers extends Structure {
+        public long place;
+        public int kind, last_known;
     }
 }

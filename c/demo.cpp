@@ -1,4 +1,4 @@
-// Pays in memory, saves while a second payment runs, and goes on from what was saved: reverses until the line is lost, and again. c++ -std=c++17 demo.cpp -lzvt
+// Pays in memory, saves while a second payment runs, and goes on from what was saved: reverses until the line is lost, and again; and asks what became of a payment. c++ -std=c++17 demo.cpp -lzvt
 #include "zvt.hpp"
 #include <cinttypes>
 #include <cstdio>
@@ -40,6 +40,33 @@ static void show_journal(const uint8_t *registered, size_t length) {
             std::printf("no journal: reason %u at %" PRIu64 "\n", bad.reason, bad.place);
         }
     }
+}
+
+/* A payment whose line is lost, and what the terminal's answers to an ask say about it: its status from before, or another. */
+static void show_asks(const uint8_t *registered, size_t length) {
+    const uint8_t answers[][25] = {
+        {0x80, 0x00, 0x00, 0x04, 0x0F, 0x10, 0x27, 0x00, 0x04, 0, 0, 0, 0, 0x12, 0x34, 0x0B, 0, 0, 0x17, 0x87, 0, 5, 0x06, 0x0F, 0x00},
+        {0x80, 0x00, 0x00, 0x04, 0x0F, 0x10, 0x27, 0x00, 0x04, 0, 0, 0, 0, 0x05, 0x00, 0x0B, 0, 0, 0x18, 0x87, 0, 6, 0x06, 0x0F, 0x00}};
+    for (const auto &answer : answers) {
+        zvt::Till till;
+        till.connected();
+        till.order(ZVT_REGISTER);
+        till.feed(registered, length);
+        till.order(ZVT_PAY, 1234);
+        till.feed(answers[0], sizeof answers[0]);
+        till.order(ZVT_PAY, 500);
+        till.lost();
+        till.connected();
+        till.order(ZVT_REGISTER);
+        till.feed(registered, length);
+        std::printf("pending %u, to send:", till.pending().kind);
+        for (uint8_t byte : till.ask()) std::printf(" %02X", byte);
+        std::printf(", running %u\n", till.state().running);
+        till.feed(answer, sizeof answer);
+        for (const zvt_settlement &one : till.settled())
+            std::printf("settled: kind %u at %" PRIu64 ", trace number %06u, running %u, pending %u\n", one.kind, one.place, one.trace, till.state().running, till.pending().kind);
+    }
+    std::printf("%s", zvt::record_ask({"2026-11-28T09:14:05Z", ""}).c_str()); /* zvt::record_ask() */
 }
 
 int main() {
@@ -96,4 +123,5 @@ int main() {
         std::printf("moved: status %u, total %" PRIu64 ", version %s\n", refused.status, taken.state().total, zvt::version().c_str());
     }
     show_journal(registered, sizeof registered);
+    show_asks(registered, sizeof registered);
 }

@@ -1,10 +1,10 @@
 //! Reads a message, pays in memory, saves while a second payment runs, and goes on from what was saved: reverses until the
-//! line is lost, and again.
+//! line is lost, and again; and asks what became of a payment.
 //! rustc demo.rs -L out -l dylib=zvt
 #[allow(dead_code)] // a part of it is used here
 mod zvt;
 
-use zvt::{Codepage, Note, Order, Refused, Till, record_heard, record_lost, record_opening, record_order, text};
+use zvt::{Codepage, Note, Order, Refused, Till, record_ask, record_heard, record_lost, record_opening, record_order, text};
 
 const REGISTERED: &[u8] = &[0x80, 0x00, 0x00, 0x06, 0x0F, 0x00];
 const APPROVED: &[u8] = &[
@@ -12,6 +12,12 @@ const APPROVED: &[u8] = &[
     0x04, 0x0F, 0x27, 0x27, 0x00, 0x04, 0x00, 0x00, 0x00, 0x00, 0x12, 0x34, 0x0B, 0x00, 0x00, 0x17, 0x87, 0x00, 0x05, 0x22, 0xF0,
     0xF8, 0x67, 0x26, 0x12, 0x34, 0x56, 0x78, 0x12, 0x34, 0x8B, 0xF0, 0xF9, b'g', b'i', b'r', b'o', b'c', b'a', b'r', b'd', 0x00,
     0x06, 0x0F, 0x00, 0x06, 0xD1, 0x04, 0x00, b'B', b'y', b'e', 0x06, 0xD1, 0x04, 0x00, b'B', b'y', b'e',
+];
+
+/// What a terminal says when it is asked: its status from before a payment, or another.
+const ANSWERS: [&[u8]; 2] = [
+    &[0x80, 0x00, 0x00, 0x04, 0x0F, 0x10, 0x27, 0, 0x04, 0, 0, 0, 0, 0x12, 0x34, 0x0B, 0, 0, 0x17, 0x87, 0, 5, 0x06, 0x0F, 0x00],
+    &[0x80, 0x00, 0x00, 0x04, 0x0F, 0x10, 0x27, 0, 0x04, 0, 0, 0, 0, 0x05, 0x00, 0x0B, 0, 0, 0x18, 0x87, 0, 6, 0x06, 0x0F, 0x00],
 ];
 
 fn main() -> Result<(), Refused> {
@@ -51,7 +57,30 @@ fn main() -> Result<(), Refused> {
         again = Till::load(&again.save()?)?;
         println!("{outcome:?}, {} unclear: {:?}", again.unclear_reversals()?, again.book()?[0].doubt);
     }
-    show_journal()
+    show_journal()?;
+    show_asks()
+}
+
+/// A payment whose line is lost, and what the answers to an ask say about it.
+fn show_asks() -> Result<(), Refused> {
+    for answer in ANSWERS {
+        let mut till = Till::new(0, 0xBE, 978)?;
+        till.connected()?;
+        till.order(Order::Register)?;
+        till.feed(REGISTERED)?;
+        till.order(Order::Pay(1234))?;
+        till.feed(ANSWERS[0])?;
+        till.order(Order::Pay(500))?;
+        till.lost()?;
+        till.connected()?;
+        till.order(Order::Register)?;
+        till.feed(REGISTERED)?;
+        println!("{:?}, {:02X?}, {}", till.pending()?, till.ask()?, till.asking()?);
+        till.feed(answer)?;
+        println!("{:?}, {:?}, {}", till.settled()?, till.pending()?, till.asking()?);
+    }
+    print!("{}", String::from_utf8_lossy(&record_ask(&note("2026-11-28T09:14:05Z", None))?));
+    Ok(())
 }
 
 /// The note of an order at this time: a till takes that of `Note::now`.

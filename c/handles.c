@@ -20,6 +20,8 @@ static void closed(zvt_till *till) {
     zvt_answer answer;
     zvt_state state;
     zvt_entry entry;
+    zvt_settlement settlement;
+    zvt_pending pending;
     CHECK(zvt_till_connected(till) == ZVT_CLOSED);
     memset(&step, 0xAA, sizeof step);
     CHECK(zvt_till_lost(till, &step) == ZVT_CLOSED && !memcmp(&step, &nothing, sizeof step));
@@ -28,6 +30,9 @@ static void closed(zvt_till *till) {
         CHECK(zvt_till_order(till, order, 1, out, sizeof out, &step) == ZVT_CLOSED && !memcmp(&step, &nothing, sizeof step));
     }
     CHECK(zvt_till_order(till, 9, 1, out, sizeof out, &step) == ZVT_ARGUMENT);
+    memset(&step, 0xAA, sizeof step);
+    CHECK(zvt_till_ask(till, out, sizeof out, &step) == ZVT_CLOSED && !memcmp(&step, &nothing, sizeof step));
+    CHECK(zvt_till_settled(till, 0, &settlement) == ZVT_CLOSED && zvt_till_pending(till, &pending) == ZVT_CLOSED);
     memset(&step, 0xAA, sizeof step);
     CHECK(zvt_till_feed(till, ended, sizeof ended, out, sizeof out, &step) == ZVT_CLOSED && !memcmp(&step, &nothing, sizeof step));
     memset(&step, 0xAA, sizeof step);
@@ -94,19 +99,24 @@ static void calls(zvt_till **till, unsigned number) {
     zvt_answer answer;
     zvt_state state;
     zvt_entry entry;
+    zvt_settlement settlement;
+    zvt_pending pending;
     uint32_t status = 0, open = (*till)->full;
-    switch (number % 11) {
+    switch (number % 14) {
     case 0: status = zvt_till_connected(*till); break;
     case 1: status = zvt_till_lost(*till, &step); break;
-    case 2: status = zvt_till_order(*till, 1 + number / 11 % 5, 1 + number % 1000, out, sizeof out, &step); break;
-    case 3: status = zvt_till_feed_all(*till, approved, number / 11 % sizeof approved, out, sizeof out, line, sizeof line, &step); break;
-    case 4: status = zvt_till_feed(*till, ended, number / 11 % sizeof ended, out, sizeof out, &step); break;
+    case 2: status = zvt_till_order(*till, 1 + number / 14 % 5, 1 + number % 1000, out, sizeof out, &step); break;
+    case 3: status = zvt_till_feed_all(*till, approved, number / 14 % sizeof approved, out, sizeof out, line, sizeof line, &step); break;
+    case 4: status = zvt_till_feed(*till, ended, number / 14 % sizeof ended, out, sizeof out, &step); break;
     case 5: status = zvt_till_state(*till, &state); break;
-    case 6: status = zvt_till_entry(*till, number / 11 % 3, &entry); break;
+    case 6: status = zvt_till_entry(*till, number / 14 % 3, &entry); break;
     case 7: zvt_till_save(*till, saved, sizeof saved, &answer), status = answer.status; break;
     case 8: *till = moved(*till); return;
     case 9: zvt_till_free(*till); CHECK((*till)->full == 0); return;
     case 10: CHECK(zvt_till_new(*till, number % 1000000, 0xBE, 978) == ZVT_OK && (*till)->full == 1); return;
+    case 11: status = zvt_till_ask(*till, out, sizeof out, &step); break;
+    case 12: status = zvt_till_settled(*till, number / 14 % 3, &settlement); break;
+    case 13: status = zvt_till_pending(*till, &pending); break;
     }
     CHECK((status == ZVT_CLOSED) == !open && (*till)->full == open);
 }

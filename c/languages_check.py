@@ -6,7 +6,7 @@ LIBRARY is the folder of libzvt.so.0, LAYOUTS the file that layouts.c writes, PR
 The example runs the steps of a day at the program's terminal, with a book in a file, and passes each situation of conformance/till.
 It is killed while a payment runs, and goes
 on from its book. TillCheck says its structs' layouts, what wrong arguments and closed tills come to, and what callbacks that raise
-do. It plays tills, orders and pieces of bytes, random, hostile and cut anywhere: what it says is what zvt.py says. It makes tills
+do. It plays tills, orders, asks and pieces of bytes, random, hostile and cut anywhere: what it says is what zvt.py says. It makes tills
 over and over, and does not grow. tests/journal_calls.py reads off the example's system calls what a loss of power leaves of its
 book, where strace is there. And TillCheck is the till that kill_check.py kills. The status is 1 where anything does not hold.
 """
@@ -46,7 +46,7 @@ ARGUMENTS = ["password: argument: {password} is a number from 0 to 999999, and n
              "place: argument: place is a number from 0 to 2147483647, and not -1",
              "offline: refused: the line is down", "status 0A: insert the card"]
 CLOSED = [f"closed {call}: use: the till is closed" for call in (
-    "register", "pay", "reverse", "close day", "book", "unclear", "unclear reversals", "total", "registered", "last", "card", "save", "load", "connect")]
+    "register", "pay", "reverse", "close day", "book", "unclear", "unclear reversals", "total", "registered", "last", "card", "save", "load", "connect", "ask", "settled", "pending")]
 # What a callback is told of a registration and of a payment, whose book is kept; and its reference and the length of its time,
 # which the till and one that goes on from its book give.
 HEARD = """heard: paid, trace 000017, receipt 0005
@@ -258,11 +258,11 @@ def status(chance, amount):
 
 
 def spoken(chance, order, amount):
-    """The bytes that a terminal answers an order with: mostly such as end it."""
+    """The bytes that a terminal answers an order or an ask with: mostly such as end it."""
     said = [ACK] if chance.random() < 0.95 else [chance.choice(["84B400", "840500"])]
     for _ in range(chance.randint(0, 3)):
         said.append(chance.choice(["04FF0100", "06D1070054" + "68616E6B73", "06D1020041", "06D3050601030203"]))
-    if order in ("pay", "reverse") and chance.random() < 0.9:
+    if order in ("pay", "reverse", "ask") and chance.random() < 0.9:
         said.append(status(chance, amount))
     said.append(chance.choice([DONE] * 6 + ["061E016C", "061E01B4", ""]))
     if chance.random() < 0.1:
@@ -284,23 +284,45 @@ def hostile(chance, held):
     return bytes(held) if chance.random() < 0.9 else chance.randbytes(chance.randint(1, 300))
 
 
+def orders(chance):
+    """Orders and asks in any order, each with the bytes that the terminal says."""
+    amounts = []
+    for number in range(chance.randint(2, 12)):
+        order = chance.choices(["register", "pay", "reverse", "close", "ask"], [2 if number else 9, 6, 3, 1, 1])[0]
+        amount = chance.choice([1, 999, chance.randint(1, 999_999_999_999)])
+        place = chance.randrange(3)
+        if order == "reverse" and place < len(amounts):
+            amount = amounts[place]
+        if order == "pay":
+            amounts.append(amount)
+        yield {"pay": f"pay {amount}", "reverse": f"reverse {place}"}.get(order, order), spoken(chance, order, amount)
+
+
+def approval(amount, trace, more=""):
+    return f"040F{16 + len(more) // 2:02X}270004{bcd(amount, 6)}0B{bcd(trace, 3)}87{bcd(trace, 2)}{more}"
+
+
+def asks(chance):
+    """A payment; another, or its reversal, whose line breaks; then asks, and what a terminal may answer."""
+    paid, unclear, other = (chance.randint(1, 999_999) for _ in range(3))
+    first, back = approval(paid, 1), approval(paid, 2, "37000001")
+    broken = chance.choice([f"pay {unclear}", "reverse 0"])
+    for row, said in (("register", ACK + DONE), (f"pay {paid}", ACK + first + DONE), (broken, ACK), ("register", ACK + DONE)):
+        yield row, bytes.fromhex(said)
+    for _ in range(chance.randint(1, 3)):
+        answer = ACK + chance.choice([first, back, approval(unclear, 2), approval(other, 3)]) + DONE
+        yield "ask", bytes.fromhex(chance.choice([answer] * 5 + ["848300", ACK + "061E0183", ACK]))
+
+
 def script(seed, count):
-    """Tills, orders and pieces: at least so many pieces."""
+    """Tills, orders, asks and pieces: at least so many pieces."""
     chance, rows, pieces = random.Random(seed), [], 0
     while pieces < count:
         rows.append("till")
-        amounts = []
-        for number in range(chance.randint(2, 12)):
-            order = chance.choices(["register", "pay", "reverse", "close"], [2 if number else 9, 6, 3, 1])[0]
-            amount = chance.choice([1, 999, chance.randint(1, 999_999_999_999)])
-            place = chance.randrange(3)
-            if order == "reverse" and place < len(amounts):
-                amount = amounts[place]
-            if order == "pay":
-                amounts.append(amount)
-            rows.append({"pay": f"pay {amount}", "reverse": f"reverse {place}"}.get(order, order))
-            held = spoken(chance, order, amount)
-            if chance.random() < 0.25:
+        turns, changed = (orders, 0.25) if chance.random() < 0.8 else (asks, 0.05)
+        for row, held in turns(chance):
+            rows.append(row)
+            if chance.random() < changed:
                 held = hostile(chance, held)
             while held:
                 size = chance.choice([1, 1, 2, 3, 7, len(held)])
@@ -328,6 +350,11 @@ class Pieces:
         self.is_closed = True
 
 
+def settled(one):
+    """The words of a settlement, if there is one."""
+    return f"{one}, {one.place}" if one else "nothing"
+
+
 def played(rows, library):
     """What zvt.py makes of the rows."""
     said, till, line = [], None, None
@@ -336,6 +363,9 @@ def played(rows, library):
         if till is not None:
             said.extend(f"booked {entry}" for entry in till.book())
             said.extend(f"unclear {entry}" for entry in till.unclear())
+            said.extend(f"settled {settled(one)}" for one in till.settled())
+            pending = till.pending()
+            said.append(f"pending {pending.kind}, {pending.place}" if pending else f"knows last {int(till.knows_last())}")
             said.append(f"total {till.state().total}, saved {till.save().hex().upper()}")
             till.close()
     at = 0
@@ -354,10 +384,11 @@ def played(rows, library):
             line.pieces.append(bytes.fromhex(rows[at][2:]))
             at += 1
         try:
-            call = {"register": till.register, "pay": till.pay, "reverse": till.reverse, "close": till.close_day}[words[0]]
+            call = {"register": till.register, "pay": till.pay, "reverse": till.reverse, "close": till.close_day,
+                    "ask": lambda: settled(till.ask())}[words[0]]
             said.append(str(call(*map(int, words[1:]))))
         except zvt.LineError as lost:
-            said.append(f"{lost.outcome}, and the line is lost")
+            said.append(f"{lost.outcome or 'ask'}, and the line is lost")
         except zvt.Refused as refused:
             said.append(f"refused: {refused.status}")
     show()

@@ -18,10 +18,15 @@ int main(void) {
     AT(zvt_line, size); AT(zvt_line, copy);
     printf("\n_State %zu", sizeof(zvt_state));
     AT(zvt_state, total); AT(zvt_state, booked); AT(zvt_state, unclear); AT(zvt_state, unclear_reversals);
-    AT(zvt_state, held); AT(zvt_state, registered); AT(zvt_state, running); AT(zvt_state, last);
+    AT(zvt_state, settled); AT(zvt_state, held); AT(zvt_state, registered); AT(zvt_state, running); AT(zvt_state, last);
     printf("\n_Entry %zu", sizeof(zvt_entry));
     AT(zvt_entry, amount); AT(zvt_entry, trace); AT(zvt_entry, receipt); AT(zvt_entry, has_receipt);
     AT(zvt_entry, reversed); AT(zvt_entry, cause); AT(zvt_entry, doubt);
+    printf("\n_Settlement %zu", sizeof(zvt_settlement));
+    AT(zvt_settlement, place); AT(zvt_settlement, kind); AT(zvt_settlement, trace); AT(zvt_settlement, receipt);
+    AT(zvt_settlement, has_receipt);
+    printf("\n_Pending %zu", sizeof(zvt_pending));
+    AT(zvt_pending, place); AT(zvt_pending, kind); AT(zvt_pending, last_known);
     printf("\n");
     return 0;
 }

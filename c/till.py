@@ -1,6 +1,6 @@
 """Pays at a terminal over TCP: till.py LIBRARY HOST PORT [BOOK STEP...] Start `zvt terminal --port PORT` first.
 
-A step is register, pay:CENTS, reverse:PAYMENT (from 1) or close, and BOOK is the file of the till's book. Without them it
+A step is register, pay:CENTS, reverse:PAYMENT (from 1), close or ask, and BOOK is the file of the till's book. Without them it
 shows what the class can do.
 """
 import sys
@@ -44,7 +44,8 @@ def run(book, steps):
 
 def outcome(till, name, number="0"):
     """How a step ended."""
-    order = {"register": till.register, "pay": lambda: till.pay(int(number)), "reverse": lambda: till.reverse(int(number) - 1), "close": till.close_day}
+    order = {"register": till.register, "pay": lambda: till.pay(int(number)), "reverse": lambda: till.reverse(int(number) - 1), "close": till.close_day,
+             "ask": lambda: till.ask() or "nothing settled"}
     try:
         return order[name]()
     except zvt.LineError as lost:
@@ -62,6 +63,8 @@ def report(till):
         print(f"booked {entry}")
     for entry in till.unclear():
         print(f"unclear {entry}")
+    for one in till.settled():
+        print(f"settled {one}, {one.place}")
     print(f"total {till.state().total}")
 
 

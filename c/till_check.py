@@ -329,7 +329,7 @@ def the_text_of_each_message_is_told():
     paid = till.pay(1234)
     assert str(paid) == "aborted, code 6C (abort by time-out or abort key)", paid
     assert texts == ["Ack\n", "Completion\n", "Ack\n", "Intermediate 0A\n", "Abort 6C abort by time-out or abort key\n"], texts
-    assert till.state() == zvt.State(0, 0, 0, 0, 0, True, None, paid), till.state()
+    assert till.state() == zvt.State(0, 0, 0, 0, 0, 0, True, None, False, paid), till.state()
 
 
 def a_status_has_its_words():
@@ -380,7 +380,7 @@ def structs_are_those_of_the_header():
     with open(sys.argv[2]) as file:
         wanted = {line.split()[0]: [int(word) for word in line.split()[1:]] for line in file}
     found = {}
-    for struct in (zvt._Handle, zvt._Answer, zvt._Outcome, zvt._Step, zvt._Line, zvt._State, zvt._Entry):
+    for struct in (zvt._Handle, zvt._Answer, zvt._Outcome, zvt._Step, zvt._Line, zvt._State, zvt._Entry, zvt._Settlement, zvt._Pending):
         names = [name for name, _ in struct._fields_]
         found[struct.__name__] = [ctypes.sizeof(struct)] + [getattr(struct, name).offset for name in names]
     assert found == wanted, (found, wanted)

@@ -229,6 +229,8 @@ var
   L: TZvtLineNumbers;
   T: TZvtState;
   E: TZvtEntryNumbers;
+  M: TZvtSettlementNumbers;
+  P: TZvtPendingNumbers;
   H: TZvtHandle;
 begin
   Say('version ' + ZvtVersion);
@@ -238,10 +240,13 @@ begin
   Say('_Step ' + IntToStr(SizeOf(S)) + Offset(S.Taken, S) + Offset(S.Send, S) + Offset(S.Place, S) + Offset(S.Line, S) + Offset(S.Reason, S)
     + Offset(S.Message, S) + Offset(S.Printed, S) + Offset(S.Outcome, S));
   Say('_Line ' + IntToStr(SizeOf(L)) + Offset(L.Size, L) + Offset(L.Copy, L));
-  Say('_State ' + IntToStr(SizeOf(T)) + Offset(T.Total, T) + Offset(T.Booked, T) + Offset(T.Unclear, T) + Offset(T.UnclearReversals, T) + Offset(T.Held, T)
+  Say('_State ' + IntToStr(SizeOf(T)) + Offset(T.Total, T) + Offset(T.Booked, T) + Offset(T.Unclear, T) + Offset(T.UnclearReversals, T) + Offset(T.Settled, T)
+    + Offset(T.Held, T)
     + Offset(T.Registered, T) + Offset(T.Running, T) + Offset(T.Last, T));
   Say('_Entry ' + IntToStr(SizeOf(E)) + Offset(E.Amount, E) + Offset(E.Trace, E) + Offset(E.Receipt, E) + Offset(E.HasReceipt, E) + Offset(E.Reversed, E)
     + Offset(E.Cause, E) + Offset(E.Doubt, E));
+  Say('_Settlement ' + IntToStr(SizeOf(M)) + Offset(M.Place, M) + Offset(M.Kind, M) + Offset(M.Trace, M) + Offset(M.Receipt, M) + Offset(M.HasReceipt, M));
+  Say('_Pending ' + IntToStr(SizeOf(P)) + Offset(P.Place, P) + Offset(P.Kind, P) + Offset(P.LastKnown, P));
 end;
 
 procedure TCheck.Arguments;
@@ -299,15 +304,27 @@ begin
   Say('unclear [' + Till.Unclear[0].ToString + '], line closed ' + LowerCase(BoolToStr(Freed, True)));
 end;
 
+function Settled(const One: TZvtSettlement): string;
+begin
+  Result := 'nothing';
+  if One.Kind <> zsNone then Result := One.ToString + ', ' + IntToStr(One.Place);
+end;
+
 function TCheck.Result_(const Words: TArray<string>): string;
 begin
   try
     if Words[0] = 'register' then Exit(Till.Register.ToString);
     if Words[0] = 'pay' then Exit(Till.Pay(StrToInt64(Words[1])).ToString);
     if Words[0] = 'reverse' then Exit(Till.Reverse(StrToInt(Words[1])).ToString);
+    if Words[0] = 'ask' then Exit(Settled(Till.Ask));
     Exit(Till.CloseDay.ToString);
   except
-    on Lost: EZvtLine do Result := Lost.Outcome.ToString + ', and the line is lost';
+    on Lost: EZvtLine do
+    begin
+      Result := 'ask';
+      if Lost.Outcome.Ending <> zeNone then Result := Lost.Outcome.ToString;
+      Result := Result + ', and the line is lost';
+    end;
     on Refused: EZvtRefused do Result := 'refused: ' + IntToStr(Refused.Status);
   end;
 end;
@@ -315,10 +332,14 @@ end;
 procedure TCheck.Show;
 var
   Entry: TZvtEntry;
+  One: TZvtSettlement;
 begin
   if Till = nil then Exit;
   for Entry in Till.Book do Say('booked ' + Entry.ToString);
   for Entry in Till.Unclear do Say('unclear ' + Entry.ToString);
+  for One in Till.Settled do Say('settled ' + Settled(One));
+  if Till.Pending.Kind = zpNone then Say('knows last ' + IntToStr(Ord(Till.KnowsLast)))
+  else Say('pending ' + IntToStr(Ord(Till.Pending.Kind)) + ', ' + IntToStr(Till.Pending.Place));
   Say('total ' + IntToStr(Till.Total) + ', saved ' + Digits(Till.Save));
   FreeAndNil(Till);
 end;

@@ -25,7 +25,7 @@ extern "C" {
 
 /* Version of the struct layouts and call arguments below. If zvt_abi() returns a different number, stop: the library does not
  * match this header. */
-#define ZVT_ABI 3
+#define ZVT_ABI 4
 uint32_t zvt_abi(void);
 /* Writes the version of the library, such as 0.2.0 (ASCII, no final zero), and returns its size. If the room is too small,
  * nothing is written. */
@@ -71,6 +71,8 @@ typedef struct zvt_till {
 } zvt_till;
 
 enum { ZVT_REGISTER = 1, ZVT_PAY, ZVT_REVERSE, ZVT_CLOSE_DAY, ZVT_CANCEL };
+/* In `running` of zvt_state: zvt_till_ask is running. It is no order. */
+enum { ZVT_ASK = 6 };
 
 enum {
     ZVT_NONE = 0, ZVT_REGISTERED, ZVT_PAID, ZVT_DECLINED, ZVT_ORDER_REFUSED, ZVT_ABORTED, ZVT_UNCLEAR, ZVT_REVERSED,
@@ -117,9 +119,10 @@ typedef struct zvt_state {
     uint64_t total;   /* sum of the booked payments without a completed reversal */
     uint64_t booked, unclear;
     uint64_t unclear_reversals; /* number of booked payments with ZVT_UNCLEAR_REVERSAL in `doubt` */
+    uint64_t settled; /* number of settlements: zvt_till_settled has each */
     uint64_t held;    /* size of the incomplete message that the till holds */
     uint32_t registered;
-    uint32_t running; /* 0, or ZVT_REGISTER .. ZVT_CLOSE_DAY */
+    uint32_t running; /* 0, ZVT_REGISTER .. ZVT_CLOSE_DAY, or ZVT_ASK */
     zvt_outcome last;
 } zvt_state;
 
@@ -131,6 +134,27 @@ typedef struct zvt_entry {
     uint32_t cause;    /* cause of an unclear payment or reversal, else 0 */
     uint32_t doubt;    /* ZVT_NO_DOUBT .. ZVT_TAKEN_BACK; always ZVT_NO_DOUBT for an unclear payment */
 } zvt_entry;
+
+/* What the answer to an ask says about an unclear order. */
+enum { ZVT_WAS_PAID = 1, ZVT_NOT_PAID, ZVT_WAS_REVERSED, ZVT_NOT_REVERSED };
+
+typedef struct zvt_settlement {
+    uint64_t place;   /* index of the unclear payment (zvt_till_unclear); of a reversal: index of its entry (zvt_till_entry) */
+    uint32_t kind;    /* ZVT_WAS_PAID .. ZVT_NOT_REVERSED */
+    uint32_t trace;   /* ZVT_WAS_PAID: the trace number, else 0 */
+    uint32_t receipt; /* ZVT_WAS_PAID: the two bytes of the receipt number, if has_receipt is 1 */
+    uint32_t has_receipt;
+} zvt_settlement;
+
+/* The kind of a pending order. */
+enum { ZVT_NOTHING_PENDING = 0, ZVT_PENDING_PAYMENT, ZVT_PENDING_REVERSAL };
+
+typedef struct zvt_pending {
+    uint64_t place;      /* index of the unclear payment, or of the entry whose reversal is unclear */
+    uint32_t kind;       /* ZVT_NOTHING_PENDING .. ZVT_PENDING_REVERSAL */
+    uint32_t last_known; /* 1: the till knows the terminal's last status. Only then can an order that becomes unclear be
+                            settled. Ask after a registration to make it known. */
+} zvt_pending;
 
 /* The receipt that a text block (06 D3) belongs to. */
 enum { ZVT_NO_COPY = 0, ZVT_MERCHANT = 1, ZVT_CUSTOMER = 2, ZVT_ADMINISTRATION = 3 };
@@ -183,6 +207,19 @@ uint32_t zvt_till_line(zvt_till *till, size_t place, uint32_t codepage, uint8_t 
 size_t zvt_till_card_name(zvt_till *till, uint8_t *room, size_t room_length);
 size_t zvt_till_card_number(zvt_till *till, uint8_t *room, size_t room_length);
 
+/* Asks the terminal what became of an unclear order: to repeat its last receipt (06 20). Writes the bytes to send to `out`, as
+ * zvt_till_order does. Feed the till the answer; the ask ends without an outcome, once `running` of zvt_state is no longer
+ * ZVT_ASK. Then zvt_till_settled has what it settled, if anything. Besides ZVT_OK, the status is ZVT_NO_MEMORY, ZVT_NO_ROOM,
+ * ZVT_CLOSED, ZVT_OFFLINE, ZVT_NOT_REGISTERED or ZVT_BUSY; the step is cleared then. While an ask runs, orders are refused with
+ * ZVT_BUSY. An answer settles an order only if the terminal serves this till alone, repeats its last transaction, and does not
+ * go on with an order whose line broke. Neither the book nor the lists of zvt_till_entry and zvt_till_unclear change. */
+uint32_t zvt_till_ask(zvt_till *till, uint8_t *out, size_t out_length, zvt_step *step);
+/* The settlement at this index, from 0, in the order of the answers. ZVT_ARGUMENT: there is none. */
+uint32_t zvt_till_settled(zvt_till *till, size_t place, zvt_settlement *settlement);
+/* The unclear order that the next answer can settle. There is at most one: the last, until the next payment, reversal or end of
+ * day. The status is ZVT_OK or ZVT_CLOSED. */
+uint32_t zvt_till_pending(zvt_till *till, zvt_pending *pending);
+
 uint32_t zvt_till_state(zvt_till *till, zvt_state *state);
 uint32_t zvt_till_entry(zvt_till *till, size_t place, zvt_entry *entry);
 uint32_t zvt_till_unclear(zvt_till *till, size_t place, zvt_entry *entry);
@@ -191,9 +228,9 @@ uint32_t zvt_till_unclear(zvt_till *till, size_t place, zvt_entry *entry);
  * a running payment or reversal is unclear in them. Save before you send an order, and after each outcome. The answer has the
  * number of bytes in `size`; if the room is too small, nothing is written. The status is ZVT_OK, ZVT_NO_MEMORY or ZVT_CLOSED. */
 void zvt_till_save(zvt_till *till, uint8_t *room, size_t room_length, zvt_answer *answer);
-/* Restores a till from saved bytes, including those of the first layout, which had no `doubt`. If the handle has a till, that
- * till is freed first. ZVT_REFUSED means that the bytes are truncated, altered, or not a saved till; the handle does not
- * change then. */
+/* Restores a till from saved bytes, including those of the first layout, which had no `doubt`. A save does not contain what was
+ * settled or is pending, so the till has neither, and its unclear orders stay unclear. If the handle has a till, that till is
+ * freed first. ZVT_REFUSED means that the bytes are truncated, altered, or not a saved till; the handle does not change then. */
 uint32_t zvt_till_load(zvt_till *till, const uint8_t *bytes, size_t length);
 
 /* A journal is a file of text records from which the till can be restored; see journal_demo.c. Each of these calls writes the
@@ -206,11 +243,17 @@ uint32_t zvt_till_load(zvt_till *till, const uint8_t *bytes, size_t length);
 void zvt_record_opening(uint16_t currency, uint8_t *room, size_t room_length, zvt_answer *answer);
 /* Records an order that zvt_till_order has accepted, and the bytes to send: make it durable before you send them. The record
  * has the password as 00 00 00. `at` is the time of the order in UTC, such as 2026-11-28T09:14:03Z, and `reference` a number of
- * your own, 1 to 40 printable ASCII characters without a space, that the record keeps; leave either out with the length 0. The answer is as above. ZVT_ARGUMENT: there is no such order, the index of the payment is 10,000 or more, the time or
- * the reference has another form, or there are more than ZVT_ROOM bytes. */
+ * your own, 1 to 40 printable ASCII characters without a space, that the record keeps; leave either out with the length 0. The
+ * answer is as above. ZVT_ARGUMENT: there is no such order, the index of the payment is 10,000 or more, the time or the
+ * reference has another form, or there are more than ZVT_ROOM bytes. */
 void zvt_record_order(uint32_t order, uint64_t number, const uint8_t *sent, size_t sent_length, const uint8_t *at,
                       size_t at_length, const uint8_t *reference, size_t reference_length, uint8_t *room,
                       size_t room_length, zvt_answer *answer);
+/* Records an ask that zvt_till_ask has accepted: make it durable before you send its bytes. The record has the password as
+ * 00 00 00. `at` and `reference` are as above. The status is ZVT_OK, ZVT_NO_MEMORY, or ZVT_ARGUMENT if the time or the reference
+ * has another form. */
+void zvt_record_ask(const uint8_t *at, size_t at_length, const uint8_t *reference, size_t reference_length, uint8_t *room,
+                    size_t room_length, zvt_answer *answer);
 /* Records the first message in the bytes, and the till's answer to it: make it durable before you feed the till these
  * `answer->size` bytes. Returns the size of the text, or 0 if there is no complete message. The answer is the one of zvt_scan.
  * On ZVT_REFUSED feed nothing, and close the connection (zvt_till_lost). */
@@ -223,7 +266,8 @@ void zvt_record_lost(uint8_t *room, size_t room_length, zvt_answer *answer);
 enum { ZVT_WRONG_OPENING = 1, ZVT_WRONG_LINE, ZVT_WRONG_RECORD, ZVT_WRONG_CHECK };
 
 /* Restores the till of a journal into an open handle, with the settings given to zvt_till_new. The till is not connected, and a
- * payment or reversal that was running is unclear. `text` is the complete lines of the file, up to the first empty one.
+ * payment or reversal that was running is unclear. It has what the asks in the journal settled, and what is pending. `text` is
+ * the complete lines of the file, up to the first empty one.
  * The status is ZVT_OK, ZVT_NO_MEMORY, ZVT_CLOSED or ZVT_REFUSED; unless it is ZVT_OK, the handle does not change. The reasons
  * for ZVT_REFUSED are:
  *    ZVT_WRONG_OPENING  the first line is not the opening of a journal in this currency, or it names a rule of the till

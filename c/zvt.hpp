@@ -13,8 +13,8 @@ namespace zvt {
 
 /* The struct layouts that the library uses. */
 static_assert(sizeof(void *) != 8 || (sizeof(zvt_till) == 16 && sizeof(zvt_answer) == 24 && sizeof(zvt_step) == 64 && sizeof(zvt_line) == 16));
-static_assert(sizeof(void *) != 8 || (sizeof(zvt_state) == 72 && sizeof(zvt_entry) == 32));
-static_assert(sizeof(void *) != 8 || (offsetof(zvt_step, outcome) == 44 && offsetof(zvt_state, last) == 48 && offsetof(zvt_entry, doubt) == 28));
+static_assert(sizeof(void *) != 8 || (sizeof(zvt_state) == 80 && sizeof(zvt_entry) == 32 && sizeof(zvt_settlement) == 24 && sizeof(zvt_pending) == 16));
+static_assert(sizeof(void *) != 8 || (offsetof(zvt_step, outcome) == 44 && offsetof(zvt_state, last) == 56 && offsetof(zvt_entry, doubt) == 28));
 
 /* Thrown if a call is refused. The till has not changed. */
 class Refused : public std::runtime_error {
@@ -60,12 +60,12 @@ template <typename Write> std::string record(Write write) {
 inline std::string record_opening(uint16_t currency = 978) {
     return record([&](uint8_t *room, size_t length, zvt_answer *answer) { zvt_record_opening(currency, room, length, answer); });
 }
-/* What the record of an order says beside it: its time in UTC, such as 2026-11-28T09:14:03Z, and a reference of your own, 1 to 40
+/* What the record of an order or ask says beside it: its time in UTC, such as 2026-11-28T09:14:03Z, and a reference of your own, 1 to 40
  * printable ASCII characters without a space. Either may be empty. */
 struct Note {
     std::string at, reference;
 };
-/* The note of an order that is made now. */
+/* The note of an order or ask that is made now. */
 inline Note now(std::string reference = {}) {
     const std::time_t seconds = std::time(nullptr);
     std::tm parts{};
@@ -77,12 +77,18 @@ inline Note now(std::string reference = {}) {
     char at[32];
     return {{at, std::strftime(at, sizeof at, "%Y-%m-%dT%H:%M:%SZ", &parts)}, std::move(reference)};
 }
+inline const uint8_t *bytes_of(const std::string &text) { return reinterpret_cast<const uint8_t *>(text.data()); }
 /* Records an order and the bytes that Till::order returned. */
 inline std::string record_order(uint32_t order, uint64_t number, const std::vector<uint8_t> &sent, const Note &note = now()) {
-    const auto bytes = [](const std::string &text) { return reinterpret_cast<const uint8_t *>(text.data()); };
     return record([&](uint8_t *room, size_t length, zvt_answer *answer) {
-        zvt_record_order(order, number, sent.data(), sent.size(), bytes(note.at), note.at.size(), bytes(note.reference),
+        zvt_record_order(order, number, sent.data(), sent.size(), bytes_of(note.at), note.at.size(), bytes_of(note.reference),
                          note.reference.size(), room, length, answer);
+    });
+}
+/* Records an ask. Till::ask returns the bytes to send once the record is durable. */
+inline std::string record_ask(const Note &note = now()) {
+    return record([&](uint8_t *room, size_t length, zvt_answer *answer) {
+        zvt_record_ask(bytes_of(note.at), note.at.size(), bytes_of(note.reference), note.reference.size(), room, length, answer);
     });
 }
 inline std::string record_lost() {
@@ -131,18 +137,17 @@ public:
     /* Restores the till of a journal, with the settings of this till. */
     void recover(const std::string &text) {
         zvt_answer answer{};
-        zvt_till_recover(&handle, reinterpret_cast<const uint8_t *>(text.data()), text.size(), &answer);
+        zvt_till_recover(&handle, bytes_of(text), text.size(), &answer);
         if (answer.status == ZVT_REFUSED) throw BadJournal(answer);
         check(answer.status);
     }
     /* The times and references of the payments in the text of a journal, with the settings of this till. */
     Notes notes(const std::string &text) {
-        const auto *bytes = reinterpret_cast<const uint8_t *>(text.data());
         std::string lines;
         zvt_answer answer{};
         do {
             lines.resize(answer.size);
-            zvt_record_notes(&handle, bytes, text.size(), reinterpret_cast<uint8_t *>(lines.data()), lines.size(), &answer);
+            zvt_record_notes(&handle, bytes_of(text), text.size(), reinterpret_cast<uint8_t *>(lines.data()), lines.size(), &answer);
             if (answer.status == ZVT_REFUSED) throw BadJournal(answer);
             check(answer.status);
         } while (answer.size != lines.size());
@@ -185,6 +190,14 @@ public:
         check(zvt_till_order(&handle, order, number, out, sizeof out, &step));
         return {out, out + step.send};
     }
+    /* Asks the terminal to repeat its last receipt, and returns the bytes to send. The ask has ended once state().running is
+     * no longer ZVT_ASK; settled() then has what it settled, if anything. */
+    std::vector<uint8_t> ask() {
+        uint8_t out[ZVT_ROOM];
+        zvt_step step{};
+        check(zvt_till_ask(&handle, out, sizeof out, &step));
+        return {out, out + step.send};
+    }
     /* Reads what the terminal sent, up to the first invalid byte. */
     Reply feed(const uint8_t *piece, size_t length) {
         Reply reply;
@@ -211,6 +224,14 @@ public:
     /* A booked payment. `doubt` says whether its reversal is unclear; state().unclear_reversals counts the unclear ones. */
     std::vector<zvt_entry> book() { return entries(state().booked, zvt_till_entry); }
     std::vector<zvt_entry> unclear() { return entries(state().unclear, zvt_till_unclear); }
+    /* What the answers to asks settled, in their order. */
+    std::vector<zvt_settlement> settled() { return entries(state().settled, zvt_till_settled); }
+    /* The unclear order that the next answer can settle, and whether the terminal's last status is known. */
+    zvt_pending pending() {
+        zvt_pending pending{};
+        check(zvt_till_pending(&handle, &pending));
+        return pending;
+    }
     std::vector<uint8_t> save() {
         std::vector<uint8_t> bytes;
         zvt_answer answer{};
@@ -238,8 +259,8 @@ private:
         uint8_t room[ZVT_CARD_ROOM];
         return {room, room + write(&handle, room, sizeof room)};
     }
-    std::vector<zvt_entry> entries(uint64_t count, uint32_t (*show)(zvt_till *, size_t, zvt_entry *)) {
-        std::vector<zvt_entry> entries(count);
+    template <typename Entry> std::vector<Entry> entries(uint64_t count, uint32_t (*show)(zvt_till *, size_t, Entry *)) {
+        std::vector<Entry> entries(count);
         for (uint64_t place = 0; place < count; place++) check(show(&handle, place, &entries[place]));
         return entries;
     }

@@ -23,7 +23,7 @@ uses
 
 const
   { Version of the struct layouts and calls that this unit expects. }
-  ZvtAbi = 3;
+  ZvtAbi = 4;
   ZvtMaxAmount = 999999999999;
   { Stands for a number that an outcome or an entry does not have. }
   ZvtNone = -1;
@@ -68,7 +68,31 @@ type
     function ToString: string;
   end;
 
+  { What became of an unclear order. }
+  TZvtSettlementKind = (zsNone, zsPaid, zsNotPaid, zsReversed, zsNotReversed);
+
+  { What the answer to an ask says about an unclear order. }
+  TZvtSettlement = record
+    Kind: TZvtSettlementKind;
+    { The index of the unclear payment, or for a reversal of the booked payment, from 0. }
+    Place: Integer;
+    { The numbers of a payment that was paid; the receipt number only if the terminal gave one. }
+    Trace, Receipt: Integer;
+    function ToString: string;
+  end;
+
+  { The kind of a pending order. }
+  TZvtPendingKind = (zpNone, zpPayment, zpReversal);
+
+  { An unclear order that the next answer can settle. }
+  TZvtPending = record
+    Kind: TZvtPendingKind;
+    { The index of the unclear payment, or for a reversal of the booked payment, from 0. }
+    Place: Integer;
+  end;
+
   TZvtEntries = array of TZvtEntry;
+  TZvtSettlements = array of TZvtSettlement;
   TZvtPlaces = array of Integer;
 
   { An argument is out of range. }
@@ -84,7 +108,7 @@ type
   end;
 
   { The connection ended, failed, timed out or sent invalid bytes, and was closed. The outcome is the result of the order: a
-    payment or a reversal is unclear. }
+    payment or a reversal is unclear. Its ending is zeNone if an ask was running. }
   EZvtLine = class(Exception)
   public
     Outcome: TZvtOutcome;
@@ -156,7 +180,7 @@ type
   end;
 
   TZvtState = record
-    Total, Booked, Unclear, UnclearReversals, Held: UInt64;
+    Total, Booked, Unclear, UnclearReversals, Settled, Held: UInt64;
     Registered, Running: Cardinal;
     Last: TZvtOutcomeNumbers;
   end;
@@ -164,6 +188,16 @@ type
   TZvtEntryNumbers = record
     Amount: UInt64;
     Trace, Receipt, HasReceipt, Reversed, Cause, Doubt: Cardinal;
+  end;
+
+  TZvtSettlementNumbers = record
+    Place: UInt64;
+    Kind, Trace, Receipt, HasReceipt: Cardinal;
+  end;
+
+  TZvtPendingNumbers = record
+    Place: UInt64;
+    Kind, LastKnown: Cardinal;
   end;
 
   TZvtHandle = record
@@ -248,6 +282,9 @@ type
     function Entries(Count: UInt64; Booked: Boolean): TZvtEntries;
     procedure AddNotes(var Entries: TZvtEntries; const Kind: AnsiString);
     function NoteLines: AnsiString;
+    function PendingNumbers: TZvtPendingNumbers;
+    function PendingOrder: TZvtPending;
+    function IsLastKnown: Boolean;
     function LastOutcome: TZvtOutcome;
     function IsRegistered: Boolean;
     function SumOfBook: Int64;
@@ -271,10 +308,17 @@ type
     { Reverses the payment at this index of the book, from 0. The book keeps the time of the reversal and the reference. }
     function Reverse(Place: Integer; const Reference: AnsiString = ''): TZvtOutcome;
     function CloseDay: TZvtOutcome;
+    { Asks the terminal to repeat its last receipt, and returns the settlement of the pending order; its kind is zsNone if the answer
+      settles nothing. Ask after a registration if an order is pending, or if KnowsLast is False. The terminal has to serve this
+      till alone, and must not continue an order whose connection was lost. The book keeps the time of the ask and the reference.
+      Lines that the terminal wants printed again are handed out as usual. }
+    function Ask(const Reference: AnsiString = ''): TZvtSettlement;
     { The booked payments. }
     function Book: TZvtEntries;
     { The unclear payments: the terminal may have booked them or not. }
     function Unclear: TZvtEntries;
+    { What the answers to asks settled, in their order. Neither the book nor the list of unclear payments changes. }
+    function Settled: TZvtSettlements;
     { The indices of the booked payments whose last reversal is unclear. Reverse them again. }
     function UnclearReversals: TZvtPlaces;
     { Saves the till as bytes, as it would be after losing its connection. They contain the password in clear. }
@@ -284,6 +328,10 @@ type
     { The sum of the booked payments without a completed reversal. }
     property Total: Int64 read SumOfBook;
     property Registered: Boolean read IsRegistered;
+    { The unclear order that the next answer can settle; its kind is zpNone if there is none, as after Load. }
+    property Pending: TZvtPending read PendingOrder;
+    { Whether the till knows the terminal's last status. Only then can an order that becomes unclear be settled. }
+    property KnowsLast: Boolean read IsLastKnown;
     { The last outcome; its ending is zeNone if there is none. }
     property Last: TZvtOutcome read LastOutcome;
     { The name of the card of the last order, or an empty text if the terminal named none. }
@@ -319,6 +367,8 @@ const
   OrderReverse = 3;
   OrderCloseDay = 4;
   OrderCancel = 5;
+  { An ask, which is no order. It runs under this number. }
+  OrderAsk = 6;
   StatusMore = 1;
   StatusRefused = 2;
   StatusArgument = 5;
@@ -347,6 +397,9 @@ function zvt_till_connected(var Till: TZvtHandle): Cardinal; cdecl; external Lib
 function zvt_till_lost(var Till: TZvtHandle; var Step: TZvtStep): Cardinal; cdecl; external Library_;
 function zvt_till_order(var Till: TZvtHandle; Order: Cardinal; Number: UInt64; Room: PByte; Length: NativeUInt; var Step: TZvtStep): Cardinal;
   cdecl; external Library_;
+function zvt_till_ask(var Till: TZvtHandle; Room: PByte; Length: NativeUInt; var Step: TZvtStep): Cardinal; cdecl; external Library_;
+function zvt_till_settled(var Till: TZvtHandle; Place: NativeUInt; var Settlement: TZvtSettlementNumbers): Cardinal; cdecl; external Library_;
+function zvt_till_pending(var Till: TZvtHandle; var Pending: TZvtPendingNumbers): Cardinal; cdecl; external Library_;
 function zvt_till_feed_all(var Till: TZvtHandle; Piece: PByte; Length: NativeUInt; Room: PByte; RoomLength: NativeUInt; Line: PByte;
   LineLength: NativeUInt; var Step: TZvtStep): Cardinal; cdecl; external Library_;
 function zvt_till_line(var Till: TZvtHandle; Place: NativeUInt; Codepage: Cardinal; Room: PByte; Length: NativeUInt;
@@ -362,6 +415,8 @@ procedure zvt_till_recover(var Till: TZvtHandle; Text: PByte; Length: NativeUInt
 procedure zvt_record_opening(Currency: Word; Room: PByte; Length: NativeUInt; var Answer: TZvtAnswer); cdecl; external Library_;
 procedure zvt_record_order(Order: Cardinal; Number: UInt64; Sent: PByte; SentLength: NativeUInt; At: PByte; AtLength: NativeUInt;
   Reference: PByte; ReferenceLength: NativeUInt; Room: PByte; Length: NativeUInt; var Answer: TZvtAnswer); cdecl; external Library_;
+procedure zvt_record_ask(At: PByte; AtLength: NativeUInt; Reference: PByte; ReferenceLength: NativeUInt; Room: PByte; Length: NativeUInt;
+  var Answer: TZvtAnswer); cdecl; external Library_;
 function zvt_record_heard(Bytes: PByte; Length: NativeUInt; Room: PByte; RoomLength: NativeUInt; var Answer: TZvtAnswer): NativeUInt;
   cdecl; external Library_;
 procedure zvt_record_lost(Room: PByte; Length: NativeUInt; var Answer: TZvtAnswer); cdecl; external Library_;
@@ -388,6 +443,7 @@ function strerror(Number: Integer): PAnsiChar; cdecl; external C;
 const
   Endings: array[TZvtEnding] of string = ('none', 'registered', 'paid', 'declined', 'order refused', 'aborted', 'unclear',
     'reversed', 'day closed');
+  SettlementKinds: array[TZvtSettlementKind] of string = ('none', 'paid', 'not paid', 'reversed', 'not reversed');
   Causes: array[TZvtCause] of string = ('', 'no status', 'conflict', 'amount differs', 'no trace', 'trace used',
     'abort after approval', 'line', 'malformed', 'unfinished', 'wrong currency');
 
@@ -399,7 +455,7 @@ begin
     7: Result := 'this line brought bytes before that begin no message';
     10: Result := 'the line is down';
     11: Result := 'the till is not registered';
-    12: Result := 'an order runs';
+    12: Result := 'an order or an ask runs';
     13: Result := 'no payment runs that could be cancelled';
     14: Result := 'the book is full';
     15: Result := 'no such payment is booked';
@@ -498,6 +554,14 @@ begin
   end;
 end;
 
+function NoOutcome: TZvtOutcome;
+var
+  Nothing: TZvtOutcomeNumbers;
+begin
+  FillChar(Nothing, SizeOf(Nothing), 0);
+  Result := OutcomeOf(Nothing);
+end;
+
 function TZvtOutcome.IsByLine: Boolean;
 begin
   Result := Cause in [zcLine, zcMalformed];
@@ -510,6 +574,22 @@ begin
   if Meaning <> '' then Result := Result + ' (' + Meaning + ')';
   if Cause <> zcNone then Result := Result + ': ' + Causes[Cause];
   Result := Result + Numbers(Trace, Receipt);
+end;
+
+{ No settlement if there are no numbers. }
+function SettlementOf(const From: TZvtSettlementNumbers): TZvtSettlement;
+begin
+  Result.Kind := TZvtSettlementKind(From.Kind);
+  Result.Place := From.Place;
+  Result.Trace := ZvtNone;
+  Result.Receipt := ZvtNone;
+  if Result.Kind = zsPaid then Result.Trace := From.Trace;
+  if From.HasReceipt = 1 then Result.Receipt := From.Receipt;
+end;
+
+function TZvtSettlement.ToString: string;
+begin
+  Result := SettlementKinds[Kind] + Numbers(Trace, Receipt);
 end;
 
 function EntryOf(const From: TZvtEntryNumbers; Booked: Boolean): TZvtEntry;
@@ -540,8 +620,12 @@ begin
 end;
 
 constructor EZvtLine.Create(const AOutcome: TZvtOutcome; const Why: string);
+var
+  Ended: string;
 begin
-  inherited Create('the line is lost: ' + AOutcome.ToString + ' (' + Why + ')');
+  Ended := '';
+  if AOutcome.Ending <> zeNone then Ended := ': ' + AOutcome.ToString;
+  inherited Create('the line is lost' + Ended + ' (' + Why + ')');
   Outcome := AOutcome;
 end;
 
@@ -761,8 +845,22 @@ begin
   Result := Run(OrderCloseDay, 0, nil);
 end;
 
-{ Runs an order to its end. Raises EZvtLine if the connection ended the order, EZvtBook if the book failed, EZvtRefused if the
-  library refused the order, and, once the order has ended, the exception of a callback. }
+function TZvtTill.Ask(const Reference: AnsiString): TZvtSettlement;
+var
+  Before: Integer;
+  Nothing: TZvtSettlementNumbers;
+  All: TZvtSettlements;
+begin
+  Before := State.Settled;
+  Run(OrderAsk, 0, nil, Reference);
+  All := Settled;
+  FillChar(Nothing, SizeOf(Nothing), 0);
+  Result := SettlementOf(Nothing);
+  if Length(All) > Before then Result := All[Before];
+end;
+
+{ Runs an order or an ask to its end. Raises EZvtLine if the connection ended it, EZvtBook if the book failed, EZvtRefused if the
+  library refused it, and, once it is over, the exception of a callback. }
 function TZvtTill.Run(Order: Cardinal; Number: Int64; WantsCancel: TZvtQuestion; const Reference: AnsiString): TZvtOutcome;
 var
   Bytes: TBytes;
@@ -773,7 +871,7 @@ begin
   RefuseWithin;
   Bytes := GiveOrder(Order, Number);
   FRaised := nil;
-  FOutcome.Ending := zeNone;
+  FOutcome := NoOutcome;
   FRunning := True;
   Why := '';
   try
@@ -807,11 +905,12 @@ function TZvtTill.GiveOrder(Order: Cardinal; Number: Int64): TBytes;
 var
   Step: TZvtStep;
 begin
-  Check(zvt_till_order(FHandle, Order, Number, First(FOut), RoomSize, Step));
+  if Order = OrderAsk then Check(zvt_till_ask(FHandle, First(FOut), RoomSize, Step))
+  else Check(zvt_till_order(FHandle, Order, Number, First(FOut), RoomSize, Step));
   Result := Copy(FOut, 0, Step.Send);
 end;
 
-{ Makes the order durable and then sends it. }
+{ Makes the order or the ask durable and then sends it. }
 procedure TZvtTill.KeepAndSend(Order: Cardinal; Number: Int64; const Bytes: TBytes; const Reference: AnsiString);
 var
   Answer: TZvtAnswer;
@@ -820,8 +919,11 @@ begin
   if FJournal <> nil then
   begin
     At := FormatDateTime('yyyy"-"mm"-"dd"T"hh":"nn":"ss"Z"', UnixToDateTime(seconds_since_1970(nil)));
-    zvt_record_order(Order, Number, First(Bytes), Length(Bytes), PByte(At), Length(At), PByte(Reference), Length(Reference),
-      First(FRecord), RecordRoom, Answer);
+    if Order = OrderAsk then
+      zvt_record_ask(PByte(At), Length(At), PByte(Reference), Length(Reference), First(FRecord), RecordRoom, Answer)
+    else
+      zvt_record_order(Order, Number, First(Bytes), Length(Bytes), PByte(At), Length(At), PByte(Reference), Length(Reference),
+        First(FRecord), RecordRoom, Answer);
     MakeDurable(Answer);
   end;
   FLine.Write(Bytes);
@@ -840,7 +942,7 @@ begin
   if Step.Outcome.Kind <> 0 then FOutcome := OutcomeOf(Step.Outcome);
 end;
 
-{ Reads from the terminal until the order has ended. }
+{ Reads from the terminal until neither an order nor an ask runs. }
 procedure TZvtTill.HearOut(WantsCancel: TZvtQuestion);
 var
   Room: TBytes;
@@ -850,7 +952,7 @@ var
 begin
   SetLength(Room, 4096);
   Since := GetTickCount64;
-  while FOutcome.Ending = zeNone do
+  while State.Running <> 0 do
   begin
     Asks := Assigned(WantsCancel) and (FRaised = nil);
     Rest := FTimeout - Int64(GetTickCount64 - Since);
@@ -1045,6 +1147,39 @@ end;
 function TZvtTill.IsRegistered: Boolean;
 begin
   Result := State.Registered = 1;
+end;
+
+function TZvtTill.Settled: TZvtSettlements;
+var
+  One: TZvtSettlementNumbers;
+  Place: Integer;
+begin
+  Result := nil;
+  SetLength(Result, State.Settled);
+  for Place := 0 to High(Result) do
+  begin
+    Check(zvt_till_settled(FHandle, Place, One));
+    Result[Place] := SettlementOf(One);
+  end;
+end;
+
+function TZvtTill.PendingNumbers: TZvtPendingNumbers;
+begin
+  Check(zvt_till_pending(FHandle, Result));
+end;
+
+function TZvtTill.PendingOrder: TZvtPending;
+var
+  Numbers: TZvtPendingNumbers;
+begin
+  Numbers := PendingNumbers;
+  Result.Kind := TZvtPendingKind(Numbers.Kind);
+  Result.Place := Numbers.Place;
+end;
+
+function TZvtTill.IsLastKnown: Boolean;
+begin
+  Result := PendingNumbers.LastKnown = 1;
 end;
 
 function TZvtTill.LastOutcome: TZvtOutcome;

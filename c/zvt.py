@@ -24,7 +24,9 @@ from typing import NamedTuple, Optional
 
 ROOM, LINE_ROOM, RECORD_ROOM = 8 * 32, 65534, 131200
 # The layouts and calls that this module is made for.
-ABI = 3
+ABI = 4
+# What `running` of the state is while an ask runs.
+ASK = 6
 # The amount that a message can hold at most.
 MAX_AMOUNT = 999_999_999_999
 
@@ -70,6 +72,16 @@ class Doubt(enum.IntEnum):
     UNCLEAR_REVERSAL, TAKEN_BACK = range(1, 3)
 
 
+class SettlementKind(enum.IntEnum):
+    """What became of an unclear order."""
+    PAID, NOT_PAID, REVERSED, NOT_REVERSED = range(1, 5)
+
+
+class PendingKind(enum.IntEnum):
+    """What the pending order is."""
+    PAYMENT, REVERSAL = range(1, 3)
+
+
 class Status(enum.IntEnum):
     OK, MORE, REFUSED, NO_MEMORY, NO_ROOM, ARGUMENT, CLOSED, STOPPED = range(8)
     OFFLINE, NOT_REGISTERED, BUSY, NOTHING_TO_CANCEL, BOOK_FULL, UNKNOWN_ENTRY, ALREADY_REVERSED, NO_RECEIPT = range(10, 18)
@@ -91,11 +103,11 @@ class Refused(Exception):
 
 class LineError(ConnectionError):
     """The connection ended, failed, timed out or sent invalid bytes, and was closed. `outcome` is the result of the order:
-    a payment or a reversal is unclear."""
+    a payment or a reversal is unclear. It is None if an ask was running."""
 
     def __init__(self, outcome):
         self.outcome = outcome
-        super().__init__(f"the line is lost: {outcome}")
+        super().__init__("the line is lost" if outcome is None else f"the line is lost: {outcome}")
 
 
 class _BrokenLine(Exception):
@@ -147,6 +159,23 @@ class Entry(NamedTuple):
         return text if self.cause is None else text + f": {words(self.cause)}"
 
 
+class Settlement(NamedTuple):
+    """What the answer to an ask says about an unclear order."""
+    kind: SettlementKind
+    place: int                       # the index in unclear(), or for a reversal in book()
+    trace: Optional[int] = None      # where it was paid
+    receipt: Optional[int] = None    # where it was paid and the terminal gave one
+
+    def __str__(self):
+        return words(self.kind) + numbers(self.trace, self.receipt)
+
+
+class Pending(NamedTuple):
+    """An unclear order that the next answer can settle."""
+    kind: PendingKind
+    place: int                       # the index in unclear(), or for a reversal in book()
+
+
 class State(NamedTuple):
     """The state of a till. `total` is the sum of the booked payments without a completed reversal, and `held` the size of
     the incomplete message that the till holds."""
@@ -154,9 +183,11 @@ class State(NamedTuple):
     booked: int
     unclear: int
     unclear_reversals: int
+    settled: int
     held: int
     registered: bool
     running: Optional[Order]         # the order that runs
+    asking: bool                     # whether an ask runs
     last: Optional[Outcome]          # how the order that ended last ended
 
 
@@ -192,13 +223,21 @@ class _Step(c.Structure):
 
 
 class _State(c.Structure):
-    _fields_ = ([(n, c.c_uint64) for n in ("total", "booked", "unclear", "unclear_reversals", "held")]
+    _fields_ = ([(n, c.c_uint64) for n in ("total", "booked", "unclear", "unclear_reversals", "settled", "held")]
                 + [("registered", c.c_uint32), ("running", c.c_uint32), ("last", _Outcome)])
 
 
 class _Entry(c.Structure):
     _fields_ = ([("amount", c.c_uint64)]
                 + [(n, c.c_uint32) for n in ("trace", "receipt", "has_receipt", "reversed", "cause", "doubt")])
+
+
+class _Settlement(c.Structure):
+    _fields_ = [("place", c.c_uint64)] + [(n, c.c_uint32) for n in ("kind", "trace", "receipt", "has_receipt")]
+
+
+class _Pending(c.Structure):
+    _fields_ = [("place", c.c_uint64), ("kind", c.c_uint32), ("last_known", c.c_uint32)]
 
 
 class _Answer(c.Structure):
@@ -225,6 +264,9 @@ _TYPES = {
     "zvt_till_connected": [c.c_void_p],
     "zvt_till_lost": [c.c_void_p, c.c_void_p],
     "zvt_till_order": [c.c_void_p, c.c_uint32, c.c_uint64, c.c_void_p, c.c_size_t, c.c_void_p],
+    "zvt_till_ask": [c.c_void_p, c.c_void_p, c.c_size_t, c.c_void_p],
+    "zvt_till_settled": [c.c_void_p, c.c_size_t, c.c_void_p],
+    "zvt_till_pending": [c.c_void_p, c.c_void_p],
     "zvt_till_feed_all": [c.c_void_p, c.c_char_p, c.c_size_t, c.c_void_p, c.c_size_t, c.c_void_p, c.c_size_t, c.c_void_p],
     "zvt_till_line": [c.c_void_p, c.c_size_t, c.c_uint32, c.c_void_p, c.c_size_t, c.c_void_p],
     "zvt_till_card_name": [c.c_void_p, c.c_void_p, c.c_size_t],
@@ -238,13 +280,14 @@ _TYPES = {
     "zvt_record_opening": [c.c_uint16, c.c_void_p, c.c_size_t, c.c_void_p],
     "zvt_record_order": [c.c_uint32, c.c_uint64, c.c_char_p, c.c_size_t, c.c_char_p, c.c_size_t, c.c_char_p, c.c_size_t, c.c_void_p,
                          c.c_size_t, c.c_void_p],
+    "zvt_record_ask": [c.c_char_p, c.c_size_t, c.c_char_p, c.c_size_t, c.c_void_p, c.c_size_t, c.c_void_p],
     "zvt_record_heard": [c.c_char_p, c.c_size_t, c.c_void_p, c.c_size_t, c.c_void_p],
     "zvt_record_lost": [c.c_void_p, c.c_size_t, c.c_void_p],
     "zvt_record_notes": [c.c_void_p, c.c_char_p, c.c_size_t, c.c_void_p, c.c_size_t, c.c_void_p],
 }
 # What the calls answer that answer no status.
 _RESULTS = {name: None for name in ("zvt_scan", "zvt_till_free", "zvt_till_save", "zvt_till_recover", "zvt_record_opening",
-                                    "zvt_record_order", "zvt_record_lost", "zvt_record_notes")}
+                                    "zvt_record_order", "zvt_record_ask", "zvt_record_lost", "zvt_record_notes")}
 _RESULTS |= {name: c.c_size_t for name in ("zvt_record_heard", "zvt_result_name", "zvt_status_name", "zvt_text", "zvt_till_card_name",
                                            "zvt_till_card_number", "zvt_version")}
 
@@ -460,6 +503,19 @@ class Till:
     def close_day(self):
         return self._run(Order.CLOSE_DAY)
 
+    def ask(self, reference=None):
+        """Asks the terminal to repeat its last receipt, and returns the Settlement of the pending order if the answer
+        settles it, or None. Ask after a registration if `pending()` has an order, or if `knows_last()` is False. The terminal
+        has to serve this till alone, and must not continue an order whose connection was lost. The book keeps the time of
+        the ask and the `reference`. `print_line` gets any lines that the terminal wants printed again."""
+        reference = b"" if reference is None else referenced(reference)
+        self._refuse_within()
+        before = self.state().settled
+        self._call("ask", self._out, ROOM, c.byref(self._step))
+        message = self._out.raw[:self._step.send]
+        self._exchange(lambda: self._record_and_send_ask(message, reference), lambda: not self.state().asking)
+        return next(iter(self.settled()[before:]), None)
+
     def _tell(self, callback, *arguments):
         """Calls a callback, and postpones its exception until everything that the terminal sent is read and answered. Of
         several exceptions the first is raised, or the first one that is meant to end the program."""
@@ -480,7 +536,7 @@ class Till:
         return self._out.raw[:self._step.send]
 
     def _make_durable(self, kind, *arguments):
-        """Appends a record to the book, if the till has one: an opening, an order, or a lost connection."""
+        """Appends a record to the book, if the till has one: an opening, an order, an ask, or a lost connection."""
         if self.journal is None:
             return
         answer = _Answer()
@@ -503,6 +559,12 @@ class Till:
             self._keep(self.save())
         self._send(message)
 
+    def _record_and_send_ask(self, message, reference):
+        """Makes the ask durable, and only then sends it."""
+        at = now().encode("ascii")
+        self._make_durable("ask", at, len(at), reference, len(reference))
+        self._send(message)
+
     def _ended(self):
         """Returns the outcome if the last step ended the order, and saves the till in that case."""
         outcome = self._step.outcome.value(self._library)
@@ -514,16 +576,22 @@ class Till:
         return outcome
 
     def _run(self, order, number=0, wants_cancel=None, reference=None):
-        """Runs an order to its end. Closes the connection if it fails, times out or sends invalid bytes. If that ends the
-        order, raises a LineError, unless a callback raised an exception."""
+        """Runs an order to its end, and returns its outcome."""
         reference = b"" if reference is None else referenced(reference)
         self._refuse_within()
         message = self._order(order, number)
+        self._exchange(lambda: self._keep_and_send(order, number, message, reference), lambda: self._outcome is not None, wants_cancel)
+        return self._outcome
+
+    def _exchange(self, send, is_over, wants_cancel=None):
+        """Sends the message of an order or an ask, and reads from the terminal until that is over. Closes the connection if it
+        fails, times out or sends invalid bytes. If that ends the order or the ask, raises a LineError, unless a callback
+        raised an exception."""
         self._raised = self._outcome = broken = None
         self._running = True
         try:
-            self._keep_and_send(order, number, message, reference)
-            self._hear_out(wants_cancel)
+            send()
+            self._hear_out(is_over, wants_cancel)
         except _BrokenLine as error:
             self._give_up()
             if self._outcome is None or self._outcome.is_by_line():
@@ -539,12 +607,11 @@ class Till:
             raise self._raised
         if broken is not None:
             raise LineError(self._outcome) from broken.__cause__
-        return self._outcome
 
-    def _hear_out(self, wants_cancel):
-        """Reads from the terminal until the order has ended, or until an exception is meant to end the program."""
+    def _hear_out(self, is_over, wants_cancel):
+        """Reads from the terminal until that is over, or until an exception is meant to end the program."""
         since = time.monotonic()
-        while self._outcome is None:
+        while not is_over():
             if self._must_stop(self._raised):
                 raise self._raised
             if wants_cancel is not None and self._raised is None and not self._brings(since):
@@ -661,12 +728,13 @@ class Till:
             room = c.create_string_buffer(size)
 
     def state(self):
-        """Returns the total, the numbers of booked and unclear payments and of unclear reversals, whether the till is
-        registered, and the last outcome."""
+        """Returns the total, the numbers of booked and unclear payments, of unclear reversals and of settlements, whether the
+        till is registered, what runs, and the last outcome."""
         state = _State()
         self._call("state", c.byref(state))
-        return State(state.total, state.booked, state.unclear, state.unclear_reversals, state.held, bool(state.registered),
-                     Order(state.running) if state.running else None, state.last.value(self._library))
+        running = Order(state.running) if state.running in list(Order) else None
+        return State(state.total, state.booked, state.unclear, state.unclear_reversals, state.settled, state.held,
+                     bool(state.registered), running, state.running == ASK, state.last.value(self._library))
 
     def card_name(self):
         """Returns the name of the card of the last order, or None if the terminal named none."""
@@ -689,6 +757,32 @@ class Till:
     def unclear(self):
         """Returns the unclear payments: the terminal may have booked them or not."""
         return self._noted("unclear", [self._entry("unclear", place) for place in range(self.state().unclear)])
+
+    def settled(self):
+        """Returns what the answers to asks settled, in their order. Neither the book nor the list of unclear payments changes."""
+        return [self._settlement(place) for place in range(self.state().settled)]
+
+    def _settlement(self, place):
+        one = _Settlement()
+        self._call("settled", place, c.byref(one))
+        kind = SettlementKind(one.kind)
+        if kind != SettlementKind.PAID:
+            return Settlement(kind, one.place)
+        return Settlement(kind, one.place, one.trace, one.receipt if one.has_receipt else None)
+
+    def _pending(self):
+        pending = _Pending()
+        self._call("pending", c.byref(pending))
+        return pending
+
+    def pending(self):
+        """Returns the unclear order that the next answer can settle, or None. After `load` there is none."""
+        pending = self._pending()
+        return Pending(PendingKind(pending.kind), pending.place) if pending.kind else None
+
+    def knows_last(self):
+        """Returns whether the till knows the terminal's last status. Only then can an order that becomes unclear be settled."""
+        return bool(self._pending().last_known)
 
     def _noted(self, kind, entries):
         """Returns the entries with the times and references that the book has."""

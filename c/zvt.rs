@@ -57,6 +57,7 @@ struct State {
     booked: u64,
     unclear: u64,
     unclear_reversals: u64,
+    settled: u64,
     held: u64,
     registered: u32,
     running: u32,
@@ -77,6 +78,24 @@ struct EntryNumbers {
 
 #[repr(C)]
 #[derive(Default)]
+struct SettlementNumbers {
+    place: u64,
+    kind: u32,
+    trace: u32,
+    receipt: u32,
+    has_receipt: u32,
+}
+
+#[repr(C)]
+#[derive(Default)]
+struct PendingNumbers {
+    place: u64,
+    kind: u32,
+    last_known: u32,
+}
+
+#[repr(C)]
+#[derive(Default)]
 struct Answer {
     size: u64,
     place: u64,
@@ -90,23 +109,27 @@ const _: () = assert!(
     size_of::<Handle>() == 16
         && size_of::<Step>() == 64
         && size_of::<LineNumbers>() == 16
-        && size_of::<State>() == 72
+        && size_of::<State>() == 80
         && size_of::<EntryNumbers>() == 32
+        && size_of::<SettlementNumbers>() == 24
+        && size_of::<PendingNumbers>() == 16
         && size_of::<Answer>() == 24
         && offset_of!(Handle, full) == 8
         && offset_of!(Step, line) == 24
         && offset_of!(Step, printed) == 40
         && offset_of!(Step, outcome) == 44
-        && offset_of!(State, held) == 32
-        && offset_of!(State, running) == 44
-        && offset_of!(State, last) == 48
+        && offset_of!(State, settled) == 32
+        && offset_of!(State, running) == 52
+        && offset_of!(State, last) == 56
         && offset_of!(EntryNumbers, trace) == 8
         && offset_of!(EntryNumbers, doubt) == 28
+        && offset_of!(SettlementNumbers, has_receipt) == 20
+        && offset_of!(PendingNumbers, last_known) == 12
         && offset_of!(Answer, status) == 20
 );
 
 /// Version of the struct layouts and calls that this file expects.
-const ABI: u32 = 3;
+const ABI: u32 = 4;
 
 unsafe extern "C" {
     fn zvt_abi() -> u32;
@@ -117,6 +140,9 @@ unsafe extern "C" {
     fn zvt_till_connected(till: *mut Handle) -> u32;
     fn zvt_till_lost(till: *mut Handle, step: *mut Step) -> u32;
     fn zvt_till_order(till: *mut Handle, order: u32, number: u64, out: *mut u8, room: usize, step: *mut Step) -> u32;
+    fn zvt_till_ask(till: *mut Handle, out: *mut u8, room: usize, step: *mut Step) -> u32;
+    fn zvt_till_settled(till: *mut Handle, place: usize, settlement: *mut SettlementNumbers) -> u32;
+    fn zvt_till_pending(till: *mut Handle, pending: *mut PendingNumbers) -> u32;
     fn zvt_till_feed_all(
         till: *mut Handle, piece: *const u8, length: usize, out: *mut u8, room: usize, line: *mut u8, line_length: usize, step: *mut Step,
     ) -> u32;
@@ -134,6 +160,10 @@ unsafe extern "C" {
         order: u32, number: u64, sent: *const u8, sent_length: usize, at: *const u8, at_length: usize, reference: *const u8,
         reference_length: usize, room: *mut u8, room_length: usize, answer: *mut Answer,
     );
+    fn zvt_record_ask(
+        at: *const u8, at_length: usize, reference: *const u8, reference_length: usize, room: *mut u8, room_length: usize,
+        answer: *mut Answer,
+    );
     fn zvt_record_heard(bytes: *const u8, length: usize, room: *mut u8, room_length: usize, answer: *mut Answer) -> usize;
     fn zvt_record_lost(room: *mut u8, room_length: usize, answer: *mut Answer);
     fn zvt_record_notes(till: *mut Handle, text: *const u8, length: usize, room: *mut u8, room_length: usize, answer: *mut Answer);
@@ -142,6 +172,8 @@ unsafe extern "C" {
 const REFUSED: u32 = 2;
 const NO_MEMORY: u32 = 3;
 const ARGUMENT: u32 = 5;
+/// What `running` of the state is while an ask runs.
+const ASK: u32 = 6;
 
 /// The reason why a call was refused: a status of zvt.h other than 0. The call changed nothing.
 #[derive(Clone, Copy, Debug, PartialEq, Eq)]
@@ -194,7 +226,7 @@ impl fmt::Display for Refused {
             Refused::Stopped => "this line brought bytes before that begin no message",
             Refused::Offline => "the line is down",
             Refused::NotRegistered => "the till is not registered",
-            Refused::Busy => "an order runs",
+            Refused::Busy => "an order or an ask runs",
             Refused::NothingToCancel => "no payment runs that could be cancelled",
             Refused::BookFull => "the book is full",
             Refused::UnknownEntry => "no such payment is booked",
@@ -346,6 +378,42 @@ pub struct Unclear {
     pub receipt: Option<u16>,
 }
 
+/// What the answer to an ask says about an unclear order. `Paid` and `NotPaid` have the index of the unclear payment, the others
+/// the index of the entry whose reversal is unclear.
+#[derive(Clone, Copy, Debug, PartialEq, Eq)]
+pub enum Settlement {
+    Paid { unclear: usize, trace: u32, receipt: Option<u16> },
+    NotPaid { unclear: usize },
+    Reversed { entry: usize },
+    NotReversed { entry: usize },
+    /// A kind that zvt.h does not define.
+    Other(u32),
+}
+
+impl SettlementNumbers {
+    fn settlement(&self) -> Settlement {
+        let place = self.place as usize;
+        match self.kind {
+            1 => Settlement::Paid { unclear: place, trace: self.trace, receipt: receipt((self.receipt, self.has_receipt)) },
+            2 => Settlement::NotPaid { unclear: place },
+            3 => Settlement::Reversed { entry: place },
+            4 => Settlement::NotReversed { entry: place },
+            kind => Settlement::Other(kind),
+        }
+    }
+}
+
+/// An unclear order that the next answer can settle.
+#[derive(Clone, Copy, Debug, PartialEq, Eq)]
+pub enum Pending {
+    /// The unclear payment at this index.
+    Payment(usize),
+    /// The reversal of the entry at this index.
+    Reversal(usize),
+    /// A kind that zvt.h does not define.
+    Other(u32),
+}
+
 /// The code page of the lines to print.
 #[derive(Clone, Copy, Debug, Default, PartialEq, Eq)]
 pub enum Codepage {
@@ -494,6 +562,14 @@ impl Till {
         Ok(out[..step.send as usize].to_vec())
     }
 
+    /// Asks the terminal to repeat its last receipt, and returns the bytes to send. The ask has ended once [`Till::asking`]
+    /// returns false; [`Till::settled`] then returns what it settled, if anything.
+    pub fn ask(&mut self) -> Result<Vec<u8>, Refused> {
+        let (mut out, mut step) = ([0; ROOM], Step::default());
+        checked(unsafe { zvt_till_ask(&mut self.handle, out.as_mut_ptr(), ROOM, &mut step) })?;
+        Ok(out[..step.send as usize].to_vec())
+    }
+
     /// Reads what the terminal sent, up to the first invalid byte.
     pub fn feed(&mut self, piece: &[u8]) -> Result<Reply, Refused> {
         let (mut reply, mut line) = (Reply::default(), vec![0; LINE_ROOM]);
@@ -569,6 +645,45 @@ impl Till {
     /// Returns the number of booked payments with an unclear reversal: their `doubt` is [`Doubt::Unclear`].
     pub fn unclear_reversals(&mut self) -> Result<usize, Refused> {
         Ok(self.state()?.unclear_reversals as usize)
+    }
+
+    /// Returns whether an ask is running.
+    pub fn asking(&mut self) -> Result<bool, Refused> {
+        Ok(self.state()?.running == ASK)
+    }
+
+    /// Returns what the answers to asks settled, in their order.
+    pub fn settled(&mut self) -> Result<Vec<Settlement>, Refused> {
+        (0..self.state()?.settled as usize)
+            .map(|place| {
+                let mut settlement = SettlementNumbers::default();
+                checked(unsafe { zvt_till_settled(&mut self.handle, place, &mut settlement) })?;
+                Ok(settlement.settlement())
+            })
+            .collect()
+    }
+
+    fn pending_numbers(&mut self) -> Result<PendingNumbers, Refused> {
+        let mut pending = PendingNumbers::default();
+        checked(unsafe { zvt_till_pending(&mut self.handle, &mut pending) })?;
+        Ok(pending)
+    }
+
+    /// Returns the unclear order that the next answer can settle, if there is one.
+    pub fn pending(&mut self) -> Result<Option<Pending>, Refused> {
+        let pending = self.pending_numbers()?;
+        Ok(match pending.kind {
+            0 => None,
+            1 => Some(Pending::Payment(pending.place as usize)),
+            2 => Some(Pending::Reversal(pending.place as usize)),
+            kind => Some(Pending::Other(kind)),
+        })
+    }
+
+    /// Returns whether the till knows the terminal's last status. Only then can an order that becomes unclear be settled. Ask
+    /// after a registration to make it known.
+    pub fn last_known(&mut self) -> Result<bool, Refused> {
+        Ok(self.pending_numbers()?.last_known == 1)
     }
 
     /// Returns the sum of the booked payments without a completed reversal.
@@ -651,17 +766,17 @@ pub fn record_opening(currency: u16) -> Result<Vec<u8>, Refused> {
     record(|room, length, answer| unsafe { zvt_record_opening(currency, room, length, answer) })
 }
 
-/// What the record of an order says beside it.
+/// What the record of an order or ask says beside it.
 #[derive(Clone, Debug, Default, PartialEq, Eq)]
 pub struct Note {
-    /// The time of the order in UTC, such as `2026-11-28T09:14:03Z`.
+    /// Its time in UTC, such as `2026-11-28T09:14:03Z`.
     pub at: Option<String>,
     /// A reference of the caller's: 1 to 40 printable ASCII characters without a space.
     pub reference: Option<String>,
 }
 
 impl Note {
-    /// Returns the note of an order that is made now.
+    /// Returns the note of an order or ask that is made now.
     pub fn now(reference: Option<&str>) -> Note {
         let seconds = SystemTime::now().duration_since(UNIX_EPOCH).map_or(0, |since| since.as_secs());
         Note { at: Some(utc(seconds)), reference: reference.map(str::to_owned) }
@@ -714,6 +829,14 @@ pub fn record_order(order: Order, sent: &[u8], note: &Note) -> Result<Vec<u8>, R
         zvt_record_order(
             kind, number, sent.as_ptr(), sent.len(), at.as_ptr(), at.len(), reference.as_ptr(), reference.len(), room, length, answer,
         )
+    })
+}
+
+/// Returns the record of an ask. Make it durable before you send the bytes that [`Till::ask`] returned.
+pub fn record_ask(note: &Note) -> Result<Vec<u8>, Refused> {
+    let (at, reference) = (note.at.as_deref().unwrap_or(""), note.reference.as_deref().unwrap_or(""));
+    record(|room, length, answer| unsafe {
+        zvt_record_ask(at.as_ptr(), at.len(), reference.as_ptr(), reference.len(), room, length, answer)
     })
 }
 

@@ -3,6 +3,7 @@ use Rattle.std.proofs.Common.{◌≡◌, [], refl, codes}
 use Rattle.std.specs.Char.{encode_utf8}
 use Rattle.zvt_c.specs.Names.{meaning_in, name_in, outcomes, status_in}
 use Rattle.zvt_text.specs.Meanings.{meaning_of, status_words}
+use Rattle.zvt_c.specs.Asking.{AskingRows}
 use Rattle.zvt_c.specs.Cards.{CardRows}
 use Rattle.zvt_c.specs.Lines.{LineRows}
 use Rattle.zvt_c.specs.Version.{version}
@@ -58,3 +59,6 @@ cards = (refl, refl, refl, refl, refl, refl)
 pub lines : LineRows
 unfolding encode_utf8
 lines = (refl, refl, refl, refl, refl, refl, refl, refl)
+
+pub asking : AskingRows
+asking = (refl, refl, refl, refl, refl, refl)

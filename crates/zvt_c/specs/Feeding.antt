@@ -12,7 +12,9 @@ use Rattle.zvt_till.specs.declared.happenings.Happening.TheVariants.{Heard, Malf
 use Rattle.zvt_till.specs.declared.orders.Outgoing.{Outgoing}
 use Rattle.zvt_till.specs.Hearing.{heard_as}
 use Rattle.zvt_till.specs.Sending.{reply_to}
-use Rattle.zvt_till.specs.Till.{TillState, step, outcome_at}
+use Rattle.zvt_till.specs.Till.{TillState, outcome_at}
+use Rattle.zvt_settle.specs.Inside.{both_of}
+use Rattle.zvt_settle.specs.Settling.{Both, Line as OnLine, take}
 use Rattle.zvt_c.specs.declared.session.Session.{Session}
 use Rattle.zvt_c.specs.declared.numbers.ZvtStep.{ZvtStep}
 use Rattle.zvt_c.specs.Answers.{code_of_why}
@@ -36,26 +38,27 @@ abbrev pub Prints : Option (List ℕ) → (line_before line_after : List ℕ) �
 Prints None before after size printed = (after ≡ before) × (size ≡ 0) × (printed ≡ 0)
 Prints (Some text) before after size printed = Written text size before after × (printed ≡ 1)
 
--- A message leads the till from one state to another, gets this reply, and is reported in these numbers.
-pub record TellsMessage (apdu : Message) (taken : ℕ) (before after : TillState) (buffer_before buffer_after line_before line_after : List ℕ) (answer : ZvtStep) : Type 0 where
-  pub state : after ≡ step before (Heard (heard_as apdu))
-  pub sends : Sends (replied before apdu) buffer_before buffer_after answer.send
+-- A message leads the till and what it settles from one state to another, gets this reply, and is reported in these
+-- numbers.
+pub record TellsMessage (apdu : Message) (taken : ℕ) (before after : Both) (buffer_before buffer_after line_before line_after : List ℕ) (answer : ZvtStep) : Type 0 where
+  pub state : after ≡ take before (OnLine (Heard (heard_as apdu)))
+  pub sends : Sends (replied before.till apdu) buffer_before buffer_after answer.send
   pub prints : Prints (line_in apdu 0) line_before line_after answer.line answer.printed
-  pub outcome : answer.outcome ≡ outcome_of (cond before.line_up (outcome_at before (Heard (heard_as apdu))) None)
+  pub outcome : answer.outcome ≡ outcome_of (cond before.till.line_up (outcome_at before.till (Heard (heard_as apdu))) None)
   pub taken_is : answer.taken ≡ taken
   pub message : answer.message ≡ 1
   pub place : answer.place ≡ 0
   pub reason : answer.reason ≡ 0
 
 -- The fed bytes lead the till from one state to another, get this reply, and are reported in these numbers.
-abbrev pub Told : Fed → (piece : List ℕ) → (before after : TillState) → (buffer_before buffer_after line_before line_after : List ℕ) → ZvtStep → (status : ℕ) → Type 0
+abbrev pub Told : Fed → (piece : List ℕ) → (before after : Both) → (buffer_before buffer_after line_before line_after : List ℕ) → ZvtStep → (status : ℕ) → Type 0
 Told (Whole apdu taken) piece before after buffer_before buffer_after line_before line_after answer status =
     TellsMessage apdu taken before after buffer_before buffer_after line_before line_after answer × (status ≡ statuses.ok)
 Told More piece before after buffer_before buffer_after line_before line_after answer status =
     (after ≡ before) × (buffer_after ≡ buffer_before) × (line_after ≡ line_before) × (answer ≡ silent (length piece) 0 0 (outcome_of None)) × (status ≡ statuses.ok)
 Told (Refused place why) piece before after buffer_before buffer_after line_before line_after answer status =
-    (after ≡ step before Malformed) × (buffer_after ≡ buffer_before) × (line_after ≡ line_before)
-    × (answer ≡ silent 0 place (code_of_why why) (outcome_of (outcome_at before Malformed))) × (status ≡ statuses.refused)
+    (after ≡ take before (OnLine Malformed)) × (buffer_after ≡ buffer_before) × (line_after ≡ line_before)
+    × (answer ≡ silent 0 place (code_of_why why) (outcome_of (outcome_at before.till Malformed))) × (status ≡ statuses.refused)
 
 -- The message that a feed ended with, which the stream lends until the next feed.
 abbrev pub ended_with : Fed → Option Message
@@ -82,8 +85,8 @@ IsFailure Memory end = Unit {0}
 -- A feed of an open session feeds the stream and the till; or nothing happens, because bytes were refused before or
 -- memory ran out.
 pub data FeedsEnd (before : Session) (piece : List ℕ) (after : Session) (buffer_before buffer_after line_before line_after : List ℕ) (answer : ZvtStep) (status : ℕ) : Type 0 where
-  fed : (fed : Fed) → Feeds before.stream piece fed after.stream → after.stream.lent ≡ ended_with fed → after.card ≡ card_after before.till.state fed before.card
-      → Told fed piece before.till.state after.till.state buffer_before buffer_after line_before line_after answer status
+  fed : (fed : Fed) → Feeds before.stream piece fed after.stream → after.stream.lent ≡ ended_with fed → after.card ≡ card_after before.till.till.state fed before.card
+      → Told fed piece (both_of before.till) (both_of after.till) buffer_before buffer_after line_before line_after answer status
       → FeedsEnd before piece after buffer_before buffer_after line_before line_after answer status
   failed : (why : FeedError) → IsFailure why before → Keeps before.stream after.stream → after.till ≡ before.till → after.card ≡ before.card → buffer_after ≡ buffer_before → line_after ≡ line_before
       → answer ≡ nothing → status ≡ status_of_failure why → FeedsEnd before piece after buffer_before buffer_after line_before line_after answer status

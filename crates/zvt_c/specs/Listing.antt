@@ -35,4 +35,4 @@ pub data ListsNotes (settings : Settings) (text buffer_before buffer_after : Lis
 -- With a closed handle nothing is written.
 abbrev pub ListsHandle : Option Session → (text buffer_before buffer_after : List ℕ) → ZvtAnswer → Type 0
 ListsHandle None text before after answer = (after ≡ before) × (answer ≡ bare statuses.closed)
-ListsHandle (Some end) text before after answer = ListsNotes end.till.state.settings text before after answer
+ListsHandle (Some end) text before after answer = ListsNotes end.till.till.state.settings text before after answer

@@ -1,5 +1,5 @@
 -- Outcomes and rows in numbers.
-use Rattle.std.specs.Prelude.{◌≡◌, ℕ, ◌+◌, ◌*◌, cond, List, length, Option, Some, None, option_map, slice_index_or}
+use Rattle.std.specs.Prelude.{◌≡◌, ℕ, ◌+◌, ◌*◌, Bool, cond, List, length, Option, Some, None, is_some, option_map, slice_index_or}
 use Rattle.zvt_till.specs.declared.entries.Doubt.{Doubt}
 use Rattle.zvt_till.specs.declared.entries.Doubt.TheVariants.{No, Unclear as UnclearReversal, TakenBack}
 use Rattle.zvt_till.specs.declared.entries.Entry.{Entry}
@@ -13,6 +13,7 @@ use Rattle.zvt_till.specs.Marks.{total}
 use Rattle.zvt_till.specs.Numbers.{no_numbers}
 use Rattle.zvt_till.specs.declared.numbers.Numbers.{Numbers}
 use Rattle.zvt_till.specs.SnapshotEncoded.{cause_code}
+use Rattle.zvt_settle.specs.Inside.{settling_of}
 use Rattle.zvt_c.specs.declared.session.Session.{Session}
 use Rattle.zvt_c.specs.declared.numbers.ZvtOutcome.{ZvtOutcome}
 use Rattle.zvt_c.specs.declared.numbers.ZvtState.{ZvtState}
@@ -109,13 +110,18 @@ kind_of_running (Some (Reverse entry)) = 3
 kind_of_running (Some CloseDay) = 4
 kind_of_running (Some Cancel) = 5
 
+-- The number of what is running: an order, an ask, or nothing.
+abbrev pub running_of : (asking : Bool) → Option Order → ℕ
+running_of asking order = cond asking 6 (kind_of_running order)
+
 -- The state of a till and its stream.
 pub record IsStateOf (end : Session) (state : ZvtState) : Type 0 where
-  pub sum : state.total ≡ total end.till.state.book
-  pub booked : state.booked ≡ length end.till.state.book
-  pub unclear : state.unclear ≡ length end.till.state.unclear
-  pub unclear_reversals : state.unclear_reversals ≡ length (unclear_reversals end.till.state.book)
+  pub sum : state.total ≡ total end.till.till.state.book
+  pub booked : state.booked ≡ length end.till.till.state.book
+  pub unclear : state.unclear ≡ length end.till.till.state.unclear
+  pub unclear_reversals : state.unclear_reversals ≡ length (unclear_reversals end.till.till.state.book)
+  pub settled : state.settled ≡ length (settling_of end.till).settled
   pub held : state.held ≡ length end.stream.held
-  pub running : state.running ≡ kind_of_running (option_map (λ running. running.order) end.till.state.running)
-  pub registered : state.registered ≡ cond end.till.state.registered 1 0
-  pub last : state.last ≡ outcome_of end.till.state.last_outcome
+  pub running : state.running ≡ running_of (is_some end.till.asking) (option_map (λ running. running.order) end.till.till.state.running)
+  pub registered : state.registered ≡ cond end.till.till.state.registered 1 0
+  pub last : state.last ≡ outcome_of end.till.till.state.last_outcome

@@ -9,7 +9,8 @@ use Rattle.zvt_till.specs.declared.orders.Outgoing.{Outgoing}
 use Rattle.zvt_till.specs.Refusals.{refusal}
 use Rattle.zvt_till.specs.Sending.{message_of}
 use Rattle.zvt_till.specs.Till.{accept, facts_of}
-use Rattle.zvt_till.specs.View.{IsRefusedAs}
+use Rattle.zvt_settle.specs.Inside.{both_of, settling_of}
+use Rattle.zvt_settle.specs.Settling.{sent as settling_sent, IsOrderRefusal}
 use Rattle.zvt_c.specs.declared.session.Session.{Session}
 use Rattle.zvt_c.specs.declared.numbers.ZvtStep.{ZvtStep}
 use Rattle.zvt_c.specs.Cards.{ordered_card}
@@ -37,13 +38,13 @@ status_of AlreadyReversed = statuses.already_reversed
 status_of NoReceipt = statuses.no_receipt
 status_of Memory = statuses.no_memory
 
--- An order is sent: its message is at the start of the buffer, the order is running, and the answer contains only the
--- message's size. Or the order is refused: nothing changes, and the answer is empty.
+-- An order is sent while no ask runs: its message is at the start of the buffer, the order is running, and the answer
+-- contains only the message's size. Or the order is refused: nothing changes, and the answer is empty.
 pub data OrdersEnd (before : Session) (order : Order) (after : Session) (buffer_before buffer_after : List ℕ) (answer : ZvtStep) (status : ℕ) : Type 0 where
-  sent : (message : Outgoing) → refusal (facts_of before.till.state) order ≡ None → message_of before.till.state.settings before.till.state.book order ≡ Some message
-      → after.till.state ≡ accept before.till.state order → after.stream ≡ before.stream → after.card ≡ ordered_card order before.card
+  sent : (message : Outgoing) → refusal (facts_of before.till.till.state) order ≡ None → before.till.asking ≡ None → message_of before.till.till.state.settings before.till.till.state.book order ≡ Some message
+      → both_of after.till ≡ record { till = accept before.till.till.state order; settling = settling_sent (settling_of before.till) order } → after.stream ≡ before.stream → after.card ≡ ordered_card order before.card
       → PutsMessage (message_of_brief message.brief) buffer_before buffer_after answer.send → answer ≡ only_sends answer.send → status ≡ statuses.ok → OrdersEnd before order after buffer_before buffer_after answer status
-  refused : (why : OrderRefusal) → IsRefusedAs (facts_of before.till.state) before.till.spare order why → after ≡ before → buffer_after ≡ buffer_before → answer ≡ nothing → status ≡ status_of why
+  refused : (why : OrderRefusal) → IsOrderRefusal before.till.asking (facts_of before.till.till.state) before.till.till.spare order why → after ≡ before → buffer_after ≡ buffer_before → answer ≡ nothing → status ≡ status_of why
       → OrdersEnd before order after buffer_before buffer_after answer status
 
 -- A handle is given an order by two numbers. If they name none, or if the handle is closed, nothing changes, and the

@@ -1,5 +1,5 @@
 -- The records of a journal, as a caller makes them durable.
-use Rattle.std.specs.Prelude.{◌≡◌, ◌⊎◌, ◌==◌, ◌&&◌, ◌||◌, ◌<◌, ◌≤◌, nat_lt, ℕ, Bool, false, cond, List, [], ◌∷◌, ◌++◌, length, take, drop, Option, Some, None, option_and_then}
+use Rattle.std.specs.Prelude.{◌≡◌, ◌⊎◌, ◌==◌, ◌&&◌, ◌||◌, ◌<◌, ◌≤◌, nat_lt, ℕ, Bool, false, cond, List, [], ◌∷◌, ◌++◌, length, take, drop, Option, Some, None, option_and_then, MatchOption}
 use Rattle.zvt_grammar.specs.Reading.{shortest}
 use Rattle.zvt_grammar.specs.declared.answer.Scan.TheVariants.{Whole}
 use Rattle.zvt_apdu.specs.Grammar.{Spells}
@@ -15,7 +15,7 @@ use Rattle.zvt_till.specs.Line.{Answers as IsAnswer}
 use Rattle.zvt_till.specs.Sending.{reply_to}
 use Rattle.zvt_kept.specs.Masking.{masked_message}
 use Rattle.zvt_kept.specs.Notes.{note_of}
-use Rattle.zvt_kept.specs.Records.{IsRecordOf, heard, heard_record, ordered, order_record}
+use Rattle.zvt_kept.specs.Records.{IsRecordOf, asked, ask_record, heard, heard_record, ordered, order_record}
 use Rattle.zvt_c.specs.declared.answer.ZvtAnswer.{ZvtAnswer}
 use Rattle.zvt_c.specs.Answers.{Says, answer_of}
 use Rattle.zvt_c.specs.Ordering.{order_named}
@@ -77,6 +77,12 @@ pub data RecordsOrder (kind number : ℕ) (sent at reference buffer_before buffe
       → IsRecordOf (ordered order note) (order_record order note (masked_bytes sent)) → Records (order_record order note (masked_bytes sent)) buffer_before buffer_after answer
       → RecordsOrder kind number sent at reference buffer_before buffer_after answer
   unnamed : NoRecord kind number sent at reference → buffer_after ≡ buffer_before → answer ≡ bare statuses.argument → RecordsOrder kind number sent at reference buffer_before buffer_after answer
+
+-- The record of an ask with this time and reference; or no record, because one of them is malformed or memory ran out.
+abbrev pub RecordsAsk : (at reference buffer_before buffer_after : List ℕ) → ZvtAnswer → Type 0
+RecordsAsk at reference before after answer =
+    MatchOption (note_of (given at) (given reference)) ((after ≡ before) × (answer ≡ bare statuses.argument))
+    (λ note. IsRecordOf (asked note) (ask_record note) × Records (ask_record note) before after answer)
 
 -- The record of the first message and of the reply to it; or no record, for the reason in the answer.
 pub data RecordsHeard (bytes buffer_before buffer_after : List ℕ) (answer : ZvtAnswer) (size : ℕ) : Type 0 where

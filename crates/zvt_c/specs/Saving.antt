@@ -5,6 +5,8 @@ use Rattle.zvt_till.specs.SnapshotEncoded.{saved, saved_first, HasNoDoubts, IsKe
 use Rattle.zvt_stream.specs.StreamState.{at_start}
 use Rattle.zvt_till.specs.Till.{TillState, step}
 use Rattle.zvt_till.specs.declared.happenings.Happening.TheVariants.{Lost}
+use Rattle.zvt_settle.specs.Inside.{settling_of}
+use Rattle.zvt_settle.specs.Settling.{new_settling}
 use Rattle.zvt_c.specs.declared.answer.ZvtAnswer.{ZvtAnswer}
 use Rattle.zvt_c.specs.declared.session.Session.{Session}
 use Rattle.zvt_c.specs.Cards.{no_card}
@@ -27,16 +29,17 @@ sized size = record { size = size; place = 0; reason = 0; status = statuses.ok }
 abbrev pub Saves : Option Session → (buffer_before buffer_after : List ℕ) → ZvtAnswer → Type 0
 Saves None before after answer = (after ≡ before) × (answer ≡ bare statuses.closed)
 Saves (Some end) before after answer =
-    ((answer ≡ sized answer.size) × Written (saved (step end.till.state Lost)) answer.size before after × IsKept (step end.till.state Lost)) ⊎ ((after ≡ before) × (answer ≡ bare statuses.no_memory))
+    ((answer ≡ sized answer.size) × Written (saved (step end.till.till.state Lost)) answer.size before after × IsKept (step end.till.till.state Lost)) ⊎ ((after ≡ before) × (answer ≡ bare statuses.no_memory))
 
--- A till that is saved in these bytes, in this layout or in the first, a stream at the start of its line, and no card.
+-- A till that is saved in these bytes, in this layout or in the first, with nothing to settle, a stream at the start of
+-- its line, and no card.
 abbrev pub Loads : List ℕ → Option Session → Type 0
 Loads bytes None = ⊥
-Loads bytes (Some end) = IsSavedAs bytes (step end.till.state Lost) × (end.stream ≡ at_start) × (end.card ≡ no_card)
+Loads bytes (Some end) = IsSavedAs bytes (step end.till.till.state Lost) × (settling_of end.till ≡ new_settling) × (end.stream ≡ at_start) × (end.card ≡ no_card)
 
 -- The handle's till has this state under the strict rules, or memory ran out.
 abbrev pub IsRestored : TillState → (after : Option Session) → (status : ℕ) → Type 0
-IsRestored state after status = ((status ≡ statuses.ok) × (option_map (λ end. end.till.state) after ≡ Some (strictly state))) ⊎ (status ≡ statuses.no_memory)
+IsRestored state after status = ((status ≡ statuses.ok) × (option_map (λ end. end.till.till.state) after ≡ Some (strictly state))) ⊎ (status ≡ statuses.no_memory)
 
 -- Bytes that a till was saved in restore that till, or memory runs out.
 abbrev pub Restores : List ℕ → (after : Option Session) → (status : ℕ) → Type 0

@@ -2,6 +2,7 @@
 #![tactic(auto)]
 
 mod answer;
+mod asking;
 mod card;
 mod codec;
 mod handle;
@@ -22,6 +23,7 @@ mod till;
 mod version;
 
 pub use answer::ZvtAnswer;
+pub use asking::{ZvtPending, ZvtSettlement};
 pub use handle::ZvtTill;
 pub use lines::ZvtLine;
 pub use numbers::{ZvtEntry, ZvtOutcome, ZvtState, ZvtStep};

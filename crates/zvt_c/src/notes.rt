@@ -32,7 +32,7 @@ pub extern "C" fn zvt_record_notes(
         *answer = bare(statuses::CLOSED);
         return;
     };
-    *answer = list_notes(alloc, &end.till, text, buffer);
+    *answer = list_notes(alloc, end.till.till(), text, buffer);
     *till = ZvtTill::of(end);
 }
 

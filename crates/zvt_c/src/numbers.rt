@@ -1,7 +1,7 @@
 //! Orders, outcomes and entries of the book, as numbers.
 ghost use Rattle.std.specs.Prelude.{◌≡◌, None};
 ghost use Rattle.zvt_c.specs.Numbers.{coded, doubt_of, ended, kind_of_running, nothing, outcome_of, paid, receipt_of};
-ghost use Rattle.zvt_c.specs.Numbers.{row_of, trace_of, unclear_row_of};
+ghost use Rattle.zvt_c.specs.Numbers.{row_of, running_of, trace_of, unclear_row_of};
 ghost use Rattle.zvt_c.specs.Ordering.{order_named, payment_of, status_of};
 
 use crate::statuses;
@@ -56,10 +56,12 @@ pub struct ZvtState {
     pub unclear: u64,
     /// The number of entries of the book whose last reversal is unclear.
     pub unclear_reversals: u64,
+    /// The number of settlements.
+    pub settled: u64,
     /// The number of bytes held of an incomplete message.
     pub held: u64,
     pub registered: u32,
-    /// The running order: 0 none, 1 register, 2 pay, 3 reverse, 4 close the day.
+    /// What is running: 0 nothing, 1 register, 2 pay, 3 reverse, 4 close the day, 6 an ask.
     pub running: u32,
     /// How the last order ended.
     pub last: ZvtOutcome,
@@ -142,7 +144,7 @@ pub fn refusal_status(why: OrderRefusal) -> u32
 }
 
 /// Returns a receipt number, and 1 if there is one.
-fn receipt_numbers(receipt: Option<[u8; 2]>) -> (u32, u32)
+pub fn receipt_numbers(receipt: Option<[u8; 2]>) -> (u32, u32)
     ensures { result ≡ receipt_of receipt }
 {
     match receipt {
@@ -272,8 +274,15 @@ fn pay(number: u64) -> Option<Order>
     }
 }
 
+/// Returns the number of what is running: an order, an ask, or nothing.
+pub fn running_number(asking: bool, running: Option<Order>) -> u32
+    ensures { result ≡ running_of asking running }
+{
+    if asking { 6 } else { order_number(running) }
+}
+
 /// Returns the kind of the running order, or 0 if there is none.
-pub fn running_number(running: Option<Order>) -> u32
+fn order_number(running: Option<Order>) -> u32
     ensures { result ≡ kind_of_running running }
 {
     match running {

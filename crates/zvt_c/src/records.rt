@@ -5,8 +5,8 @@
 ghost use Rattle.std.specs.Prelude.{◌≡◌, IfSome, MatchBool, MatchResult, false, nat_le, option_map};
 ghost use Rattle.zvt_kept.specs.Records.{IsSpelledOrder, lost_record, opening};
 ghost use Rattle.zvt_kept.specs.Notes.{note_of};
-ghost use Rattle.zvt_c.specs.Records.{Masks, Records, RecordsHeard, RecordsOrder, given, has_password, masked_bytes};
-ghost use Rattle.zvt_c.specs.Records.{recorded_order};
+ghost use Rattle.zvt_c.specs.Records.{Masks, Records, RecordsAsk, RecordsHeard, RecordsOrder, given, has_password};
+ghost use Rattle.zvt_c.specs.Records.{masked_bytes, recorded_order};
 ghost use Rattle.zvt_c.specs.Saving.{Written, bare, sized};
 ghost use Rattle.zvt_c.specs.Statuses as statuses;
 
@@ -17,7 +17,7 @@ use crate::statuses;
 use std::alloc::{AllocError, Global};
 use zvt_apdu::{MAX_BRIEF_LEN, view};
 use zvt_bcd::Currency;
-use zvt_kept::{Note, answers_to, put_heard, put_lost, put_opening, put_order};
+use zvt_kept::{Note, answers_to, put_ask, put_heard, put_lost, put_opening, put_order};
 use zvt_text::Text;
 use zvt_till::{MAX_BOOK_ENTRIES, Order, heard_view};
 
@@ -79,6 +79,27 @@ pub extern "C" fn zvt_record_order(
     mask(message);
     let mut text = Text::new(alloc);
     let written = put_order(&mut text, &order, &note, message);
+    *answer = hand_out(written, &text, buffer);
+}
+
+/// Writes the record of an ask, with 00 00 00 instead of the password. `at` and `reference` are as in
+/// `zvt_record_order`. The status is 0 or 3, or 5 if the time or the reference has another form.
+#[unsafe(no_mangle)]
+pub extern "C" fn zvt_record_ask(
+    alloc: Global,
+    at: &[u8],
+    reference: &[u8],
+    buffer: &mut [u8],
+    answer: &mut ZvtAnswer,
+)
+    ensures { RecordsAsk at.now reference.now buffer.old buffer.new answer.new }
+{
+    let Some(note) = note_of(at, reference) else {
+        *answer = bare(statuses::ARGUMENT);
+        return;
+    };
+    let mut text = Text::new(alloc);
+    let written = put_ask(&mut text, &note);
     *answer = hand_out(written, &text, buffer);
 }
 

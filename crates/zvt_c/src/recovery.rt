@@ -14,7 +14,8 @@ use zvt_stream::Stream;
 use zvt_till::{Till, TillSettings};
 
 /// Replaces the handle's till by the one that a journal's records describe, with the same settings. It is not
-/// connected, and no order is running. The status is 0; or 2, 3 or 6, and then nothing changes.
+/// connected, and neither an order nor an ask is running. It knows what the asks in the journal settled, and what is
+/// pending. The status is 0; or 2, 3 or 6, and then nothing changes.
 ///
 /// With status 2, the reason is 1 if the first line names another currency, or a rule that the till does not have. It
 /// is 2 if the line at `place` is not a journal's, and 3 if the record at `place` cannot follow the records before it.
@@ -40,9 +41,9 @@ pub extern "C" fn zvt_till_recover(
 fn recover_end(alloc: Global, end: &mut Session, text: &[u8]) -> ZvtAnswer
     ensures { RecoversEnd end.old text.now end.new result }
 {
-    match recover(alloc, &settings(&end.till), text) {
+    match recover(alloc, &settings(end.till.till()), text) {
         Ok(recovered) => {
-            end.till = recovered.till.into_till();
+            end.till = recovered.till;
             end.stream = Stream::new(alloc);
             end.card = Card::none();
             bare(statuses::OK)

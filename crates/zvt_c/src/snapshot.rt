@@ -11,6 +11,7 @@ use crate::handle::ZvtTill;
 use crate::session::Session;
 use crate::statuses;
 use std::alloc::Global;
+use zvt_settle::SettlingTill;
 use zvt_stream::Stream;
 use zvt_till::snapshot::{LoadError, load, save};
 use zvt_till::{Happening, Till};
@@ -47,16 +48,16 @@ pub extern "C" fn zvt_till_save(
         *answer = bare(statuses::CLOSED);
         return;
     };
-    *answer = match write_saved(alloc, &end.till, buffer) {
+    *answer = match write_saved(alloc, end.till.till(), buffer) {
         Some(size) => found(size),
         None => bare(statuses::NO_MEMORY),
     };
     *till = ZvtTill::of(end);
 }
 
-/// Restores a till from the bytes of `zvt_till_save`. It is not connected, and no order is running. If the handle has a
-/// till, that till is freed. The status is 0; or 2 if the bytes are not a saved till, or 3 if an allocation failed, and
-/// then nothing changes.
+/// Restores a till from the bytes of `zvt_till_save`. It is not connected, and no order is running. The bytes do not
+/// contain what asks settled, so it has nothing settled or pending. If the handle has a till, that till is freed. The
+/// status is 0; or 2 if the bytes are not a saved till, or 3 if an allocation failed, and then nothing changes.
 #[unsafe(no_mangle)]
 pub extern "C" fn zvt_till_load(alloc: Global, till: &mut ZvtTill, bytes: &[u8]) -> u32
     ensures made { result ≡ statuses.ok → Loads bytes.now till.new.raw_handle.held }
@@ -71,7 +72,7 @@ pub extern "C" fn zvt_till_load(alloc: Global, till: &mut ZvtTill, bytes: &[u8])
         Err(LoadError::Memory) => return statuses::NO_MEMORY,
     };
     let end = Session {
-        till: loaded,
+        till: SettlingTill::new(alloc, loaded),
         stream: Stream::new(alloc),
         card: Card::none(),
     };

@@ -24,13 +24,13 @@ pub const CLOSED: u32 = 6;
 /// The connection sent invalid bytes earlier.
 pub const STOPPED: u32 = 7;
 
-/// The order is refused: the till is not connected.
+/// The order or ask is refused: the till is not connected.
 pub const OFFLINE: u32 = 10;
 
-/// The order is refused: the till is not registered.
+/// The order or ask is refused: the till is not registered.
 pub const NOT_REGISTERED: u32 = 11;
 
-/// The order is refused: another order is running.
+/// The order or ask is refused: an order or an ask is running.
 pub const BUSY: u32 = 12;
 
 /// The order is refused: no payment or reversal is running that it could cancel.

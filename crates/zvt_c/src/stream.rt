@@ -1,7 +1,9 @@
 //! Processes input from the terminal. The statuses are the same as for the other calls on a till.
 ghost use Rattle.std.specs.Prelude.{◌≡◌, ◌≤◌, ◌<◌, ◌+◌, ◌^◌, None, length, MatchBool, cond, nat_lt, []};
-ghost use Rattle.zvt_till.specs.Till.{step, outcome_at};
+ghost use Rattle.zvt_till.specs.Till.{outcome_at};
 ghost use Rattle.zvt_till.specs.Hearing.{heard_as};
+ghost use Rattle.zvt_settle.specs.Inside.{both_of};
+ghost use Rattle.zvt_settle.specs.Settling.{Line, take};
 ghost use Rattle.zvt_c.specs.Feeding.{FeedsEnd, FeedsHandle, Prints, Sends, TellsMessage, replied, status_of_failure};
 ghost use Rattle.zvt_c.specs.FeedingAll.{FeedsAll, FeedsAllHandle, added, goes_on};
 ghost use Rattle.zvt_c.specs.Lines.{line_in};
@@ -19,8 +21,9 @@ use crate::statuses;
 use crate::till::{lacks_capacity, write_message};
 use std::alloc::Global;
 use zvt_apdu::ApduView;
+use zvt_settle::SettlingTill;
 use zvt_stream::{FedView, FeedError};
-use zvt_till::{Happening, Outcome, Till, heard_view};
+use zvt_till::{Happening, Outcome, heard_view};
 
 /// Processes bytes from the terminal, up to the end of one message. While `message` is 1, feed the remaining bytes
 /// again. Writes the bytes to send to `out`, which needs room for 32. Does not write the first line to print.
@@ -135,13 +138,13 @@ fn add(answer: &mut ZvtStep, one: &ZvtStep)
 
 /// Lets the till process a message, and writes its reply. Returns the size of the reply, and the outcome of the running
 /// order if this message ended it.
-fn hear(till: &mut Till, apdu: &ApduView<'_>, out: &mut [u8]) -> (usize, Option<Outcome>)
+fn hear(till: &mut SettlingTill, apdu: &ApduView<'_>, out: &mut [u8]) -> (usize, Option<Outcome>)
     requires { 32 ≤ length out.old }
-    ensures state { till.new.state ≡ step till.old.state (Happening.Heard (heard_as apdu.now)) }
-    ensures sent { Sends (replied till.old.state apdu.now) out.old out.new result.0 }
+    ensures state { both_of till.new ≡ take (both_of till.old) (Line (Happening.Heard (heard_as apdu.now))) }
+    ensures sent { Sends (replied till.old.till.state apdu.now) out.old out.new result.0 }
     ensures buffer { result.0 ≤ length out.old }
-    ensures outcome { result.1 ≡ cond till.old.state.line_up
-        (outcome_at till.old.state (Happening.Heard (heard_as apdu.now))) None }
+    ensures outcome { result.1 ≡ cond till.old.till.state.line_up
+        (outcome_at till.old.till.state (Happening.Heard (heard_as apdu.now))) None }
 {
     let reply = till.hear(heard_view(apdu));
     let size = match &reply.send {
@@ -163,14 +166,15 @@ fn put_line(apdu: &ApduView<'_>, line: &mut [u8]) -> (usize, u32)
 
 /// Lets the till process a message that ends after that many bytes of the input, and returns the step.
 fn report(
-    till: &mut Till,
+    till: &mut SettlingTill,
     apdu: &ApduView<'_>,
     taken: usize,
     out: &mut [u8],
     line: &mut [u8],
 ) -> ZvtStep
     requires { 32 ≤ length out.old }
-    ensures told { TellsMessage apdu.now taken till.old.state till.new.state out.old out.new line.old line.new result }
+    ensures told { TellsMessage apdu.now taken (both_of till.old) (both_of till.new) out.old out.new line.old line.new
+        result }
     ensures buffer { result.send ≤ length out.old }
 {
     let (send, outcome) = hear(till, apdu, out);
@@ -219,7 +223,7 @@ fn feed(
             let Some(apdu) = end.stream.lent() else {
                 unreachable!()
             };
-            hear_card(&mut end.card, end.till.running().is_some(), &apdu);
+            hear_card(&mut end.card, end.till.till().running().is_some(), &apdu);
             *answer = report(&mut end.till, &apdu, taken, out, line);
             statuses::OK
         }

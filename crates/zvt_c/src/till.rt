@@ -3,10 +3,11 @@
 //! closed, 7 the connection sent invalid bytes earlier, 10 to 17 the order is refused.
 ghost use Rattle.std.specs.Prelude.{◌≡◌, ◌≤◌, ◌⊎◌, ◌&&◌, None, option_map, length, MatchBool, MatchOption, nat_le};
 ghost use Rattle.std.specs.Prelude.{nat_lt, cond, slice_get};
-ghost use Rattle.zvt_till.specs.Till.{step, outcome_at};
+ghost use Rattle.zvt_till.specs.Till.{outcome_at};
+ghost use Rattle.zvt_settle.specs.Settling.{Line, take};
 ghost use Rattle.zvt_apdu.specs.Briefs.{message_of_brief, PutsMessage};
 ghost use Rattle.zvt_stream.specs.StreamState.{at_start};
-ghost use Rattle.zvt_c.specs.States.{state_of, IsNewTill};
+ghost use Rattle.zvt_c.specs.States.{both_held, state_of, IsNewTill};
 ghost use Rattle.zvt_c.specs.Numbers.{nothing, numbers_of, outcome_of, row_of, silent, unclear_row_of, IsStateOf};
 ghost use Rattle.zvt_c.specs.Ordering.{OrdersEnd, OrdersHandle};
 ghost use Rattle.zvt_c.specs.Statuses as statuses;
@@ -22,6 +23,7 @@ use crate::statuses;
 use std::alloc::Global;
 use zvt_apdu::MAX_BRIEF_LEN;
 use zvt_bcd::{Amount, Currency};
+use zvt_settle::SettlingTill;
 use zvt_stream::Stream;
 use zvt_till::{Cause, Happening, Numbers, Order, Outgoing, Till};
 
@@ -49,7 +51,7 @@ pub extern "C" fn zvt_till_new(
     let mut digits = [0; 3];
     zvt_bcd::put(u64::from(password), &mut digits);
     let end = Session {
-        till: Till::new(alloc, digits, config, currency),
+        till: SettlingTill::new(alloc, Till::new(alloc, digits, config, currency)),
         stream: Stream::new(alloc),
         card: Card::none(),
     };
@@ -74,7 +76,8 @@ pub extern "C" fn zvt_till_free(alloc: Global, till: &mut ZvtTill)
 /// Notifies the till that a new connection is up.
 #[unsafe(no_mangle)]
 pub extern "C" fn zvt_till_connected(alloc: Global, till: &mut ZvtTill) -> u32
-    ensures state { state_of till.new ≡ option_map (λ state. step state Happening.Connected) (state_of till.old) }
+    ensures state { both_held till.new ≡ option_map (λ both. take both (Line Happening.Connected))
+        (both_held till.old) }
     ensures stream { option_map (λ end. end.stream) till.new.raw_handle.held ≡ option_map (λ _. at_start)
         till.old.raw_handle.held }
     ensures card { option_map (λ end. end.card) till.new.raw_handle.held ≡ option_map (λ end. end.card)
@@ -90,15 +93,15 @@ pub extern "C" fn zvt_till_connected(alloc: Global, till: &mut ZvtTill) -> u32
     statuses::OK
 }
 
-/// Notifies the till that the connection was lost. A running order ends with it.
+/// Notifies the till that the connection was lost. A running order or ask ends with it.
 #[unsafe(no_mangle)]
 pub extern "C" fn zvt_till_lost(alloc: Global, till: &mut ZvtTill, answer: &mut ZvtStep) -> u32
-    ensures state { state_of till.new ≡ option_map (λ state. step state Happening.Lost) (state_of till.old) }
+    ensures state { both_held till.new ≡ option_map (λ both. take both (Line Happening.Lost)) (both_held till.old) }
     ensures card { option_map (λ end. end.card) till.new.raw_handle.held ≡ option_map (λ end. end.card)
         till.old.raw_handle.held }
     ensures said { MatchOption till.old.raw_handle.held ((result ≡ statuses.closed) × (answer.new ≡ nothing))
         (λ end. (result ≡ statuses.ok)
-        × (answer.new ≡ silent 0 0 0 (outcome_of (outcome_at end.till.state Happening.Lost)))) }
+        × (answer.new ≡ silent 0 0 0 (outcome_of (outcome_at end.till.till.state Happening.Lost)))) }
 {
     *answer = no_step();
     let Some(mut end) = till.take(alloc) else {
@@ -191,14 +194,15 @@ pub extern "C" fn zvt_till_state(alloc: Global, till: &mut ZvtTill, state: &mut 
         return statuses::CLOSED;
     };
     *state = ZvtState {
-        total: end.till.total(),
-        booked: end.till.book().len() as u64,
-        unclear: end.till.unclear().len() as u64,
-        unclear_reversals: end.till.unclear_reversals() as u64,
+        total: end.till.till().total(),
+        booked: end.till.till().book().len() as u64,
+        unclear: end.till.till().unclear().len() as u64,
+        unclear_reversals: end.till.till().unclear_reversals() as u64,
+        settled: end.till.settled().len() as u64,
         held: end.stream.held() as u64,
-        registered: u32::from(end.till.registered()),
-        running: running_number(end.till.running()),
-        last: outcome_numbers(end.till.last_outcome()),
+        registered: u32::from(end.till.till().registered()),
+        running: running_number(end.till.is_asking(), end.till.till().running()),
+        last: outcome_numbers(end.till.till().last_outcome()),
     };
     *till = ZvtTill::of(end);
     statuses::OK
@@ -214,13 +218,13 @@ pub extern "C" fn zvt_till_entry(
 ) -> u32
     ensures same { till.new.raw_handle.held ≡ till.old.raw_handle.held }
     ensures row { MatchOption till.old.raw_handle.held (result ≡ statuses.closed)
-        (λ end. MatchOption (slice_get end.till.state.book place) (result ≡ statuses.argument)
+        (λ end. MatchOption (slice_get end.till.till.state.book place) (result ≡ statuses.argument)
         (λ row. (result ≡ statuses.ok) × (entry.new ≡ row_of row))) }
 {
     let Some(end) = till.take(alloc) else {
         return statuses::CLOSED;
     };
-    let status = match end.till.book().get(place) {
+    let status = match end.till.till().book().get(place) {
         Some(row) => {
             *entry = entry_numbers(row);
             statuses::OK
@@ -265,14 +269,14 @@ pub extern "C" fn zvt_till_unclear(
 ) -> u32
     ensures same { till.new.raw_handle.held ≡ till.old.raw_handle.held }
     ensures row { MatchOption till.old.raw_handle.held (result ≡ statuses.closed)
-        (λ end. MatchOption (slice_get end.till.state.unclear place) (result ≡ statuses.argument)
+        (λ end. MatchOption (slice_get end.till.till.state.unclear place) (result ≡ statuses.argument)
         (λ row. (result ≡ statuses.ok)
-        × (entry.new ≡ unclear_row_of row (numbers_of (slice_get end.till.heard place))))) }
+        × (entry.new ≡ unclear_row_of row (numbers_of (slice_get end.till.till.heard place))))) }
 {
     let Some(end) = till.take(alloc) else {
         return statuses::CLOSED;
     };
-    let status = match unclear_at(&end.till, place) {
+    let status = match unclear_at(end.till.till(), place) {
         Some(row) => {
             *entry = row;
             statuses::OK

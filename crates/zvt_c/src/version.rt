@@ -11,7 +11,7 @@ use crate::names::put_name;
 pub extern "C" fn zvt_abi() -> u32
     ensures { result ≡ abi }
 {
-    3
+    4
 }
 
 /// Writes the version (ASCII, no final zero) to the start of the buffer and returns its size. If the buffer is too

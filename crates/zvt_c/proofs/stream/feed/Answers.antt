@@ -5,6 +5,7 @@ use Rattle.zvt_stream.specs.declared.stream.FeedError.{FeedError}
 use Rattle.zvt_stream.specs.declared.stream.FeedError.TheVariants.{Stopped, Memory}
 use Rattle.zvt_stream.proofs.LentLemmas.{feeds_shown}
 use Rattle.zvt_till.specs.declared.outcomes.Outcome.{Outcome}
+use Rattle.zvt_till.specs.View.{TillValue}
 use Rattle.zvt_c.specs.declared.session.Session.{Session}
 use Rattle.zvt_c.specs.Answers.{code_of_why}
 use Rattle.zvt_c.specs.Cards.{heard_card}
@@ -22,7 +23,7 @@ returns-in-Some-clause-fed c =
     let lends = rw c.in-Ok-Message.field-0-is at c.in-Ok-Message.ensures.fed in
     fed (Whole c.in-Some.apdu c.in-Ok-Message.taken) (feeds_shown c.args.end.now.stream c.feed_view.new.self _ c.in-Ok-Message.taken c.lent.result c.in-Some.apdu lends c.lent.ensures c.in-Some.is)
     (sym c.lent.ensures ∙ c.in-Some.is)
-    (c.hear_card.ensures ∙ ap (λ (b : Bool). heard_card b c.in-Some.apdu c.args.end.now.card) (c.is_some.ensures ∙ (ap is_some c.running.ensures ∙ mapped_is _ c.args.end.now.till.state.running)))
+    (c.hear_card.ensures ∙ ap (λ (b : Bool). heard_card b c.in-Some.apdu c.args.end.now.card) (c.is_some.ensures ∙ (ap is_some (c.running.ensures ∙ ap (λ (till : TillValue). option_map (λ running. running.order) till.state.running) c.till.ensures) ∙ mapped_is _ c.args.end.now.till.till.state.running)))
     (c.report.ensures.told, refl)
 
 pub returns-in-Ok-More-clause-fed : goal.returns-in-Ok-More-clause-fed
@@ -34,7 +35,7 @@ pub returns-in-Ok-Refused-clause-fed : goal.returns-in-Ok-Refused-clause-fed
 returns-in-Ok-Refused-clause-fed c =
     let lends = rw c.in-Ok-Refused.field-0-is at c.in-Ok-Refused.ensures.fed in
     fed (Refused c.in-Ok-Refused.place c.in-Ok-Refused.why) lends.0 lends.1 refl
-    (c.malformed.ensures.state, refl, refl, c.silent-in-Ok-Refused.ensures ∙ ap (λ (n : ℕ). silent 0 c.in-Ok-Refused.place n (outcome_of c.malformed.result)) c.reason_code.ensures ∙ ap (λ (o : Option Outcome). silent 0 c.in-Ok-Refused.place (code_of_why c.in-Ok-Refused.why) (outcome_of o)) c.malformed.ensures.outcome, refl)
+    (c.malformed.ensures.both, refl, refl, c.silent-in-Ok-Refused.ensures ∙ ap (λ (n : ℕ). silent 0 c.in-Ok-Refused.place n (outcome_of c.malformed.result)) c.reason_code.ensures ∙ ap (λ (o : Option Outcome). silent 0 c.in-Ok-Refused.place (code_of_why c.in-Ok-Refused.why) (outcome_of o)) c.malformed.ensures.outcome, refl)
 
 -- the failure is what the feed of the stream says that it is
 is_failure : (why : FeedError) (end : Session) → (IsErrOf {T = FedView} (Err why) Stopped → end.stream.stopped ≡ true) → IsFailure why end
