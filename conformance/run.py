@@ -8,7 +8,7 @@ for a file that does not exist yet. A situation whose steps have a `/` starts th
 The last line `STEP -> OUTCOME` of the till's standard output must have the outcome that the situation names, or begin with the
 last member `outcome` of its lines of JSON; with --messages-only it is not compared. A till has S seconds, 90 unless told otherwise.
 
-    conformance/run.py --kit ./zvt conformance/till/*.trace -- ./zvt till --timeout 5 --port {port} --book {book} {steps}
+    conformance/run.py --kit ./zvt conformance/till/*.trace -- ./zvt till --timeout 5 --port {port} --book {book} --no-ask {steps}
 
 The verdicts are lines of TAP. The status is 0 where all situations are passed, 1 where one is not, and 2 for wrong words.
 """

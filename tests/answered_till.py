@@ -150,7 +150,7 @@ def run(*words):
 
 
 def till(port, *words):
-    return run("till", "--port", port, *words)
+    return run("till", "--port", port, "--no-ask", *words)
 
 
 def lines(*rows):

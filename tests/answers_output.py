@@ -6,13 +6,14 @@
 PROGRAM is the one that `rt ci` built, unless another is named. A book's objects are those of the model of `journal_model.py`,
 of the journals of sixteen dialogues, whole and cut after each record. Of a run and of vectors the text is read by a parser of
 its own, and says what the objects have to be: over examples/vectors.txt with answers changed, over random lists of steps, and
-over TCP with terminals that approve, decline, abort, and break the line. Exit statuses and standard error are those of the
-text. The objects of docs/JSON.md are among those that are seen. Each line is held against docs/zvt.schema.json where python3
-has jsonschema. The status is 1 where anything differs. It takes seconds.
+over TCP with terminals that approve, decline, abort, repeat a status when they are asked, and break the line. Exit statuses and
+standard error are those of the text. The objects of docs/JSON.md are among those that are seen. Each line is held against
+docs/zvt.schema.json where python3 has jsonschema. The status is 1 where anything differs. It takes seconds.
 """
 import contextlib
 import json
 import os
+import pathlib
 import random
 import re
 import socket
@@ -26,6 +27,8 @@ import journal_dialogues
 import journal_model
 import json_model
 from common import Checks, EXAMPLES, TOP, program
+from journal_dialogues import Dialogue
+from journal_model import ABORT, COMPLETION, message, status
 
 PROGRAM = program(sys.argv[1:])
 SEED, RUNS, VECTORS, SECONDS = 20261126, 150, 40, 60
@@ -121,6 +124,8 @@ def book_objects(book):
         members = {"amount": amount, "cause": cause, "currency": currency, "receipt": receipt, "trace": trace, **noted(note)}
         yield {"unclear": {name: member for name, member in members.items() if member is not None}}
     yield from (journal_model.settled_object(*row) for row in book.settled)
+    if book.settled_total():
+        yield {"settled_total": book.settled_total()}
     yield {"currency": currency, "total": book.total()}
 
 
@@ -151,8 +156,11 @@ def outcome(ending):
     """The members that an outcome has, from its words."""
     if not ending:
         return {}
-    if ending in ("registered", "reversed", "day closed"):
+    if ending in ("registered", "reversed", "day closed", "not settled", "nothing to settle"):
         return {"outcome": ending}
+    if found := re.fullmatch(r"settled (unclear|booked) (\d+) (\w+)(?: trace (\d{6}) receipt (\S+))?", ending):
+        numbers = {"trace": int(found[4]), "receipt": found[5]} if found[4] else {}
+        return {"outcome": "settled", "settled": {found[1]: int(found[2]), "name": found[3], **numbers}}
     if found := re.fullmatch(r"paid trace (\d{6}) receipt (\S+)", ending):
         receipt = {} if found[2] == "-" else {"receipt": found[2]}
         return {"outcome": "paid", "trace": int(found[1]), **receipt}
@@ -237,6 +245,44 @@ def hold_lines():
             check(f"the end of a till at {said}", (found[0], found[2]), (status, errors))
 
 
+# What a till did before its line was lost, what the terminal answers when it is asked, what came of that, and what the till says.
+PAID = [lambda of, number=number: of.paid(number * 10, number) for number in (1, 2, 3)]
+ASKS = (
+    ([*PAID, lambda of: of.reversing(3, 3)], [status(30, 3, 3)], "settled booked 3 NotReversed", "booked payment 3: the terminal did not reverse the payment: you may reverse it again"),
+    ([*PAID, lambda of: of.reversing(3, 3)], [status(30, 4, 4, original=3)], "settled booked 3 Reversed", "booked payment 3: the terminal reversed the payment: do not refund the amount again"),
+    ([*PAID, lambda of: of.approved(40, 4)], [status(40, 4, 4)], "settled unclear 1 Paid trace 000004 receipt 0004",
+     "unclear payment 1: the terminal took the payment as trace 000004 receipt 0004: do not order it again"),
+    ([*PAID, lambda of: of.taken(40)], [status(30, 3, 3)], "settled unclear 1 NotPaid", "unclear payment 1: the terminal did not take the payment: you may order it again"),
+    ([*PAID, lambda of: of.taken(40)], [status(50, 4, 4)], "not settled", "the terminal's answer does not settle the unclear order: look at the terminal's journal or its last receipt"),
+    ([*PAID, lambda of: of.taken(40)], None, "not settled", "the terminal's answer does not settle the unclear order: look at the terminal's journal or its last receipt"),
+    (PAID, [status(30, 3, 3)], "nothing to settle", None),
+)
+
+
+def hold_asks(folder):
+    """Tills over a book ask a terminal: by a step, and by themselves."""
+    for number, (before, said, ending, note) in enumerate(ASKS):
+        of = Dialogue()
+        of.registered()
+        for step in before:
+            step(of)
+        answer = message(ABORT, b"\x83") if said is None else b"".join(said) + message(COMPLETION)
+        for words in (["--no-ask", "register", "ask"], ["register"]):
+            written = {}
+            for form in ([], ["--json"]):
+                book = os.path.join(folder, f"ask{number}.book")
+                pathlib.Path(book).write_bytes(of.file())
+                with answering([ACK + message(COMPLETION), ACK + answer]) as port:
+                    written[bool(form)] = run(["till", "--port", str(port), "--book", book, *form, *words])
+            ended, text, errors = written[False]
+            hold(f"ask {number} by {words}", written[True][1], lines_of(text, step_object))
+            check(f"the end of ask {number} by {words}", written[True][::2], (ended, errors))
+            shown = ending if "ask" in words or ending.startswith("settled") else None
+            check(f"the line of ask {number} by {words}", re.findall("^ask -> (.*)$", text, re.M), [shown] if shown else [])
+            noted = note if len(words) == 3 or before is not PAID else None
+            check(f"the note of ask {number} by {words}", f"zvt: {noted}\n" in errors, noted is not None)
+
+
 def serving(words):
     """A terminal that writes JSON, and its port."""
     terminal = subprocess.Popen([PROGRAM, "terminal", "--json", "--port", "0", *words], stdout=subprocess.PIPE, stderr=subprocess.PIPE, text=True)
@@ -308,6 +354,7 @@ def main():
         hold_vectors(chance)
         hold_books(folder)
         hold_loops(chance, folder)
+        hold_asks(folder)
     hold_lines()
     hold_terminals()
     documented()

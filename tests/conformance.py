@@ -69,7 +69,8 @@ def is_junit(name, report, files):
 def tills(folder):
     """The till of this project passes each situation for tills, with the outcome that is named. run.py starts it."""
     report = folder / "till.xml"
-    files = [it for it in situations("till") if it.stem != "restart"]
+    twice = [it for it in situations("till") if "/" in head(it)["Steps"]]
+    files = [it for it in situations("till") if it not in twice]
     check("there are 40 situations for tills", len(files) >= 40, True)
     command = [PROGRAM, "till", "--timeout", "5", "--port", "{port}", "{steps}"]
     done = subprocess.run([sys.executable, str(KIT / "run.py"), "--kit", PROGRAM, "--jobs", "8", "--junit", str(report), *map(str, files), "--", *command], capture_output=True, text=True, timeout=300)
@@ -81,9 +82,11 @@ def tills(folder):
         done = subprocess.run(["prove", "-e", "cat", folder / "till.tap"], capture_output=True, text=True)
         check("prove", (done.returncode, "Result: PASS" in done.stdout), (0, True))
     # What is started twice keeps its book.
-    words = ["--kit", PROGRAM, str(KIT / "till" / "restart.trace"), "--", PROGRAM, "till", "--port", "{port}", "--book", "{book}", "{steps}"]
+    check("three situations start a till twice", len(twice), 3)
+    words = ["--kit", PROGRAM, *map(str, twice), "--", PROGRAM, "till", "--port", "{port}", "--book", "{book}", "--no-ask", "{steps}"]
     done = subprocess.run([sys.executable, str(KIT / "run.py"), *words], capture_output=True, text=True, timeout=SECONDS)
-    check("run.py: restart", (done.returncode, done.stderr), (0, ""))
+    check("run.py: tills that are started twice", (done.returncode, done.stderr), (0, ""))
+    is_tap("tills that are started twice", done.stdout, twice)
     # JSON has the outcome too, and another outcome than the named one is found.
     for name, kind, wanted in ("approval", "--json", 0), ("approval", "--loose", 0), ("padded-length", "--loose", 1):
         words = ["--kit", PROGRAM, str(KIT / "till" / f"{name}.trace"), "--", PROGRAM, "till", kind, "--port", "{port}", "{steps}"]

@@ -166,7 +166,7 @@ class Trial:
 
     def doubts(self):
         """What standard error says of an unclear order: the numbers that were heard, with a book and without one."""
-        for book in ([], ["--book", self.folder / "doubt.book"]):
+        for book in ([], ["--book", self.folder / "doubt.book", "--no-ask"]):
             with BrokenTerminal(f"{ACK} {APPROVED}") as peer:
                 ended = till(peer.port, *book, "register", "pay:1234")
             ends(f"an approved payment without a completion {book[:1]}", ended, 4, "register -> registered", "pay:1234 -> unclear Line", "total 0")

@@ -6,7 +6,10 @@ and the end of each system call from the one on that opens the journal, or the l
 run is over before that. After each kill the model and `zvt book` read the same book, and it is held against the
 terminal's trace: each approval is booked or unclear, and once; each entry was approved; what the terminal took back is
 marked, unclear, or taken back by B4, and nothing else is; what the till wrote on standard output is so. The next
-run goes on over the same book. At the end each unclear reversal is made again, until none is unclear.
+run goes on over the same book, and asks the terminal first, which settles what it can: what was settled as paid was approved, what
+was settled as not paid was not, and so for reversals. At the end each unclear reversal is made again, until none is unclear.
+
+Then a till that only pays is killed until twelve kills were in payments: of its unclear payments at most one is left unsettled.
 
 journal_kills.py [KILLS [PROGRAM]]: without a word 200 kills of the program of `rt ci`. It needs gcc, else nothing is tried.
 The status is 1 where anything does not hold.
@@ -30,6 +33,7 @@ ZVT = program(sys.argv[2:])
 SECONDS = 60
 KILLED = 137
 A_BOOK = 100  # kills, after which a new book is begun
+IN_PAYMENTS = 12  # kills in payments, of which at most one leaves a payment that no ask settles
 STRIDE = max(1, 2000 // KILLS)  # from one place of a sweep to the next
 HALF = bytes.fromhex("06010A04")  # a half message, by which the terminal knows nobody
 
@@ -132,7 +136,7 @@ class Terminal:
     def __init__(self, work):
         self.ledger = Ledger(work / "terminal.trace")
         self.ledger.path.unlink(missing_ok=True)
-        words = [ZVT, "terminal", "--port", "0", "--connections", "65535", "--trace", str(self.ledger.path)]
+        words = [ZVT, "terminal", "--extended", "--port", "0", "--connections", "65535", "--trace", str(self.ledger.path)]
         self.process = subprocess.Popen(words, stdout=subprocess.DEVNULL, stderr=subprocess.PIPE)
         self.port = int(self.process.stderr.readline().rsplit(b":", 1)[1])
 
@@ -158,6 +162,13 @@ class Trial(Checks):
         self.kills, self.whole, self.amount = 0, 0, 0
         self.where, self.marks = collections.Counter(), collections.Counter()
         self.sweeps, self.rounds = collections.Counter(), collections.Counter()  # the place of each, and how often it was over
+        self.settled, self.left = collections.Counter(), 0  # what asks settled, and the unclear payments that none settled
+        self.begins()
+
+    def begins(self):
+        """A new book."""
+        self.taken, self.newly = set(), set()  # what was taken back, and what of it in the last run that reversed anything
+        self.reversals_sent, self.known = 0, 0  # in the records of the book, and its settlements
 
     def pay(self):
         """A payment of an amount that no other has."""
@@ -203,7 +214,11 @@ class Trial(Checks):
                 self.differs(f"zvt book answers {read} instead of {journal_model.text_of(book)!r}")
         self.approvals(book, ledger)
         self.reversals(book, ledger)
+        self.settlements(book, ledger)
         self.told(book, text)
+        if file.count(b"# reverse ") > self.reversals_sent:
+            self.newly = ledger.taken - self.taken
+        self.taken, self.reversals_sent, self.known = set(ledger.taken), file.count(b"# reverse "), len(book.settled)
         return book
 
     def approvals(self, book, ledger):
@@ -225,6 +240,20 @@ class Trial(Checks):
                 self.differs(f"what is marked was not taken back: {entry}")
             if taken and not (entry.reversed or entry.doubt):
                 self.differs(f"what was taken back is neither marked nor unclear: {entry}")
+
+    def settlements(self, book, ledger):
+        """What asks settled is what the terminal did."""
+        for at, (name, place, *numbers) in enumerate(book.settled):
+            if name == "Paid":
+                holds = ledger.amounts.get(numbers[0]) == book.unclear[place][0]
+            elif name == "NotPaid":
+                holds = book.unclear[place][0] not in ledger.amounts.values()
+            elif name == "Reversed":
+                holds = book.entries[place].trace in ledger.taken
+            else:  # an earlier attempt may have taken it back, and a later one may do so
+                holds = at < self.known or book.entries[place].trace not in self.newly
+            if not holds:
+                self.differs(f"what was settled as {name} {place} {numbers} is not so: {book}")
 
     def told(self, book, text):
         """What the till wrote of each step is in the book."""
@@ -256,6 +285,7 @@ class Trial(Checks):
     def till_and_terminal(self, most):
         """Kills of tills over one book, and at the end of it all that is unclear about reversals is settled."""
         path = self.work / f"{self.kills}.book"
+        self.begins()
         terminal = Terminal(self.work)
         ledger, book, until = terminal.ledger, journal_model.Book(), min(self.kills + A_BOOK, most)
         words = ["till", "--port", str(terminal.port), "--book", str(path), "register"]
@@ -285,6 +315,27 @@ class Trial(Checks):
             self.differs(f"at the end what was taken back is known: {status} {errors!r} {known ^ terminal.ledger.taken}")
         for entry in book.entries:
             self.marks["marked" if entry.reversed else entry.doubt or "not taken back"] += 1
+        self.settled.update(name for name, *_ in book.settled)
+
+    def payments(self):
+        """Kills of a till that only pays, and asks first in each run."""
+        path, terminal, in_payments = self.work / "payments.book", Terminal(self.work), 0
+        words = ["till", "--port", str(terminal.port), "--book", str(path), "register"]
+        self.begins()
+        self.runs([*words, self.pay()])
+        while in_payments < IN_PAYMENTS and self.wrong == 0:
+            status, text = self.kill("payments", path, [*words, self.pay(), self.pay()])
+            terminal.settles()
+            in_payments += status == KILLED and journal_model.running_in(path.read_bytes()) == "pay"
+            self.compare(path, terminal.ledger, text, status == KILLED)
+        status, text, errors = self.runs(words)
+        terminal.settles()
+        book = self.compare(path, terminal.ledger, text, False)
+        terminal.close()
+        self.left = len(book.unclear) - sum(name in ("Paid", "NotPaid") for name, *_ in book.settled)
+        self.settled.update(name for name, *_ in book.settled)
+        if status != 0 or self.left > 1:
+            self.differs(f"{self.left} payments stay unclear after {in_payments} kills in payments: {status} {errors!r} {book}")
 
     def loops(self, most):
         """Kills of both ends in one process, each over a book of its own, over which a whole run goes then."""
@@ -306,8 +357,10 @@ class Trial(Checks):
         while self.kills < KILLS * 4 // 5 and self.wrong == 0:
             self.till_and_terminal(KILLS * 4 // 5)
         self.loops(KILLS)
+        self.payments()
         print(f"{self.verdict}: {self.kills} kills and {self.whole} whole runs: "
-              f"{dict(self.where)}; entries at the end {dict(self.marks)}; {self.wrong} wrong")
+              f"{dict(self.where)}; entries at the end {dict(self.marks)}; settled {dict(self.settled)}, "
+              f"unclear after {IN_PAYMENTS} kills in payments {self.left}; {self.wrong} wrong")
         return self.status
 
 

@@ -125,6 +125,11 @@ class Book:
     def booked(self):
         return sum(entry.amount for entry in self.entries)
 
+    def settled_total(self):
+        """What was settled as paid, but for the numbers that an entry has."""
+        booked = {entry.trace for entry in self.entries}
+        return sum(self.unclear[place][0] for name, place, *numbers in self.settled if name == "Paid" and numbers[0] not in booked)
+
     def unclear_reversals(self):
         """Place from 1 and cause of each entry whose last reversal is unclear."""
         return [(place, entry.doubt) for place, entry in enumerate(self.entries, 1) if entry.doubt not in (None, "B4")]
@@ -528,6 +533,7 @@ def text_of(book):
     rows = zip(book.unclear, book.heard, book.notes)
     lines += [f"unclear {amount} {cause}{heard_text(*heard)}{note}" for (amount, cause), heard, note in rows]
     lines += [settled_text(*row) for row in book.settled]
+    lines += [f"settled as paid {book.settled_total()}"] if book.settled_total() else []
     return "\n".join(lines + [f"total {book.total()}"])
 
 

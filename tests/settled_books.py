@@ -129,7 +129,7 @@ def day(chance):
 
 
 def main():
-    check, kinds = Checks(), collections.Counter()
+    check, kinds, sums = Checks(), collections.Counter(), 0
     with tempfile.TemporaryDirectory() as folder:
         path = pathlib.Path(folder) / "day.book"
         for seed in range(BOOKS):
@@ -141,8 +141,12 @@ def main():
             rows = subprocess.run([ZVT, "book", "--json", path], capture_output=True, text=True).stdout.splitlines()
             found = [row for row in map(json.loads, rows) if "settled" in row]
             check(f"objects of book {seed}", found, [journal_model.settled_object(*row) for row in book.settled])
+            found = [row["settled_total"] for row in map(json.loads, rows) if "settled_total" in row]
+            check(f"the sum of book {seed}", found, [book.settled_total()] if book.settled_total() else [])
+            sums += bool(found)
     for kind in ("Paid", "NotPaid", "Reversed", "NotReversed"):
         check(f"{kind} came about", kinds[kind] > 0, True)
+    check("sums came about", sums > 0, True)
     print(f"{BOOKS} books, {sum(kinds.values())} settlements ({dict(sorted(kinds.items()))}): {check.count} comparisons, {check.verdict}")
     return check.status
 
