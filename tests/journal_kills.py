@@ -33,7 +33,7 @@ ZVT = program(sys.argv[2:])
 SECONDS = 60
 KILLED = 137
 A_BOOK = 100  # kills, after which a new book is begun
-IN_PAYMENTS = 12  # kills in payments, of which at most one leaves a payment that no ask settles
+IN_PAYMENTS = 12  # kills in payments; at most one may leave a payment that no ask settles
 STRIDE = max(1, 2000 // KILLS)  # from one place of a sweep to the next
 HALF = bytes.fromhex("06010A04")  # a half message, by which the terminal knows nobody
 

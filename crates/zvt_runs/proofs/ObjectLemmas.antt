@@ -1,4 +1,4 @@
--- The texts of a total and of an ask are those of their values, and no object of a step has a float.
+-- A total and an ask are written as their values, and no object of a step has a float.
 use Rattle.std.proofs.Common.{◌≡◌, ◌++◌, ℕ, false, List, Option, Some, None, refl, append_assoc, codes}
 use Rattle.std.specs.Fmt.{decimal}
 use Rattle.json.specs.Print.{escape, escape_byte}
