@@ -13,11 +13,12 @@ use Rattle.zvt_tlv.specs.Sized.{SizedIn, WhySized, SizedFound, AnswersSized}
 use Rattle.zvt_tlv.proofs.SizedLemmas.{position_unfinished, not_longer_more}
 use Rattle.zvt_field.specs.declared.shapes.Shape.TheVariants.{Tree}
 use Rattle.zvt_field.specs.Shapes.{shape_of}
-use Rattle.zvt_field.specs.Grammar.{Field, tree}
+use Rattle.zvt_field.specs.Grammar.{Field, tree, FieldOf}
 use Rattle.zvt_field.specs.Judging.{AliveIn, PlaceIn, WhyIn, in_container}
 use Rattle.zvt_field.specs.Answers.{FieldFound, AnswersOne, InContainer}
 use Rattle.zvt_field.specs.Bodies.{HasSpelling}
 use Rattle.zvt_field.proofs.Fit.{alive_container, container_alive}
+use Rattle.zvt_field.proofs.NoneFound.{none_inside}
 use Rattle.zvt_field.proofs.Shortening.{field_small}
 
 -- what is open has room for a byte
@@ -34,18 +35,21 @@ container_whole r bmp level n inside f is s = record {
   apart = s.spelled.apart;
 }
 
-pub container_more : (r : Reading) (bmp level : ℕ) (inside : List ℕ) → shape_of bmp ≡ Some Tree → Unfinished (SizedIn r level) inside → (length (bmp ∷ inside) < suc level) × AliveIn r (suc level) (bmp ∷ inside)
+pub container_more : (r : Reading) (bmp level : ℕ) (inside : List ℕ) → shape_of bmp ≡ Some Tree → Unfinished (SizedIn r level) inside →
+    (length (bmp ∷ inside) < suc level) × AliveIn r (suc level) (bmp ∷ inside) × NoneWhole (FieldOf r) (bmp ∷ inside)
 container_more r bmp level inside is u =
-    let few = open_room r level inside u.alive.rest u.alive.value u.alive.spelled (λ s. u.none_whole u.alive.value inside [] (sym (append-nil inside)) s) in
-    (omega arith, container_alive r bmp level inside is u.alive)
+    let none = λ (s : SizedIn r level u.alive.value inside). u.none_whole u.alive.value inside [] (sym (append-nil inside)) s in
+    let few = open_room r level inside u.alive.rest u.alive.value u.alive.spelled none in
+    (omega arith, container_alive r bmp level inside is u.alive, none_inside r bmp level inside u.alive.rest u.alive.value is u.alive.spelled none)
 
 pub container_refused : (r : Reading) (bmp level p : ℕ) (inside : List ℕ) (why : Why) → shape_of bmp ≡ Some Tree → NoneWhole (SizedIn r level) inside × Place (SizedIn r level) inside p × WhySized r level inside p why →
-    PlaceIn r (suc level) (bmp ∷ inside) (suc p) × WhyIn r (suc level) (bmp ∷ inside) (suc p) why
+    PlaceIn r (suc level) (bmp ∷ inside) (suc p) × WhyIn r (suc level) (bmp ∷ inside) (suc p) why × NoneWhole (FieldOf r) (bmp ∷ take p inside)
 container_refused r bmp level p inside why is (none, place, reason) =
     let u = position_unfinished r level reason.openers (take p inside) reason.at reason.role reason.left reason.stands in
     let same : get_or inside p 0 ≡ reason.byte = get_or_from_slice_get inside p reason.byte 0 reason.is_byte in
     let more : take p inside ++ reason.byte ∷ [] ≡ take (suc p) inside = ap (λ (x : ℕ). take p inside ++ x ∷ []) (sym same) ∙ sym (take-suc inside p 0 place.present) in
-    let room = open_room r level (take p inside) place.alive.rest place.alive.value place.alive.spelled (λ s. none place.alive.value (take p inside) (drop p inside) (sym (take-append-drop p inside)) s) in
+    let missing = λ (s : SizedIn r level place.alive.value (take p inside)). none place.alive.value (take p inside) (drop p inside) (sym (take-append-drop p inside)) s in
+    let room = open_room r level (take p inside) place.alive.rest place.alive.value place.alive.spelled missing in
     let long : length (take p inside) ≡ p = length-take-le p inside (omega (arith, place.present)) in (
       (
         record {
@@ -66,6 +70,7 @@ container_refused r bmp level p inside why is (none, place, reason) =
         is_byte = reason.is_byte;
         fails = reason.fails;
       },
+      none_inside r bmp level (take p inside) place.alive.rest place.alive.value is place.alive.spelled missing,
     )
 
 abbrev Inner : (r : Reading) (room : ℕ) (bytes : List ℕ) → Scan (Objects × ℕ) → Type 0

@@ -9,16 +9,18 @@ use Rattle.zvt_bcd.specs.Digits.{AreDigits, IsDigitPair, is_digit_pair}
 use Rattle.zvt_bcd.proofs.PairTests.{is_pair}
 use Rattle.zvt_grammar.specs.declared.why.Why.TheVariants.{NotDigit}
 use Rattle.zvt_grammar.specs.Reading.{Reading, AreBytes}
+use Rattle.zvt_grammar.specs.Beginnings.{NoneWhole}
 use Rattle.zvt_grammar.specs.Tests.{check}
 use Rattle.zvt_tlv.proofs.Alive.{bytes_prefix}
 use Rattle.zvt_tlv.proofs.Levels.{take_from, are_bytes}
 use Rattle.zvt_field.specs.Shapes.{shape_of}
-use Rattle.zvt_field.specs.Grammar.{plain, IsHead, IsContent}
+use Rattle.zvt_field.specs.Grammar.{plain, IsHead, IsContent, FieldOf}
 use Rattle.zvt_field.specs.Judging.{AliveIn, PlaceIn, WhyIn, in_content}
 use Rattle.zvt_field.specs.declared.reader.Head.{Head}
 use Rattle.zvt_field.specs.Answers.{HeadFound, FieldFound}
 use Rattle.zvt_field.proofs.Fit.{Content, alive_content, content_alive}
 use Rattle.zvt_field.proofs.HeadMoves.{failed}
+use Rattle.zvt_field.proofs.NoneFound.{none_in, none_before, least_head}
 
 -- a byte that isn't two digits
 abbrev pub is_bad : ℕ → Bool
@@ -115,7 +117,8 @@ inner_size start n end bytes present e =
     let le : end - start ≤ length (drop start bytes) = omega (arith, length-drop start bytes, e) in length-take-le (end - start) (drop start bytes) le
 
 pub content_refused : (r : Reading) (room end at : ℕ) (bytes : List ℕ) (head : Head) (h : HeadFound r room bytes head) → end ≡ min (head.start + head.size) (length bytes) →
-    stop head.digits (inner head.start end bytes) ≡ Some at → ((i : ℕ) → get_or bytes i 0 < 256) → PlaceIn r room bytes (head.start + at) × WhyIn r room bytes (head.start + at) NotDigit
+    stop head.digits (inner head.start end bytes) ≡ Some at → ((i : ℕ) → get_or bytes i 0 < 256) →
+    PlaceIn r room bytes (head.start + at) × WhyIn r room bytes (head.start + at) NotDigit × NoneWhole (FieldOf r) (take (head.start + at) bytes)
 content_refused r room end at bytes head h e found are =
     let content = inner head.start end bytes in
     let (digits, found) = stopped head.digits content at found in
@@ -130,13 +133,14 @@ content_refused r room end at bytes head h e found are =
     (λ k lt. let k' : k < at = omega (arith, lt, part) in ap is_digit_pair (get_or-take at rest k 0 k' ∙ sym (same k (omega arith))) ∙ f.before k k') in
     let alive = alive_with r room at bytes head h (omega (arith, e)) (subst (λ (d : Bool). IsContent d (take at rest)) (sym digits) are_digits) in
     let bad : is_digit_pair (get_or bytes (head.start + at) 0) ≡ false = ap is_digit_pair (sym (get_or-drop head.start bytes at 0) ∙ sym (same at below)) ∙ f.fails in
-    failed r room (in_content true) bytes (head.start + at) NotDigit
+    let failed = failed r room (in_content true) bytes (head.start + at) NotDigit
     (h.bmp, h.size, take at rest, head.size, taken r room at bytes head h, subst (λ (d : Bool). IsHead (shape_of h.bmp) d head.size h.size) digits h.is_head, omega (arith, part, e, below))
     alive (omega (arith, content_small r room bytes head h, e, below)) (omega (arith, after', length-drop head.start bytes)) (are (head.start + at))
-    (ap (λ (b : Bool). check b NotDigit None) bad)
+    (ap (λ (b : Bool). check b NotDigit None) bad) in
+    (failed.0, failed.1, none_before r bytes (head.start + head.size) (head.start + at) (least_head r room bytes head h) (omega (arith, e, below)))
 
 pub content_more : (r : Reading) (room end : ℕ) (bytes : List ℕ) (head : Head) (h : HeadFound r room bytes head) → end ≡ min (head.start + head.size) (length bytes) → stop head.digits (inner head.start end bytes) ≡ None →
-    length (inner head.start end bytes) < head.size → ((i : ℕ) → get_or bytes i 0 < 256) → (length bytes < room) × AliveIn r room bytes
+    length (inner head.start end bytes) < head.size → ((i : ℕ) → get_or bytes i 0 < 256) → (length bytes < room) × AliveIn r room bytes × NoneWhole (FieldOf r) bytes
 content_more r room end bytes head h e tested few are =
     let content = inner head.start end bytes in
     let rest = drop head.start bytes in
@@ -147,6 +151,7 @@ content_more r room end bytes head h e tested few are =
       omega (arith, content_small r room bytes head h),
       subst (AliveIn r room) (ap (λ (k : ℕ). take k bytes) whole ∙ take_all (length bytes) bytes (omega arith))
           (alive_with r room (end - head.start) bytes head h (omega (arith, few, size)) (kind head.digits content tested (inner_bytes head.start end bytes are))),
+      none_in r bytes (head.start + head.size) (least_head r room bytes head h) short,
     )
 
 pub content_whole : (r : Reading) (room end : ℕ) (bytes : List ℕ) (head : Head) (h : HeadFound r room bytes head) → end ≡ min (head.start + head.size) (length bytes) → stop head.digits (inner head.start end bytes) ≡ None →

@@ -5,12 +5,15 @@ use Rattle.std.proofs.Math.Seq.{take-suc, take-length}
 use Rattle.zvt_bcd.specs.LengthDigits.{AreLengthDigits, counted}
 use Rattle.zvt_grammar.specs.declared.why.Why.{Why}
 use Rattle.zvt_grammar.specs.Reading.{Reading}
+use Rattle.zvt_grammar.specs.Beginnings.{NoneWhole}
 use Rattle.zvt_grammar.specs.Tests.{check}
 use Rattle.zvt_field.specs.Shapes.{shape_of}
+use Rattle.zvt_field.specs.Grammar.{FieldOf}
 use Rattle.zvt_field.specs.Judging.{AliveIn, PlaceIn, WhyIn, digit, count_digits, Begins, is_length_digit, fault}
 use Rattle.zvt_field.specs.Answers.{HeadFound}
 use Rattle.zvt_field.proofs.Counts.{alive_least, count_head, length_digit, digits_joined, counted_joined}
 use Rattle.zvt_field.proofs.HeadMoves.{failed, passed}
+use Rattle.zvt_field.proofs.NoneFound.{Least, none_in, none_before, least_named}
 
 -- that many digits of a length are read, and spell that number
 pub record CountTo (r : Reading) (room : ℕ) (bytes : List ℕ) (digits number k : ℕ) : Type 0 where
@@ -40,15 +43,23 @@ begins : (r : Reading) (room : ℕ) (bytes : List ℕ) (digits number k : ℕ) �
 begins r room bytes digits number k c lt =
     (c.bmp, c.size, c.whole, (let total : length c.size + suc (digits - k) ≡ digits = omega (arith, long r room bytes digits number k c) in total ∙ sym c.counts), c.are, c.spells)
 
-pub count_more : (r : Reading) (room : ℕ) (bytes : List ℕ) (digits number k : ℕ) → CountTo r room bytes digits number k → k < digits + 1 → length bytes ≤ k → (length bytes < room) × AliveIn r room bytes
+least_counted : (r : Reading) (room : ℕ) (bytes : List ℕ) (digits number k : ℕ) → CountTo r room bytes digits number k → k < digits + 1 → Least r bytes (suc digits)
+least_counted r room bytes digits number k c lt =
+    least_named r bytes k c.bmp digits c.size c.whole c.counts (omega (arith, long r room bytes digits number k c))
+
+pub count_more : (r : Reading) (room : ℕ) (bytes : List ℕ) (digits number k : ℕ) → CountTo r room bytes digits number k → k < digits + 1 → length bytes ≤ k → (length bytes < room) × AliveIn r room bytes × NoneWhole (FieldOf r) bytes
 count_more r room bytes digits number k c lt ended =
-    let same : k ≡ length bytes = omega (arith, c.present) in
-    (omega (arith, count_within r room bytes digits number k c lt), subst (AliveIn r room) (ap (λ (n : ℕ). take n bytes) same ∙ take-length bytes) c.alive)
+    let same : k ≡ length bytes = omega (arith, c.present) in (
+      omega (arith, count_within r room bytes digits number k c lt),
+      subst (AliveIn r room) (ap (λ (n : ℕ). take n bytes) same ∙ take-length bytes) c.alive,
+      none_in r bytes (suc digits) (least_counted r room bytes digits number k c lt) (omega arith),
+    )
 
 pub count_refused : (r : Reading) (room : ℕ) (bytes : List ℕ) (digits number k : ℕ) (why : Why) → CountTo r room bytes digits number k → k < digits + 1 → k < length bytes → get_or bytes k 0 < 256 →
-    fault r (digit (digits - k) number) (room - k - 1) (get_or bytes k 0) ≡ Some why → PlaceIn r room bytes k × WhyIn r room bytes k why
+    fault r (digit (digits - k) number) (room - k - 1) (get_or bytes k 0) ≡ Some why → PlaceIn r room bytes k × WhyIn r room bytes k why × NoneWhole (FieldOf r) (take k bytes)
 count_refused r room bytes digits number k why c lt present byte e =
-    failed r room (digit (digits - k) number) bytes k why (begins r room bytes digits number k c lt) c.alive (count_within r room bytes digits number k c lt) present byte e
+    let failed = failed r room (digit (digits - k) number) bytes k why (begins r room bytes digits number k c lt) c.alive (count_within r room bytes digits number k c lt) present byte e in
+    (failed.0, failed.1, none_before r bytes (suc digits) k (least_counted r room bytes digits number k c lt) (omega arith))
 
 first_passed : (b : Bool) (w v : Why) (c : Bool) → check b w (check c v None) ≡ None → b ≡ true
 first_passed true w v c e = refl

@@ -3,16 +3,17 @@ use Rattle.std.proofs.Common.{◌≡◌, ℕ, ◌+◌, ◌-◌, ◌≤◌, suc, 
 use Rattle.std.proofs.lemmas.List.{length-take-le, take-append-drop, take-append-le}
 use Rattle.std.proofs.Math.Seq.{take-add}
 use Rattle.zvt_grammar.specs.Reading.{Reading}
+use Rattle.zvt_grammar.proofs.CutLemmas.{cuts_are_one}
 use Rattle.zvt_grammar.specs.declared.answer.Scan.TheVariants.{Whole, More, Refused}
 use Rattle.zvt_tlv.proofs.Places.{place_more, byte_more}
 use Rattle.zvt_field.specs.declared.shapes.Shape.{Shape}
 use Rattle.zvt_field.specs.declared.bodies.BadField.TheVariants.{Unknown, Size, NotDigit}
 use Rattle.zvt_field.specs.Shapes.{shape_of}
-use Rattle.zvt_field.specs.Grammar.{Field, FieldList, Filled}
+use Rattle.zvt_field.specs.Grammar.{Field, FieldOf, FieldList, Filled}
 use Rattle.zvt_field.specs.Bodies.{name_of, size_agrees}
 use Rattle.zvt_grammar.specs.declared.why.Why.{Why}
 use Rattle.zvt_field.specs.Judging.{AliveIn, PlaceIn, WhyIn, Position, fault}
-use Rattle.zvt_field.specs.Laws.{EachSizeIsFilled, EachBeginningStands, PositionsAreOne, TestsDecide, RefusalsAreOne, FieldsEndThemselves, ListsAreOne, ListsHaveOne, AnswersAreOne, AnswersStay, FaultsAreOne, SpelledIsFaultless}
+use Rattle.zvt_field.specs.Laws.{EachSizeIsFilled, EachBeginningStands, PositionsAreOne, TestsDecide, RefusalsAreOne, FieldsEndThemselves, ListsAreOne, ListsHaveOne, AnswersAreOne, AnswersStay, BegunAreOne, FaultsAreOne, SpelledIsFaultless}
 use Rattle.zvt_field.proofs.FieldLists.{filler, filling, filling_size, filled, field_prefix, one_list}
 use Rattle.zvt_field.proofs.Counts.{fit, alive_prefix}
 use Rattle.zvt_field.proofs.Exists.{alive_stands}
@@ -41,6 +42,9 @@ fields_end_themselves r f g a b x y p q e = let s = field_prefix r f g a b x y p
 
 pub lists_are_one : ListsAreOne
 lists_are_one r fs gs b p q = one_list r fs gs b b refl p q
+
+pub begun_are_one : BegunAreOne
+begun_are_one r b fs gs p q = (cuts_are_one (FieldOf r) (fields_end_themselves r) b fs gs p.0 q.0 p.1 q.1).0
 
 pub each_beginning_stands : EachBeginningStands
 each_beginning_stands r room b a lt = let s = alive_stands r room b a lt in (s.openers, s.role, s.left, s.position)

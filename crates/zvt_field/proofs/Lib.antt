@@ -1,3 +1,4 @@
+pub mod NoneFound
 pub mod Rows
 pub mod ViewLemmas
 pub mod FieldLists
@@ -7,6 +8,7 @@ pub mod Positions
 pub mod LawProofs
 pub mod ContainerMoves
 pub mod ListMoves
+pub mod BegunMoves
 pub mod Memory
 pub mod HeadMoves
 pub mod CountMoves

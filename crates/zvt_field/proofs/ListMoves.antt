@@ -54,10 +54,10 @@ position_after r room fs a os b (in_container at role) left p h = record {
 later : (k p : ℕ) (bytes : List ℕ) → take (suc (k + p)) bytes ≡ take k bytes ++ take (suc p) (drop k bytes)
 later k p bytes = let e : suc (k + p) ≡ k + suc p = omega arith in ap (λ (m : ℕ). take m bytes) e ∙ take_from k (suc p) bytes
 
-abbrev from : ℕ → List ℕ → List ℕ
+abbrev pub from : ℕ → List ℕ → List ℕ
 from k bytes = take (length bytes - k) (drop k bytes)
 
-one_at : (r : Reading) (n k : ℕ) (bytes : List ℕ) (q q' : Scan (Field × ℕ)) → q ≡ q' → AnswersOne r n (from k bytes) q → AnswersOne r n (drop k bytes) q'
+pub one_at : (r : Reading) (n k : ℕ) (bytes : List ℕ) (q q' : Scan (Field × ℕ)) → q ≡ q' → AnswersOne r n (from k bytes) q → AnswersOne r n (drop k bytes) q'
 one_at r n k bytes q q' e h = subst (λ (s : List ℕ). AnswersOne r n s q') (take_rest bytes k) (subst (AnswersOne r n (from k bytes)) e h)
 
 pub next_field : (r : Reading) (room : ℕ) (bytes : List ℕ) (ts us : List Field) (k n : ℕ) (t : Field) (q : Scan (Field × ℕ)) → ReadTo r room bytes ts k → q ≡ Whole (t, n) → AnswersOne r (room - k) (from k bytes) q → us ≡ ts ++ t ∷ [] →

@@ -2,14 +2,16 @@
 use Rattle.std.proofs.Common.{◌≡◌, ◌≢◌, ℕ, ◌-◌, ◌<◌, ◌≤◌, Bool, Option, Some, None, List, [], ◌∷◌, length, take, get_or, slice_get, refl, sym, ◌∙◌, ap, subst, arith, suc}
 use Rattle.zvt_grammar.specs.declared.why.Why.{Why}
 use Rattle.zvt_grammar.specs.Reading.{Reading}
+use Rattle.zvt_grammar.specs.Beginnings.{NoneWhole}
 use Rattle.zvt_field.specs.declared.shapes.Shape.{Shape}
 use Rattle.zvt_field.specs.declared.shapes.Shape.TheVariants.{Tree}
 use Rattle.zvt_field.specs.Shapes.{shape_of}
-use Rattle.zvt_field.specs.Grammar.{IsHead}
+use Rattle.zvt_field.specs.Grammar.{IsHead, FieldOf}
 use Rattle.zvt_field.specs.Judging.{AliveIn, PlaceIn, WhyIn, name, count_digits, name_fault}
 use Rattle.zvt_field.specs.Answers.{InName, InContainer, HeadFound}
 use Rattle.zvt_field.proofs.Fit.{alive_container}
 use Rattle.zvt_field.proofs.HeadMoves.{failed, passed, nothing_yet}
+use Rattle.zvt_field.proofs.NoneFound.{none_in, none_before, least_two}
 
 -- the first byte
 pub record Starts (bytes : List ℕ) (x : ℕ) : Type 0 where
@@ -21,14 +23,16 @@ pub starts : (bytes : List ℕ) (x : ℕ) → Some x ≡ slice_get bytes 0 → (
 starts [] x e are = absurd (cc (e))
 starts (y ∷ rest) x e are = let same : y ≡ x = cc (e) in record { rest = rest; whole = cc (same); byte = omega (arith, are 0, same) }
 
-pub none_yet : (r : Reading) (room : ℕ) (bytes : List ℕ) → 0 < room → room ≢ 1 → length bytes ≤ 0 → (length bytes < room) × AliveIn r room bytes
-none_yet r room [] some ne e = (some, nothing_yet r room ne)
+pub none_yet : (r : Reading) (room : ℕ) (bytes : List ℕ) → 0 < room → room ≢ 1 → length bytes ≤ 0 → (length bytes < room) × AliveIn r room bytes × NoneWhole (FieldOf r) bytes
+none_yet r room [] some ne e = (some, nothing_yet r room ne, none_in r [] 2 (least_two r []) (omega arith))
 none_yet r room (x ∷ bytes) some ne e = absurd (omega arith)
 
-pub name_refused : (r : Reading) (room : ℕ) (bytes : List ℕ) (x : ℕ) (why : Why) → 0 < room → room ≢ 1 → Starts bytes x → name_fault r (shape_of x) (room - 1) ≡ Some why → PlaceIn r room bytes 0 × WhyIn r room bytes 0 why
+pub name_refused : (r : Reading) (room : ℕ) (bytes : List ℕ) (x : ℕ) (why : Why) → 0 < room → room ≢ 1 → Starts bytes x → name_fault r (shape_of x) (room - 1) ≡ Some why →
+    PlaceIn r room bytes 0 × WhyIn r room bytes 0 why × NoneWhole (FieldOf r) (take 0 bytes)
 name_refused r room bytes x why some ne s e =
-    subst (λ (b : List ℕ). PlaceIn r room b 0 × WhyIn r room b 0 why) (sym s.whole)
-    (failed r room name (x ∷ s.rest) 0 why refl (nothing_yet r room ne) some (omega arith) s.byte (ap (name_fault r (shape_of x)) left ∙ e))
+    let failed = subst (λ (b : List ℕ). PlaceIn r room b 0 × WhyIn r room b 0 why) (sym s.whole)
+    (failed r room name (x ∷ s.rest) 0 why refl (nothing_yet r room ne) some (omega arith) s.byte (ap (name_fault r (shape_of x)) left ∙ e)) in
+    (failed.0, failed.1, none_before r bytes 2 0 (least_two r bytes) (omega arith))
   where
     left : room - 0 - 1 ≡ room - 1
     left = omega arith

@@ -10,6 +10,8 @@ use Rattle.zvt_field.specs.Grammar.{Field, plain, tree, Filled}
 use Rattle.zvt_field.specs.Spelling.{spelling_of}
 use Rattle.zvt_field.specs.Bodies.{size_agrees}
 use Rattle.zvt_field.specs.Named.{count_of, trace_of, amount_of, receipt_of}
+use Rattle.zvt_field.specs.Answers.{Begun}
+use Rattle.zvt_field.proofs.NoneFound.{none_in, least_two}
 use Rattle.zvt_field.specs.Judging.{name, digit, in_content, in_container, fault, WhyIn}
 
 -- 22 F0 F1 55: a pan of one byte
@@ -95,3 +97,18 @@ pan_of_99 = refl
 
 pub no_pan_of_100 : size_agrees Ll (plain 0x22 (replicate 100 0)) ≡ false
 no_pan_of_100 = refl
+
+-- 27 00 FF: the result code is whole, and no field begins with FF
+pub begun_before_unknown : Begun shortest (0x27 ∷ 0x00 ∷ 0xFF ∷ []) (plain 0x27 (0x00 ∷ []) ∷ [])
+unfolding shape_of
+begun_before_unknown = (
+  0xFF ∷ [],
+  record {
+    spelled = (0x27 ∷ 0x00 ∷ [], 0xFF ∷ [], refl, record { digits = false; size = []; whole = refl; is_head = (refl, refl, refl); is_content = (omega arith, tt) }, refl);
+    none_whole = none_in shortest (0xFF ∷ []) 2 (least_two shortest (0xFF ∷ [])) (omega arith);
+  },
+)
+
+-- 27: the result code is not whole yet
+pub begun_nothing : Begun shortest (0x27 ∷ []) []
+begun_nothing = (0x27 ∷ [], record { spelled = refl; none_whole = none_in shortest (0x27 ∷ []) 2 (least_two shortest (0x27 ∷ [])) (omega arith) })

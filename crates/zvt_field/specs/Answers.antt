@@ -4,7 +4,8 @@ use Rattle.zvt_grammar.specs.declared.why.Why.{Why}
 use Rattle.zvt_grammar.specs.declared.answer.Scan.{Scan}
 use Rattle.zvt_grammar.specs.declared.answer.Scan.TheVariants.{Whole, More, Refused}
 use Rattle.zvt_grammar.specs.Reading.{Reading, shortest}
-use Rattle.zvt_grammar.specs.Beginnings.{Alive}
+use Rattle.zvt_grammar.specs.Beginnings.{Alive, NoneWhole}
+use Rattle.zvt_grammar.specs.Cuts.{Cut}
 use Rattle.zvt_tlv.specs.Sized.{SizedIn, SizedTakesMemory}
 use Rattle.zvt_field.specs.Grammar.{Field, FieldOf, FieldList, IsHead}
 use Rattle.zvt_field.specs.declared.shapes.Shape.{Shape}
@@ -30,10 +31,12 @@ pub record FieldFound (r : Reading) (room : ℕ) (bytes : List ℕ) (field : Fie
   pub filled : size + left ≡ room
   pub apart : left ≢ 1
 
+-- The first field is found; else none is whole in the bytes, or before the place.
 abbrev pub AnswersOne : Reading → (room : ℕ) → (bytes : List ℕ) → Scan (Field × ℕ) → Type 0
 AnswersOne r room bytes (Whole found) = FieldFound r room bytes found.0 found.1
-AnswersOne r room bytes More = (length bytes < room) × AliveIn r room bytes
-AnswersOne r room bytes (Refused place why) = PlaceIn r room bytes place × WhyIn r room bytes place why
+AnswersOne r room bytes More = (length bytes < room) × AliveIn r room bytes × NoneWhole (FieldOf r) bytes
+AnswersOne r room bytes (Refused place why) =
+    PlaceIn r room bytes place × WhyIn r room bytes place why × NoneWhole (FieldOf r) (take place bytes)
 
 -- What comes before a content comes first, and the bytes are alive after it.
 pub record HeadFound (r : Reading) (room : ℕ) (bytes : List ℕ) (head : Head) : Type 0 where
@@ -46,8 +49,9 @@ pub record HeadFound (r : Reading) (room : ℕ) (bytes : List ℕ) (head : Head)
 
 abbrev pub AnswersHead : Reading → (room : ℕ) → (bytes : List ℕ) → Scan Head → Type 0
 AnswersHead r room bytes (Whole head) = HeadFound r room bytes head
-AnswersHead r room bytes More = (length bytes < room) × AliveIn r room bytes
-AnswersHead r room bytes (Refused place why) = PlaceIn r room bytes place × WhyIn r room bytes place why
+AnswersHead r room bytes More = (length bytes < room) × AliveIn r room bytes × NoneWhole (FieldOf r) bytes
+AnswersHead r room bytes (Refused place why) =
+    PlaceIn r room bytes place × WhyIn r room bytes place why × NoneWhole (FieldOf r) (take place bytes)
 
 -- A name whose length has that many digits comes first, and is alive.
 pub record InName (r : Reading) (room : ℕ) (bytes : List ℕ) (digits : ℕ) : Type 0 where
@@ -110,3 +114,7 @@ HoldsSome r bytes = HoldsField r bytes ⊎ HoldsObjects r bytes
 -- To keep what was read of a room takes memory.
 abbrev pub TakesMemory : Reading → (room : ℕ) → List ℕ → Type 0
 TakesMemory r room bytes = (0 < room) × HoldsSome r bytes
+
+-- The whole fields at the start of the bytes: after them no field is whole.
+abbrev pub Begun : Reading → List ℕ → List Field → Type 0
+Begun r bytes fields = (rest : List ℕ) × Cut (FieldOf r) bytes fields rest

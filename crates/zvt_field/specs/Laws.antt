@@ -11,7 +11,7 @@ use Rattle.zvt_grammar.specs.declared.answer.Scan.{Scan}
 use Rattle.zvt_grammar.specs.declared.answer.Scan.TheVariants.{More}
 use Rattle.zvt_field.specs.declared.bodies.BadField.{BadField}
 use Rattle.zvt_field.specs.Bodies.{name_of, HasSpelling, HasFault}
-use Rattle.zvt_field.specs.Answers.{Answers}
+use Rattle.zvt_field.specs.Answers.{Answers, Begun}
 use Rattle.zvt_field.specs.Judging.{AliveIn, PlaceIn, WhyIn, Role, Position, fault}
 
 -- Some fields have exactly that size, for each size but one byte.
@@ -50,6 +50,10 @@ ListsHaveOne = SpellingsAreOne (FieldList shortest)
 -- A room of bytes has one answer.
 abbrev pub AnswersAreOne : Type 0
 AnswersAreOne = (r : Reading) (room : ℕ) (b : List ℕ) (p q : Scan (List Field)) → Answers r room b p → Answers r room b q → p ≡ q
+
+-- Bytes begin with one list of whole fields.
+abbrev pub BegunAreOne : Type 0
+BegunAreOne = (r : Reading) (b : List ℕ) (fs gs : List Field) → Begun r b fs → Begun r b gs → fs ≡ gs
 
 -- More bytes leave each answer but More as it is: nothing after a whole, or after the place of a refusal, counts.
 abbrev pub AnswersStay : Type 0

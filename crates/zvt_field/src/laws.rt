@@ -2,7 +2,7 @@
 
 ghost use Rattle.zvt_field.specs.Laws.{EachSizeIsFilled, EachBeginningStands, PositionsAreOne, TestsDecide};
 ghost use Rattle.zvt_field.specs.Laws.{RefusalsAreOne, FieldsEndThemselves, ListsAreOne, ListsHaveOne, AnswersAreOne};
-ghost use Rattle.zvt_field.specs.Laws.{AnswersStay, FaultsAreOne, SecretsAreHidden, SpelledIsFaultless};
+ghost use Rattle.zvt_field.specs.Laws.{AnswersStay, BegunAreOne, FaultsAreOne, SecretsAreHidden, SpelledIsFaultless};
 
 /// For every size except one byte there are fields of exactly that size.
 pub fn each_size_is_filled()
@@ -32,6 +32,11 @@ pub fn spellings_are_one()
 /// The reader's results exclude each other, and each is the only one that its definition allows.
 pub fn answers_are_one()
     ensures { AnswersAreOne }
+{}
+
+/// Bytes begin with one list of whole fields.
+pub fn begun_are_one()
+    ensures { BegunAreOne }
 {}
 
 /// Further bytes change no result except `More`.

@@ -22,7 +22,7 @@ pub use judge::{LlAt, LlNext, judge_bmp, judge_content, judge_ll};
 pub use lists::{Fields, PushRefusal};
 pub use named::{amount, count, currency, only, original, receipt, result, trace};
 pub use owned_fields::{owned, owned_field};
-pub use reader::{scan, scan_fields, scan_loose};
+pub use reader::{scan, scan_begun, scan_fields, scan_loose};
 pub use shapes::{Format, Shape};
 pub use single::{Single, read_single};
 pub use sizes::size;

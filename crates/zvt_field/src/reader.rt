@@ -1,11 +1,13 @@
 //! Reads the fields in a room.
 
-ghost use Rattle.std.specs.Prelude.{◌≡◌, ◌≢◌, ◌≤◌, ◌<◌, ◌^◌, not, if◌then◌else◌, MatchResult, position};
+ghost use Rattle.std.specs.Prelude.{◌≡◌, ◌≢◌, ◌≤◌, ◌<◌, ◌+◌, ◌^◌, not, if◌then◌else◌, MatchResult, position};
+ghost use Rattle.std.specs.Prelude.{length};
 ghost use Rattle.zvt_grammar.specs.Reading.{shortest, padded};
 ghost use Rattle.zvt_bcd.specs.Digits.{is_digit_pair};
 ghost use Rattle.zvt_grammar.specs.Lengths.{reading_of};
 ghost use Rattle.zvt_field.specs.Answers.{Answers, AnswersOne, AnswersHead, InName, InContainer, HeadFound, HoldsSome};
-ghost use Rattle.zvt_field.specs.Answers.{TakesMemory};
+ghost use Rattle.zvt_field.specs.Answers.{TakesMemory, Begun};
+ghost use Rattle.zvt_field.specs.Bodies.{HaveSpelling};
 
 use crate::judge::{judge_bmp, judge_digit};
 use crate::sizes::list_size;
@@ -243,4 +245,35 @@ pub fn scan_fields(
             Fields::of(list, size)
         }
     }))
+}
+
+/// The fields of a list that has an encoding.
+fn gathered(list: Vec<Field>) -> Fields
+    requires { HaveSpelling list.items }
+    ensures { result ≡ list.items }
+{
+    let size = list_size(&list);
+    Fields::of(list, size)
+}
+
+/// Reads the complete fields at the start of the bytes, and stops before the first field that is refused or not
+/// complete. The bytes are data of a message whose end is missing, so there are at most 65,533. The only error is that
+/// an allocation fails. It comes only if the first field is complete, or is a container some of whose objects are
+/// stored (`HoldsSome`).
+pub fn scan_begun(alloc: Global, bytes: &[u8], lengths: Lengths) -> Result<Fields, AllocError>
+    requires small { length bytes.now + 2 < 2 ^ 16 }
+    ensures { MatchResult result (Begun (reading_of lengths) bytes.now) (λ _. HoldsSome (reading_of lengths) bytes.now) }
+{
+    let room = bytes.len() + 2;
+    let mut list = Vec::new(alloc);
+    let mut taken = 0;
+    'fields: loop {
+        match scan_field(alloc, &bytes[taken..], room - taken, lengths)? {
+            Scan::Whole((field, size)) => {
+                list.push(field)?;
+                taken += size;
+            }
+            Scan::More | Scan::Refused { .. } => return Ok(gathered(list)),
+        }
+    }
 }
