@@ -11,8 +11,8 @@ one_more n = min (n + 1) 18446744073709551615
 abbrev pub counted : Counts → TraceEvent → Counts
 counted c (message FromTill m) = record c { till = one_more c.till }
 counted c (message FromTerminal m) = record c { terminal = one_more c.terminal }
-counted c (refused from head byte place why) = c
+counted c (refused from before byte why) = c
 counted c (unread from) = c
 counted c (resumed from size) = c
-counted c (cut_off from head have) = c
+counted c (cut_off from bytes) = c
 counted c lost = c

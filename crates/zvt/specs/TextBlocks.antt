@@ -12,8 +12,8 @@ noted_message blocks _ = blocks
 abbrev pub noted : Blocks → TraceEvent → Blocks
 noted blocks (message FromTill m) = blocks
 noted blocks (message FromTerminal m) = noted_message blocks m
-noted blocks (refused from head byte place why) = blocks
+noted blocks (refused from before byte why) = blocks
 noted blocks (unread from) = blocks
 noted blocks (resumed from size) = blocks
-noted blocks (cut_off from head have) = blocks
+noted blocks (cut_off from bytes) = blocks
 noted blocks lost = blocks

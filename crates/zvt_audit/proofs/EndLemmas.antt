@@ -201,10 +201,10 @@ lost_happened count counts log judged =
 
 event_happened : (count : List Happening → ℕ) → Counts count → (log : List Happening) → Judged log → (event : TraceEvent) → OneMore count log (happenings_of event)
 event_happened count counts log judged (trace_event.message from m) = option_happened count counts log judged (happened from m)
-event_happened count counts log judged (trace_event.refused from head byte place why) = one_happened count counts log judged Malformed
+event_happened count counts log judged (trace_event.refused from before byte why) = one_happened count counts log judged Malformed
 event_happened count counts log judged (trace_event.unread from) = none_happened count log
 event_happened count counts log judged (trace_event.resumed from size) = none_happened count log
-event_happened count counts log judged (trace_event.cut_off from head have) = none_happened count log
+event_happened count counts log judged (trace_event.cut_off from bytes) = none_happened count log
 event_happened count counts log judged trace_event.lost = lost_happened count counts log judged
 
 -- ---- a count never shrinks

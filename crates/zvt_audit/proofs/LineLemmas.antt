@@ -8,9 +8,10 @@ use Rattle.zvt_till.specs.declared.happenings.Happening.{Happening}
 use Rattle.zvt_trace.specs.Apart.{HearsIf, HearsUntil, is_told, refused_after}
 use Rattle.zvt_trace.specs.Emitting.{WholeTrace}
 use Rattle.zvt_trace.specs.Listening.{HearsAll}
-use Rattle.zvt_trace.specs.TraceEvent.{At, TraceEvent, bad_in, messages_in, on}
+use Rattle.zvt_trace.specs.TraceEvent.{At, TraceEvent, bad_in, messages_in, on, refused_head}
 use Rattle.zvt_trace.specs.TraceEvent as trace_event
 use Rattle.zvt_trace.specs.declared.direction.Direction.{Direction}
+use Rattle.zvt_stream.specs.declared.head.Head.{Head}
 use Rattle.zvt_stream.specs.declared.head.Head.TheVariants.{Empty, One, Two}
 use Rattle.zvt_apdu.specs.Kinds.{kind_at}
 use Rattle.zvt_apdu.specs.Message.{Message}
@@ -22,7 +23,7 @@ use Rattle.zvt_trace.specs.declared.listener.Scope.{Scope}
 use Rattle.zvt_trace.specs.declared.listener.Scope.TheVariants.{OneMessage, OneSide, WholeLine}
 use Rattle.zvt_trace.proofs.OneScopeLemmas.{IsCut, one_scope}
 use Rattle.zvt_audit.specs.Audited.{AnswersBooks, AnswersReadBy, IsConnected, hears}
-use Rattle.zvt_audit.specs.ByControl.{HearsBy, at_by, event_for, passed_after, seen, shortest_of, taken_as}
+use Rattle.zvt_audit.specs.ByControl.{HearsBy, at_by, event_for, known_by, passed_after, seen, shortest_of, taken_as}
 use Rattle.zvt_audit.specs.Currencies.{agreed}
 use Rattle.zvt_audit.specs.Ends.{Lines, lines_of}
 use Rattle.zvt_audit.specs.Unfollowed.{found_then}
@@ -50,10 +51,10 @@ unread_same s line from = becomes_same s line (trace_event.unread from) refl ref
 
 cut_same : (s : Auditor) (event : TraceEvent) (line : ℕ) → IsCut event → hears s (on line event) s
 cut_same s (trace_event.message from m) line never = absurd never
-cut_same s (trace_event.refused from head byte place why) line never = absurd never
+cut_same s (trace_event.refused from before byte why) line never = absurd never
 cut_same s (trace_event.unread from) line never = absurd never
 cut_same s (trace_event.resumed from size) line never = absurd never
-cut_same s (trace_event.cut_off from head have) line is = becomes_same s line (trace_event.cut_off from head have) refl refl refl (λ later. refl) refl
+cut_same s (trace_event.cut_off from bytes) line is = becomes_same s line (trace_event.cut_off from bytes) refl refl refl (λ later. refl) refl
 cut_same s trace_event.lost line never = absurd never
 
 -- a line that is read on is never refused
@@ -61,14 +62,17 @@ known_reads : (from : Direction) (o : Option Message) → refused_after false (e
 known_reads from None = refl
 known_reads from (Some m) = refl
 
+head_reads : (from : Direction) (head : Head) → refused_after false (known_by from head) ≡ false
+head_reads from Empty = refl
+head_reads from (One high) = refl
+head_reads from (Two high low) = known_reads from (shortest_of (kind_at high low) high low)
+
 read_on : (event : TraceEvent) → refused_after false (taken_as OneMessage event) ≡ false
 read_on (trace_event.message from m) = refl
-read_on (trace_event.refused from Empty byte place why) = refl
-read_on (trace_event.refused from (One high) byte place why) = refl
-read_on (trace_event.refused from (Two high low) byte place why) = known_reads from (shortest_of (kind_at high low) high low)
+read_on (trace_event.refused from before byte why) = head_reads from (refused_head before byte)
 read_on (trace_event.unread from) = refl
 read_on (trace_event.resumed from size) = refl
-read_on (trace_event.cut_off from head have) = refl
+read_on (trace_event.cut_off from bytes) = refl
 read_on trace_event.lost = refl
 
 -- so all of it is heard

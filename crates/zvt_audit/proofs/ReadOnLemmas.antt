@@ -3,17 +3,18 @@ use Rattle.std.proofs.Common.{◌≡◌, ◌∙◌, Bool, false, ◌||◌, List,
 use Rattle.std.proofs.lemmas.List.Folds.{list_any-append}
 use Rattle.std.specs.List.{cons_option, flat_map, list_any}
 use Rattle.std.specs.Option.{option_map}
+use Rattle.zvt_stream.specs.declared.head.Head.{Head}
 use Rattle.zvt_stream.specs.declared.head.Head.TheVariants.{Empty, One, Two}
 use Rattle.zvt_apdu.specs.Kinds.{kind_at}
 use Rattle.zvt_apdu.specs.Message.{Message}
 use Rattle.zvt_till.specs.declared.happenings.Happening.{Happening}
 use Rattle.zvt_till.specs.declared.happenings.Happening.TheVariants.{Sent as SentOut}
 use Rattle.zvt_till.specs.declared.happenings.Sent.{Sent}
-use Rattle.zvt_trace.specs.TraceEvent.{At, TraceEvent, message, refused, unread, resumed, cut_off, lost}
+use Rattle.zvt_trace.specs.TraceEvent.{At, TraceEvent, message, refused, unread, resumed, cut_off, lost, refused_head}
 use Rattle.zvt_trace.specs.declared.direction.Direction.{Direction}
 use Rattle.zvt_trace.specs.declared.direction.Direction.TheVariants.{FromTill, FromTerminal}
 use Rattle.zvt_trace.specs.declared.listener.Scope.TheVariants.{OneMessage}
-use Rattle.zvt_audit.specs.ByControl.{event_for, seen, shortest_of, taken_as}
+use Rattle.zvt_audit.specs.ByControl.{event_for, known_by, seen, shortest_of, taken_as}
 use Rattle.zvt_audit.specs.Happened.{happenings_of, ordered}
 use Rattle.zvt_audit.specs.Laws.{ReadOnIsWellFormed, is_malformed}
 
@@ -32,14 +33,17 @@ any_known : (from : Direction) (o : Option Message) → list_any is_malformed (h
 any_known from None = refl
 any_known from (Some m) = any_message from m
 
+any_head : (from : Direction) (head : Head) → list_any is_malformed (happenings_of (known_by from head)) ≡ false
+any_head from Empty = refl
+any_head from (One high) = refl
+any_head from (Two high low) = any_known from (shortest_of (kind_at high low) high low)
+
 any_event : (event : TraceEvent) → list_any is_malformed (happenings_of (taken_as OneMessage event)) ≡ false
 any_event (message from m) = any_message from m
-any_event (refused from Empty byte place why) = refl
-any_event (refused from (One high) byte place why) = refl
-any_event (refused from (Two high low) byte place why) = any_known from (shortest_of (kind_at high low) high low)
+any_event (refused from before byte why) = any_head from (refused_head before byte)
 any_event (unread from) = refl
 any_event (resumed from size) = refl
-any_event (cut_off from head have) = refl
+any_event (cut_off from bytes) = refl
 any_event lost = refl
 
 any_events : (events : List At) → list_any is_malformed (flat_map (λ (event : At). happenings_of event.trace_event) (seen OneMessage events)) ≡ false

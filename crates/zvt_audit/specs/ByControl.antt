@@ -9,7 +9,7 @@ use Rattle.zvt_apdu.specs.declared.kinds.Kind.TheVariants as kind
 use Rattle.zvt_apdu.specs.Message.{Message, registration, authorisation, reversal, end_of_day, abort_order, status, completion, abort, other}
 use Rattle.zvt_trace.specs.Listening.{Fails, Hears}
 use Rattle.zvt_trace.specs.Pairs.{one_more}
-use Rattle.zvt_trace.specs.TraceEvent.{At, TraceEvent, message, refused, unread, resumed, cut_off, lost, on}
+use Rattle.zvt_trace.specs.TraceEvent.{At, TraceEvent, message, refused, unread, resumed, cut_off, lost, on, refused_head}
 use Rattle.zvt_trace.specs.declared.direction.Direction.{Direction}
 use Rattle.zvt_trace.specs.declared.direction.Direction.TheVariants.{FromTill, FromTerminal}
 use Rattle.zvt_trace.specs.declared.listener.ListenerError.{ListenerError}
@@ -56,10 +56,10 @@ known_by from (Two high low) = event_for from (shortest_of (kind_at high low) hi
 -- Where one refused message is passed over at a time, its control bytes stand for it. Else it stays refused.
 abbrev pub taken_as : Scope → TraceEvent → TraceEvent
 taken_as OneMessage (message from m) = message from m
-taken_as OneMessage (refused from head byte place why) = known_by from head
+taken_as OneMessage (refused from before byte why) = known_by from (refused_head before byte)
 taken_as OneMessage (unread from) = unread from
 taken_as OneMessage (resumed from size) = resumed from size
-taken_as OneMessage (cut_off from head have) = cut_off from head have
+taken_as OneMessage (cut_off from bytes) = cut_off from bytes
 taken_as OneMessage lost = lost
 taken_as OneSide event = event
 taken_as WholeLine event = event
@@ -75,10 +75,10 @@ seen scope events = map (at_by scope) events
 
 abbrev pub passed_with : Scope → (passed : ℕ) → TraceEvent → ℕ
 passed_with OneMessage passed (message from m) = passed
-passed_with OneMessage passed (refused from head byte place why) = one_more passed
+passed_with OneMessage passed (refused from before byte why) = one_more passed
 passed_with OneMessage passed (unread from) = passed
 passed_with OneMessage passed (resumed from size) = passed
-passed_with OneMessage passed (cut_off from head have) = passed
+passed_with OneMessage passed (cut_off from bytes) = passed
 passed_with OneMessage passed lost = passed
 passed_with OneSide passed event = passed
 passed_with WholeLine passed event = passed
@@ -100,7 +100,7 @@ FailsBy fails old event why new = fails old.listener (at_by old.scope event) why
 -- ---- rows worked by hand
 
 abbrev refused_at : Direction → (high low : ℕ) → TraceEvent
-refused_at from high low = refused from (Two high low) 0xF0 3 UnknownField
+refused_at from high low = refused from (high ∷ low ∷ 4 ∷ []) 0xF0 UnknownField
 
 -- the completion of a status enquiry (06 0F 04 F0 F0 F0 00) is a completion
 an_enquiry : seen OneMessage (on 6 (refused_at FromTerminal 0x06 0x0F) ∷ on 6 (resumed FromTerminal 7) ∷ []) ≡ on 6 (message FromTerminal (completion [])) ∷ on 6 (resumed FromTerminal 7) ∷ []

@@ -18,10 +18,10 @@ named_from FromTerminal message = None
 -- the currency that a registration of the till names
 abbrev pub named_by : TraceEvent → Option ℕ
 named_by (trace_event.message from m) = named_from from m
-named_by (trace_event.refused from head byte place why) = None
+named_by (trace_event.refused from before byte why) = None
 named_by (trace_event.unread from) = None
 named_by (trace_event.resumed from size) = None
-named_by (trace_event.cut_off from head have) = None
+named_by (trace_event.cut_off from bytes) = None
 named_by trace_event.lost = None
 
 -- the currencies that the till's registrations name, in order

@@ -49,10 +49,10 @@ happened FromTerminal message = Some (HeardIn (heard_as message))
 -- and no more what is not read.
 abbrev pub happenings_of : TraceEvent → List Happening
 happenings_of (trace_event.message from m) = cons_option (happened from m) []
-happenings_of (trace_event.refused from head byte place why) = Malformed ∷ []
+happenings_of (trace_event.refused from before byte why) = Malformed ∷ []
 happenings_of (trace_event.unread from) = []
 happenings_of (trace_event.resumed from size) = []
-happenings_of (trace_event.cut_off from head have) = []
+happenings_of (trace_event.cut_off from bytes) = []
 happenings_of trace_event.lost = Lost ∷ Connected ∷ []
 
 abbrev pub happened_by : List At → List Happening

@@ -36,10 +36,10 @@ ordered_from FromTerminal FromTerminal kind = is_order kind
 -- the event is an order from that side
 abbrev pub is_order_from : Direction → TraceEvent → Bool
 is_order_from side (trace_event.message from m) = ordered_from side from (kind_of m)
-is_order_from side (trace_event.refused from head byte place why) = false
+is_order_from side (trace_event.refused from before byte why) = false
 is_order_from side (trace_event.unread from) = false
 is_order_from side (trace_event.resumed from size) = false
-is_order_from side (trace_event.cut_off from head have) = false
+is_order_from side (trace_event.cut_off from bytes) = false
 is_order_from side trace_event.lost = false
 
 abbrev pub orders_from : Direction → List At → Bool

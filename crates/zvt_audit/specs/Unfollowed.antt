@@ -79,10 +79,10 @@ unfollowed_message line from m later = if is_unfollowed_from from m then Some (u
 
 abbrev pub unfollowed_at : ℕ → TraceEvent → (later : List At) → Option UnfollowedOrder
 unfollowed_at line (trace_event.message from m) later = unfollowed_message line from m (happened_by later)
-unfollowed_at line (trace_event.refused from head byte place why) later = None
+unfollowed_at line (trace_event.refused from before byte why) later = None
 unfollowed_at line (trace_event.unread from) later = None
 unfollowed_at line (trace_event.resumed from size) later = None
-unfollowed_at line (trace_event.cut_off from head have) later = None
+unfollowed_at line (trace_event.cut_off from bytes) later = None
 unfollowed_at line trace_event.lost later = None
 
 -- one more order, if there is one

@@ -35,7 +35,7 @@ impl<L: Listener> Listener for ByControl<L> {
         match (trace_event, self.scope) {
             (TraceEvent::Refused { from, refusal }, Scope::OneMessage) => {
                 self.passed = self.passed.saturating_add(1);
-                hear_control(&mut self.listener, line, *from, refusal.head)
+                hear_control(&mut self.listener, line, *from, refusal.head())
             }
             _ => self.listener.hear(line, trace_event),
         }

@@ -258,13 +258,13 @@ number n small = ap (λ (b : Bool). b && true) (lt-ltb n (2 ^ 64) small)
 
 pub event_fits : (line : ℕ) (event : TraceEvent) (value : Data) → EventValue line event value → line < 2 ^ 64 → NumbersFit event → (fits value ≡ true) × (depth value ≤ 127)
 event_fits line (trace_event.message from m) value (bytes, spelled, is) small numbers = along value _ is (message_fits from line m bytes spelled small)
-event_fits line (trace_event.refused from head byte place why) value is small numbers =
-    let inside : (nat_lt place (2 ^ 64) && true) && true ≡ true = ap (λ (b : Bool). b && true) (number place numbers) in
-    along value _ is (and_from (nat_lt line (2 ^ 64)) ((nat_lt place (2 ^ 64) && true) && true) (lt-ltb line (2 ^ 64) small) inside, omega arith)
+event_fits line (trace_event.refused from before byte why) value is small numbers =
+    let inside : (nat_lt (length before) (2 ^ 64) && true) && true ≡ true = ap (λ (b : Bool). b && true) (number (length before) numbers) in
+    along value _ is (and_from (nat_lt line (2 ^ 64)) ((nat_lt (length before) (2 ^ 64) && true) && true) (lt-ltb line (2 ^ 64) small) inside, omega arith)
 event_fits line (trace_event.unread from) value is small numbers = along value _ is (number line small, omega arith)
 event_fits line (trace_event.resumed from size) value is small numbers =
     along value _ is (and_from (nat_lt line (2 ^ 64)) (nat_lt size (2 ^ 64) && true) (lt-ltb line (2 ^ 64) small) (number size numbers), omega arith)
-event_fits line (trace_event.cut_off from head have) value is small numbers =
-    let inside : (nat_lt have (2 ^ 64) && true) && true ≡ true = ap (λ (b : Bool). b && true) (number have numbers) in
-    along value _ is (and_from (nat_lt line (2 ^ 64)) ((nat_lt have (2 ^ 64) && true) && true) (lt-ltb line (2 ^ 64) small) inside, omega arith)
+event_fits line (trace_event.cut_off from bytes) value is small numbers =
+    let inside : (nat_lt (length bytes) (2 ^ 64) && true) && true ≡ true = ap (λ (b : Bool). b && true) (number (length bytes) numbers) in
+    along value _ is (and_from (nat_lt line (2 ^ 64)) ((nat_lt (length bytes) (2 ^ 64) && true) && true) (lt-ltb line (2 ^ 64) small) inside, omega arith)
 event_fits line trace_event.lost value is small numbers = along value _ is (number line small, omega arith)

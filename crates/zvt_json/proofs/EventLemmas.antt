@@ -53,10 +53,10 @@ refused_said FromTerminal line byte place why = ap (λ (l : List ℕ). side_text
 pub line_said : (line size : ℕ) (event : TraceEvent) → HasSize size event → EventLine (on line event) (event_text line size event ++ 10 ∷ [])
 line_said line size (trace_event.message from m) (bytes, spelled, same) =
     (message_value from line (length bytes) m, (bytes, spelled, refl), ap (λ (l : List ℕ). l ++ 10 ∷ []) (message_said from line size m ∙ ap (λ (n : ℕ). compact_text (message_value from line n m)) same))
-line_said line size (trace_event.refused from head byte place why) none = (refused_value from line byte place why, refl, ap (λ (l : List ℕ). l ++ 10 ∷ []) (refused_said from line byte place why))
+line_said line size (trace_event.refused from before byte why) none = (refused_value from line byte (length before) why, refl, ap (λ (l : List ℕ). l ++ 10 ∷ []) (refused_said from line byte (length before) why))
 line_said line size (trace_event.unread from) none = (stopped_value from line, refl, ap (λ (l : List ℕ). l ++ 10 ∷ []) (stopped_said from line))
 line_said line size (trace_event.resumed from skipped) none = (resumed_value from line skipped, refl, ap (λ (l : List ℕ). l ++ 10 ∷ []) (resumed_said from line skipped))
-line_said line size (trace_event.cut_off from head have) none = (truncated_value from line have, refl, ap (λ (l : List ℕ). l ++ 10 ∷ []) (truncated_said from line have))
+line_said line size (trace_event.cut_off from bytes) none = (truncated_value from line (length bytes), refl, ap (λ (l : List ℕ). l ++ 10 ∷ []) (truncated_said from line (length bytes)))
 line_said line size trace_event.lost none = (lost_value line, refl, ap (λ (l : List ℕ). l ++ 10 ∷ []) (lost_said line))
 
 -- ---- what was added to a text

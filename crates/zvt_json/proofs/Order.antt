@@ -96,8 +96,8 @@ along a b same h = ap ordered same ∙ h
 
 pub event_ordered : (line : ℕ) (event : TraceEvent) (value : Data) → EventValue line event value → ordered value ≡ true
 event_ordered line (trace_event.message from m) value is = along value _ is.2 (message_ordered from line (length is.0) m)
-event_ordered line (trace_event.refused from head byte place why) value is = along value _ is refl
+event_ordered line (trace_event.refused from before byte why) value is = along value _ is refl
 event_ordered line (trace_event.unread from) value is = along value _ is refl
 event_ordered line (trace_event.resumed from size) value is = along value _ is refl
-event_ordered line (trace_event.cut_off from head have) value is = along value _ is refl
+event_ordered line (trace_event.cut_off from bytes) value is = along value _ is refl
 event_ordered line trace_event.lost value is = along value _ is refl

@@ -37,19 +37,19 @@ lost_value line = object (member (codes "line") (count_value line) (member (code
 -- the size of a message with the shortest lengths, and 0 for another event
 abbrev pub HasSize : (size : ℕ) → TraceEvent → Type 0
 HasSize size (message from m) = (bytes : List ℕ) × Spells shortest m bytes × (size ≡ length bytes)
-HasSize size (refused from head byte place why) = size ≡ 0
+HasSize size (refused from before byte why) = size ≡ 0
 HasSize size (unread from) = size ≡ 0
 HasSize size (resumed from skipped) = size ≡ 0
-HasSize size (cut_off from head have) = size ≡ 0
+HasSize size (cut_off from bytes) = size ≡ 0
 HasSize size lost = size ≡ 0
 
 -- the value of an event in a line; the size of a message is the size of its encoding with the shortest lengths
 abbrev pub EventValue : (line : ℕ) → TraceEvent → Data → Type 0
 EventValue line (message from m) value = (bytes : List ℕ) × Spells shortest m bytes × (value ≡ message_value from line (length bytes) m)
-EventValue line (refused from head byte place why) value = value ≡ refused_value from line byte place why
+EventValue line (refused from before byte why) value = value ≡ refused_value from line byte (length before) why
 EventValue line (unread from) value = value ≡ stopped_value from line
 EventValue line (resumed from size) value = value ≡ resumed_value from line size
-EventValue line (cut_off from head have) value = value ≡ truncated_value from line have
+EventValue line (cut_off from bytes) value = value ≡ truncated_value from line (length bytes)
 EventValue line lost value = value ≡ lost_value line
 
 -- the text is the value's, in one line

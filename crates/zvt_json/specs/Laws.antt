@@ -38,10 +38,10 @@ SafeValuesAgree = (from : Direction) (line size : ℕ) (one other : Message) →
 -- A place, a size and a count fit into 64 bits, as they do in the program.
 abbrev pub NumbersFit : TraceEvent → Type 0
 NumbersFit (message from m) = Unit {0}
-NumbersFit (refused from head byte place why) = place < 2 ^ 64
+NumbersFit (refused from before byte why) = length before < 2 ^ 64
 NumbersFit (unread from) = Unit {0}
 NumbersFit (resumed from size) = size < 2 ^ 64
-NumbersFit (cut_off from head have) = have < 2 ^ 64
+NumbersFit (cut_off from bytes) = length bytes < 2 ^ 64
 NumbersFit lost = Unit {0}
 
 -- The reader of the kit's crate `serde_json` gives the value of each event back from its text.

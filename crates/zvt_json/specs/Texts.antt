@@ -159,10 +159,10 @@ lost_text line = codes "{\"line\":" ++ (decimal line ++ codes ",\"lost\":true}")
 -- an event in a line; a message has this size with the shortest lengths
 abbrev pub event_text : (line size : ℕ) → TraceEvent → List ℕ
 event_text line size (trace_event.message from m) = message_text from line size m
-event_text line size (trace_event.refused from head byte place why) = refused_text from line byte place why
+event_text line size (trace_event.refused from before byte why) = refused_text from line byte (length before) why
 event_text line size (trace_event.unread from) = stopped_text from line
 event_text line size (trace_event.resumed from skipped) = resumed_text from line skipped
-event_text line size (trace_event.cut_off from head have) = truncated_text from line have
+event_text line size (trace_event.cut_off from bytes) = truncated_text from line (length bytes)
 event_text line size trace_event.lost = lost_text line
 
 -- ---- fields

@@ -16,17 +16,14 @@ pub(crate) fn refused(
     at: usize,
     from: Direction,
     line: u64,
-    refusal: Refusal,
+    refusal: Refusal<'_>,
 ) -> Result<usize, Full>
     requires { at ≤ length buffer.old }
-    ensures { Puts result at buffer.old buffer.new (refused_text from line refusal.byte refusal.place refusal.why) }
+    ensures { Puts result at buffer.old buffer.new (refused_text from line refusal.entry.byte
+        (length refusal.entry.before.now) refusal.entry.why) }
 {
-    let Refusal {
-        byte,
-        place,
-        why,
-        ..
-    } = refusal;
+    let Refusal { byte, why, .. } = refusal;
+    let place = refusal.place();
     let at = side(buffer, at, from, line)?;
     let at = fixed(buffer, at, *b",\"refused\":")?;
     let at = reason(buffer, at, byte, place, why)?;

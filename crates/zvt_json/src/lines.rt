@@ -108,7 +108,13 @@ fn object(
         TraceEvent::Refused { from, refusal } => events::refused(buffer, 0, *from, line, *refusal),
         TraceEvent::Unread { from } => events::stopped(buffer, 0, *from, line),
         TraceEvent::Resumed { from, size } => events::resumed(buffer, 0, *from, line, *size),
-        TraceEvent::CutOff { from, have, .. } => events::truncated(buffer, 0, *from, line, *have),
+        TraceEvent::CutOff { from, bytes } => events::truncated(
+            buffer,
+            0,
+            *from,
+            line,
+            bytes.len(),
+        ),
         TraceEvent::Lost => events::lost(buffer, 0, line),
     }
 }

@@ -190,7 +190,7 @@ unfolding digits
 a_close r came = refl
 
 -- the completion of a status enquiry: no field has the BMP F0
-pub an_unread_completion : (byte : ℕ) → item_text (unread 0x06 0x0F 7 3 byte UnknownField) ≡ codes "unread 060F, 7 bytes, refused at 3: UnknownField\n"
+pub an_unread_completion : (byte : ℕ) → item_text (unread 0x06 0x0F 7 (0x06 ∷ 0x0F ∷ 0x04 ∷ []) byte UnknownField) ≡ codes "unread 060F, 7 bytes, refused at 3: UnknownField\n"
 unfolding digits encode_with
 an_unread_completion byte = refl
 

@@ -1,6 +1,6 @@
 -- What is said of a step that could not be played, part by part.
 use Rattle.std.proofs.Common.{◌≡◌, ◌≤◌, inl, ℕ, suc, Bool, true, false, List, [], ◌∷◌, ◌++◌, Some, Result, Ok, Err, OnOk, MatchResult, length, take, drop, refl, sym, ◌∙◌, ap, subst, arith, append_assoc, append-nil}
-use Rattle.std.proofs.lemmas.List.{take-append-drop}
+use Rattle.std.proofs.lemmas.List.{length-take-le, take-append-drop}
 use Rattle.zvt_grammar.specs.Reading.{Reading}
 use Rattle.zvt_grammar.specs.declared.why.Why.{Why}
 use Rattle.zvt_apdu.specs.Grammar as grammar
@@ -16,6 +16,7 @@ use Rattle.zvt_stream.specs.StreamState.{StreamState, start_by, start_in}
 use Rattle.zvt_stream.specs.declared.stream.FedView.TheVariants as view
 use Rattle.zvt_stream.proofs.Beginnings.{prefix_alive_in}
 use Rattle.zvt_stream.proofs.LineReadingLemmas.{bounds_by}
+use Rattle.zvt_stream.proofs.OpenLemmas.{refused_split, refused_there}
 use Rattle.zvt_play.specs.DifferenceTexts.{SaysBeginning, SaysWhole, beginning_text, unread_text}
 use Rattle.zvt_play.specs.Playing.{IsMessage}
 
@@ -58,7 +59,7 @@ read_whole true r bytes message taken m p = by m.1.0 m.1.1
   where
     by : (item : OpenItem) → OpenSpells r item bytes → SaysWhole (line_reading true r) bytes (said safe_text message)
     by (read whole) q = (read message, first_whole r bytes message whole taken p q, refl)
-    by (unread high low size place byte why) q = absurd (q.2.0 message (take taken bytes) (drop taken bytes) (sym (take-append-drop taken bytes)) p)
+    by (unread high low size before byte why) q = absurd (q.2.0 message (take taken bytes) (drop taken bytes) (sym (take-append-drop taken bytes)) p)
 
 pub lent_whole : (o : Bool) (r : Reading) (old new : StreamState) (bytes : List ℕ) (taken : ℕ) (message : Message) → old ≡ start_in r → IsMessage (line_reading o r) bytes → Lends old bytes (view.Message taken) new → new.lent ≡ Some message → SaysWhole (line_reading o r) bytes (said safe_text message)
 lent_whole o r old new bytes taken message is m lends lent =
@@ -75,7 +76,8 @@ never_more o r old new bytes is m lends = by o m (subst (λ (s : StreamState). U
   where
     by_item : (item : OpenItem) → OpenSpells r item bytes → UnfinishedIn r bytes → ⊥
     by_item (read message) q u = whole_alone r bytes message q u.none_whole
-    by_item (unread high low size place byte why) q u =
+    by_item (unread high low size before byte why) q u =
+        let place = length before in
         q.2.1.dead (prefix_alive_in r (take (suc place) bytes) (drop (suc place) bytes) (subst (AliveIn r) (sym (take-append-drop (suc place) bytes)) u.alive))
 
     by : (o : Bool) → IsMessage (line_reading o r) bytes → UnfinishedIn r bytes → ⊥
@@ -94,11 +96,13 @@ refused_whole o r old new bytes place why is m lends = by o m (subst (λ (s : St
   where
     by_item : (item : OpenItem) → OpenSpells r item bytes → IsRefusedIn r bytes place why → SaysWhole (line_reading true r) bytes (unread_text (take 2 bytes) (length bytes) place why)
     by_item (read message) q f = absurd (whole_alone r bytes message q f.0)
-    by_item (unread high low size at byte what) q f = (
-      unread high low (length bytes) place f.2.byte why,
-      (q.0, refl, f, f.2.is_byte),
-      ap (λ (control : List ℕ). unread_text control (length bytes) place why) (first_two high low bytes (q.0.size ++ q.0.content) q.0.whole),
-    )
+    by_item (unread high low size before byte what) q f =
+        let there : length (take place bytes) ≡ place = length-take-le place bytes (omega (arith, f.1.present)) in (
+          unread high low (length bytes) (take place bytes) f.2.byte why,
+          (q.0, refl, refused_there r bytes place why f, refused_split r bytes place why f),
+          ap (λ (control : List ℕ). unread_text control (length bytes) place why) (first_two high low bytes (q.0.size ++ q.0.content) q.0.whole)
+              ∙ ap (λ (n : ℕ). unread_text (high ∷ low ∷ []) (length bytes) n why) (sym there),
+        )
 
     by : (o : Bool) → IsMessage (line_reading o r) bytes → IsRefusedIn r bytes place why → SaysWhole (line_reading o r) bytes (unread_text (take 2 bytes) (length bytes) place why)
     by false m f = absurd (whole_alone r bytes m.0 m.1 f.0)

@@ -46,7 +46,7 @@ unread_text control size place why = codes "unread " ++ encode_upper control ++ 
 -- the safe text of a message, or what is said of one that is not read
 abbrev pub item_text : OpenItem → List ℕ
 item_text (read message) = said safe_text message
-item_text (unread high low size place byte why) = unread_text (high ∷ low ∷ []) size place why
+item_text (unread high low size before byte why) = unread_text (high ∷ low ∷ []) size (length before) why
 
 -- the text of the message that these bytes are; on an open line it may be an unread one
 abbrev pub SaysWhole : LineReading → (bytes text : List ℕ) → Type 0

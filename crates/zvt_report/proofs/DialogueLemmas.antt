@@ -35,10 +35,10 @@ use Rattle.zvt_report.specs.declared.report.Report.{Report}
 -- an event has one text
 pub one_text : (line : ℕ) (event : TraceEvent) (text : List ℕ) → EventText safe_style (on line event) text → text ≡ event_text event
 one_text line (trace_event.message from m) text is = is
-one_text line (trace_event.refused from head byte place why) text is = is
+one_text line (trace_event.refused from before byte why) text is = is
 one_text line (trace_event.unread from) text is = is
 one_text line (trace_event.resumed from size) text is = is
-one_text line (trace_event.cut_off from head have) text is = is
+one_text line (trace_event.cut_off from bytes) text is = is
 one_text line trace_event.lost text is = is
 
 -- the text of the event alone was written

@@ -82,10 +82,10 @@ named_event notes line (trace_event.message FromTill (completion fields)) are = 
 named_event notes line (trace_event.message FromTill (abort code payload)) are = named_none notes are
 named_event notes line (trace_event.message FromTill (other high low payload)) are = named_by notes line Foreign are refl tt
 named_event notes line (trace_event.message FromTerminal m) are = named_still notes (noted line (HeardIn (heard_as m))) are refl
-named_event notes line (trace_event.refused from head byte place why) are = named_still notes (noted line Malformed) are refl
+named_event notes line (trace_event.refused from before byte why) are = named_still notes (noted line Malformed) are refl
 named_event notes line (trace_event.unread from) are = named_none notes are
 named_event notes line (trace_event.resumed from size) are = named_none notes are
-named_event notes line (trace_event.cut_off from head have) are = named_none notes are
+named_event notes line (trace_event.cut_off from bytes) are = named_none notes are
 named_event notes line trace_event.lost are =
     subst AreNamed (append_assoc notes (noted line Lost ∷ []) (noted line Connected ∷ []))
     (named_still (notes ++ noted line Lost ∷ []) (noted line Connected) (named_still notes (noted line Lost) are refl) refl)

@@ -76,19 +76,19 @@ IsOne (Some f) = counted_by f ≡ 1
 
 one_each : (scope : Scope) (line : ℕ) (event : TraceEvent) → IsOne (finding_by scope line event)
 one_each scope line (trace_event.message from m) = tt
-one_each scope line (trace_event.refused from head byte place why) = refl
+one_each scope line (trace_event.refused from before byte why) = refl
 one_each scope line (trace_event.unread from) = tt
 one_each scope line (trace_event.resumed from size) = tt
-one_each scope line (trace_event.cut_off from head have) = refl
+one_each scope line (trace_event.cut_off from bytes) = refl
 one_each scope line trace_event.lost = tt
 
 -- a message that is refused or cut off has a finding, and nothing else has
 one_found : (scope : Scope) (line : ℕ) (event : TraceEvent) (more : List Finding) → length (cons_option (finding_by scope line event) more) ≡ bad_count event + length more
 one_found scope line (trace_event.message from m) more = omega arith
-one_found scope line (trace_event.refused from head byte place why) more = omega arith
+one_found scope line (trace_event.refused from before byte why) more = omega arith
 one_found scope line (trace_event.unread from) more = omega arith
 one_found scope line (trace_event.resumed from size) more = omega arith
-one_found scope line (trace_event.cut_off from head have) more = omega arith
+one_found scope line (trace_event.cut_off from bytes) more = omega arith
 one_found scope line trace_event.lost more = omega arith
 
 all_found : (scope : Scope) (events : List At) → length (bad_messages scope events) ≡ bad_in events

@@ -23,10 +23,10 @@ use Rattle.zvt_report.proofs.HiddenLemmas.{named_same}
 
 found_alike : (scope : Scope) (line : ℕ) (event : TraceEvent) → finding_by scope line (disclosed_event event) ≡ finding_by scope line event
 found_alike scope line (trace_event.message from m) = refl
-found_alike scope line (trace_event.refused from head byte place why) = refl
+found_alike scope line (trace_event.refused from before byte why) = refl
 found_alike scope line (trace_event.unread from) = refl
 found_alike scope line (trace_event.resumed from size) = refl
-found_alike scope line (trace_event.cut_off from head have) = refl
+found_alike scope line (trace_event.cut_off from bytes) = refl
 found_alike scope line trace_event.lost = refl
 
 bad_alike : (scope : Scope) (events : List At) → bad_messages scope (map disclosed_at events) ≡ bad_messages scope events
@@ -53,18 +53,18 @@ kind_alike (other high low payload) = refl
 
 sent_alike : (side : Direction) (event : TraceEvent) → is_order_from side (disclosed_event event) ≡ is_order_from side event
 sent_alike side (trace_event.message from m) = ap (ordered_from side from) (kind_alike m)
-sent_alike side (trace_event.refused from head byte place why) = refl
+sent_alike side (trace_event.refused from before byte why) = refl
 sent_alike side (trace_event.unread from) = refl
 sent_alike side (trace_event.resumed from size) = refl
-sent_alike side (trace_event.cut_off from head have) = refl
+sent_alike side (trace_event.cut_off from bytes) = refl
 sent_alike side trace_event.lost = refl
 
 order_alike : (scope : Scope) (side : Direction) (event : TraceEvent) → is_order_from side (taken_as scope (disclosed_event event)) ≡ is_order_from side (taken_as scope event)
 order_alike OneMessage side (trace_event.message from m) = ap (ordered_from side from) (kind_alike m)
-order_alike OneMessage side (trace_event.refused from head byte place why) = refl
+order_alike OneMessage side (trace_event.refused from before byte why) = refl
 order_alike OneMessage side (trace_event.unread from) = refl
 order_alike OneMessage side (trace_event.resumed from size) = refl
-order_alike OneMessage side (trace_event.cut_off from head have) = refl
+order_alike OneMessage side (trace_event.cut_off from bytes) = refl
 order_alike OneMessage side trace_event.lost = refl
 order_alike OneSide side event = sent_alike side event
 order_alike WholeLine side event = sent_alike side event
@@ -81,10 +81,10 @@ orders_alike scope side (event ∷ events) =
 
 named_alike : (scope : Scope) (event : TraceEvent) → named_by (taken_as scope (disclosed_event event)) ≡ named_by (taken_as scope event)
 named_alike OneMessage (trace_event.message from m) = named_same (trace_event.message from m)
-named_alike OneMessage (trace_event.refused from head byte place why) = refl
+named_alike OneMessage (trace_event.refused from before byte why) = refl
 named_alike OneMessage (trace_event.unread from) = refl
 named_alike OneMessage (trace_event.resumed from size) = refl
-named_alike OneMessage (trace_event.cut_off from head have) = refl
+named_alike OneMessage (trace_event.cut_off from bytes) = refl
 named_alike OneMessage trace_event.lost = refl
 named_alike OneSide event = named_same event
 named_alike WholeLine event = named_same event

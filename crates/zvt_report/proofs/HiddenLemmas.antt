@@ -47,10 +47,10 @@ use Rattle.zvt_report.proofs.HiddenStatuses.{statements_same}
 pub named_same : (event : TraceEvent) → named_by (disclosed_event event) ≡ named_by event
 named_same (trace_event.message FromTill m) = currency_same m
 named_same (trace_event.message FromTerminal m) = refl
-named_same (trace_event.refused from head byte place why) = refl
+named_same (trace_event.refused from before byte why) = refl
 named_same (trace_event.unread from) = refl
 named_same (trace_event.resumed from size) = refl
-named_same (trace_event.cut_off from head have) = refl
+named_same (trace_event.cut_off from bytes) = refl
 named_same trace_event.lost = refl
 
 currencies_same : (events : List At) → currencies_of (map disclosed_at events) ≡ currencies_of events
@@ -80,10 +80,10 @@ terminal_same (other high low payload) = refl
 terminal_by_same : (event : TraceEvent) → terminal_by (disclosed_event event) ≡ terminal_by event
 terminal_by_same (trace_event.message FromTill m) = refl
 terminal_by_same (trace_event.message FromTerminal m) = terminal_same m
-terminal_by_same (trace_event.refused from head byte place why) = refl
+terminal_by_same (trace_event.refused from before byte why) = refl
 terminal_by_same (trace_event.unread from) = refl
 terminal_by_same (trace_event.resumed from size) = refl
-terminal_by_same (trace_event.cut_off from head have) = refl
+terminal_by_same (trace_event.cut_off from bytes) = refl
 terminal_by_same trace_event.lost = refl
 
 first_terminal_same : (events : List At) → first_terminal (map disclosed_at events) ≡ first_terminal events
@@ -184,10 +184,10 @@ item_same agree seen event = by_event event.trace_event
       where
         item_with : Direction → List ℕ → Html
         item_with from text = element Li (attributes_of (side_class from) (event_id seen event.line)) (both (number_part event.line) (element Div ((Class, codes "say") ∷ []) (line_parts (lines (direction_text from ++ 32 ∷ text)))))
-    by_event (trace_event.refused from head byte place why) = refl
+    by_event (trace_event.refused from before byte why) = refl
     by_event (trace_event.unread from) = refl
     by_event (trace_event.resumed from size) = refl
-    by_event (trace_event.cut_off from head have) = refl
+    by_event (trace_event.cut_off from bytes) = refl
     by_event trace_event.lost = refl
 
 pub hidden_bytes_are_not_shown : SafeTextsAgree → HiddenBytesAreNotShown

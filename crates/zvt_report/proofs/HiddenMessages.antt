@@ -141,10 +141,10 @@ happened_same book FromTerminal m = ap (λ (h : Heard). Some (HeardIn h)) (heard
 
 happenings_same : (book : List Entry) (event : TraceEvent) → happenings_with book (disclosed_event event) ≡ happenings_with book event
 happenings_same book (trace_event.message from m) = ap (λ (h : Option Happening). cons_option h []) (happened_same book from m)
-happenings_same book (trace_event.refused from head byte place why) = refl
+happenings_same book (trace_event.refused from before byte why) = refl
 happenings_same book (trace_event.unread from) = refl
 happenings_same book (trace_event.resumed from size) = refl
-happenings_same book (trace_event.cut_off from head have) = refl
+happenings_same book (trace_event.cut_off from bytes) = refl
 happenings_same book trace_event.lost = refl
 
 pub notes_same : (notes : List Noted) (events : List At) → fold with_event notes (map disclosed_at events) ≡ fold with_event notes events
@@ -165,10 +165,10 @@ if_same m (Some order) = refl
 begun_same : (event : TraceEvent) → beginning_in (disclosed_event event) ≡ map disclosed (beginning_in event)
 begun_same (trace_event.message FromTill m) = ap (message_if (disclosed m)) (beginning_same m) ∙ if_same m (beginning m)
 begun_same (trace_event.message FromTerminal m) = refl
-begun_same (trace_event.refused from head byte place why) = refl
+begun_same (trace_event.refused from before byte why) = refl
 begun_same (trace_event.unread from) = refl
 begun_same (trace_event.resumed from size) = refl
-begun_same (trace_event.cut_off from head have) = refl
+begun_same (trace_event.cut_off from bytes) = refl
 begun_same trace_event.lost = refl
 
 pub map_append : {A B : Type 0} (f : A → B) (xs ys : List A) → map f (xs ++ ys) ≡ map f xs ++ map f ys

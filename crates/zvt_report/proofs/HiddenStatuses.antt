@@ -31,28 +31,28 @@ use Rattle.zvt_report.proofs.HiddenMessages.{beginning_same, heard_same, map_app
 begins_same : (event : TraceEvent) → begins (disclosed_event event) ≡ begins event
 begins_same (trace_event.message FromTill m) = ap (λ (o : Option Sent). is_some o) (beginning_same m)
 begins_same (trace_event.message FromTerminal m) = refl
-begins_same (trace_event.refused from head byte place why) = refl
+begins_same (trace_event.refused from before byte why) = refl
 begins_same (trace_event.unread from) = refl
 begins_same (trace_event.resumed from size) = refl
-begins_same (trace_event.cut_off from head have) = refl
+begins_same (trace_event.cut_off from bytes) = refl
 begins_same trace_event.lost = refl
 
 ends_same : (accepted : Bool) (event : TraceEvent) → ends_by accepted (disclosed_event event) ≡ ends_by accepted event
 ends_same accepted (trace_event.message FromTill m) = refl
 ends_same accepted (trace_event.message FromTerminal m) = ap (λ (h : Heard). ends accepted (HeardIn h)) (heard_same m)
-ends_same accepted (trace_event.refused from head byte place why) = refl
+ends_same accepted (trace_event.refused from before byte why) = refl
 ends_same accepted (trace_event.unread from) = refl
 ends_same accepted (trace_event.resumed from size) = refl
-ends_same accepted (trace_event.cut_off from head have) = refl
+ends_same accepted (trace_event.cut_off from bytes) = refl
 ends_same accepted trace_event.lost = refl
 
 accepts_same : (event : TraceEvent) → accepts (disclosed_event event) ≡ accepts event
 accepts_same (trace_event.message FromTill m) = refl
 accepts_same (trace_event.message FromTerminal m) = ap (λ (h : Heard). is_positive (HeardIn h)) (heard_same m)
-accepts_same (trace_event.refused from head byte place why) = refl
+accepts_same (trace_event.refused from before byte why) = refl
 accepts_same (trace_event.unread from) = refl
 accepts_same (trace_event.resumed from size) = refl
-accepts_same (trace_event.cut_off from head have) = refl
+accepts_same (trace_event.cut_off from bytes) = refl
 accepts_same trace_event.lost = refl
 
 stating_same : (m : Message) → stating (disclosed m) ≡ option_map disclosed_fields (stating m)
@@ -81,10 +81,10 @@ one_status (Some fields) = refl
 statuses_same : (event : TraceEvent) → statuses_in (disclosed_event event) ≡ map disclosed_fields (statuses_in event)
 statuses_same (trace_event.message FromTill m) = refl
 statuses_same (trace_event.message FromTerminal m) = ap (λ (o : Option (List Field)). cons_option o []) (stating_same m) ∙ one_status (stating m)
-statuses_same (trace_event.refused from head byte place why) = refl
+statuses_same (trace_event.refused from before byte why) = refl
 statuses_same (trace_event.unread from) = refl
 statuses_same (trace_event.resumed from size) = refl
-statuses_same (trace_event.cut_off from head have) = refl
+statuses_same (trace_event.cut_off from bytes) = refl
 statuses_same trace_event.lost = refl
 
 -- the statuses up to the end of an order

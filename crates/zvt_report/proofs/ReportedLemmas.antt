@@ -100,10 +100,10 @@ same_event book (trace_event.message FromTill (completion fields)) = refl
 same_event book (trace_event.message FromTill (abort code payload)) = refl
 same_event book (trace_event.message FromTill (other high low payload)) = refl
 same_event book (trace_event.message FromTerminal m) = refl
-same_event book (trace_event.refused from head byte place why) = refl
+same_event book (trace_event.refused from before byte why) = refl
 same_event book (trace_event.unread from) = refl
 same_event book (trace_event.resumed from size) = refl
-same_event book (trace_event.cut_off from head have) = refl
+same_event book (trace_event.cut_off from bytes) = refl
 same_event book trace_event.lost = refl
 
 map_append : {A B : Type 0} (f : A → B) (xs ys : List A) → map f (xs ++ ys) ≡ map f xs ++ map f ys
@@ -190,10 +190,10 @@ one_message book line (trace_event.message FromTill (completion fields)) = refl
 one_message book line (trace_event.message FromTill (abort code payload)) = refl
 one_message book line (trace_event.message FromTill (other high low payload)) = refl
 one_message book line (trace_event.message FromTerminal m) = refl
-one_message book line (trace_event.refused from head byte place why) = refl
+one_message book line (trace_event.refused from before byte why) = refl
 one_message book line (trace_event.unread from) = refl
 one_message book line (trace_event.resumed from size) = refl
-one_message book line (trace_event.cut_off from head have) = refl
+one_message book line (trace_event.cut_off from bytes) = refl
 one_message book line trace_event.lost = refl
 
 begun_with : (notes : List Noted) (event : At) → begun_lines (with_event notes event) ≡ begun_lines notes ++ lines_at event.line event.trace_event

@@ -165,8 +165,8 @@ any_ends None = tt
 any_ends (Some a) = refl
 
 -- bytes that are no message
-pub refused_states : (old new : Hearing) (line : ℕ) (from : Direction) (head : Head) (byte place : ℕ) (why : Why) → Ends old new → States old (on line (trace_event.refused from head byte place why)) new
-refused_states old new line from head byte place why ended = end_states old new (on line (trace_event.refused from head byte place why)) refl (any_ends old.current) ended
+pub refused_states : (old new : Hearing) (line : ℕ) (from : Direction) (before : List ℕ) (byte : ℕ) (why : Why) → Ends old new → States old (on line (trace_event.refused from before byte why)) new
+refused_states old new line from before byte why ended = end_states old new (on line (trace_event.refused from before byte why)) refl (any_ends old.current) ended
 
 -- the connection is lost
 pub lost_states : (old new : Hearing) (line : ℕ) → Ends old new → States old (on line trace_event.lost) new

@@ -6,10 +6,11 @@ use Rattle.zvt_grammar.specs.declared.why.Why.TheVariants.{UnknownField}
 use Rattle.zvt_field.specs.Grammar.{plain}
 use Rattle.zvt_apdu.specs.Kinds.{kind_at}
 use Rattle.zvt_apdu.specs.Message.{authorisation, end_of_day, registration, status}
+use Rattle.zvt_stream.specs.Head.{head_of as begun_head}
 use Rattle.zvt_stream.specs.declared.head.Head.{Head}
 use Rattle.zvt_stream.specs.declared.head.Head.TheVariants.{Empty, One, Two}
 use Rattle.zvt_trace.specs.Listening.{Fails, Hears}
-use Rattle.zvt_trace.specs.TraceEvent.{At, TraceEvent, bad_in, on}
+use Rattle.zvt_trace.specs.TraceEvent.{At, TraceEvent, bad_in, on, refused_head}
 use Rattle.zvt_trace.specs.TraceEvent as trace_event
 use Rattle.zvt_trace.specs.declared.direction.Direction.{Direction}
 use Rattle.zvt_trace.specs.declared.direction.Direction.TheVariants.{FromTill, FromTerminal}
@@ -37,10 +38,10 @@ reads_on WholeLine = false
 -- a message that can't be read or is incomplete; of its bytes after the control bytes, none belongs to it
 abbrev pub finding_by : Scope → (line : ℕ) → TraceEvent → Option Finding
 finding_by scope line (trace_event.message from m) = None
-finding_by scope line (trace_event.refused from head byte place why) = Some (Refused line from head place why (reads_on scope))
+finding_by scope line (trace_event.refused from before byte why) = Some (Refused line from (refused_head before byte) (length before) why (reads_on scope))
 finding_by scope line (trace_event.unread from) = None
 finding_by scope line (trace_event.resumed from size) = None
-finding_by scope line (trace_event.cut_off from head have) = Some (CutOff line from head have)
+finding_by scope line (trace_event.cut_off from bytes) = Some (CutOff line from (begun_head bytes) (length bytes))
 finding_by scope line trace_event.lost = None
 
 abbrev pub finding_at : Scope → At → Option Finding
@@ -189,15 +190,15 @@ three_currencies = refl
 one_currency_twice : findings OneMessage (registers 1 978 ∷ registers 3 978 ∷ []) ≡ []
 one_currency_twice = refl
 
--- a status of the terminal is refused at its byte 37, and the trace ends in a payment of the till
+-- a status of the terminal is refused at its byte 3, and the trace ends in a payment of the till
 abbrev bad_day : List At
-bad_day = on 4 (trace_event.refused FromTerminal (Two 0x04 0x0F) 0xE0 37 UnknownField) ∷ on 4 (trace_event.resumed FromTerminal 40) ∷ on 9 trace_event.lost ∷ on 12 (trace_event.cut_off FromTill (One 0x06) 1) ∷ []
+bad_day = on 4 (trace_event.refused FromTerminal (0x04 ∷ 0x0F ∷ 9 ∷ []) 0xE0 UnknownField) ∷ on 4 (trace_event.resumed FromTerminal 12) ∷ on 9 trace_event.lost ∷ on 12 (trace_event.cut_off FromTill (0x06 ∷ [])) ∷ []
 
-read_on : findings OneMessage bad_day ≡ Refused 4 FromTerminal (Two 0x04 0x0F) 37 UnknownField true ∷ CutOff 12 FromTill (One 0x06) 1 ∷ []
+read_on : findings OneMessage bad_day ≡ Refused 4 FromTerminal (Two 0x04 0x0F) 3 UnknownField true ∷ CutOff 12 FromTill (One 0x06) 1 ∷ []
 unfolding kind_at
 read_on = refl
 
-read_strictly : findings WholeLine bad_day ≡ Refused 4 FromTerminal (Two 0x04 0x0F) 37 UnknownField false ∷ CutOff 12 FromTill (One 0x06) 1 ∷ []
+read_strictly : findings WholeLine bad_day ≡ Refused 4 FromTerminal (Two 0x04 0x0F) 3 UnknownField false ∷ CutOff 12 FromTill (One 0x06) 1 ∷ []
 read_strictly = refl
 
 -- 20 are listed, and the rest is counted

@@ -53,10 +53,10 @@ disclosed (other high low payload) = other high low (cond (moves_money high low)
 
 abbrev pub disclosed_event : TraceEvent → TraceEvent
 disclosed_event (trace_event.message from m) = trace_event.message from (disclosed m)
-disclosed_event (trace_event.refused from head byte place why) = trace_event.refused from head byte place why
+disclosed_event (trace_event.refused from before byte why) = trace_event.refused from before byte why
 disclosed_event (trace_event.unread from) = trace_event.unread from
 disclosed_event (trace_event.resumed from size) = trace_event.resumed from size
-disclosed_event (trace_event.cut_off from head have) = trace_event.cut_off from head have
+disclosed_event (trace_event.cut_off from bytes) = trace_event.cut_off from bytes
 disclosed_event trace_event.lost = trace_event.lost
 
 abbrev pub disclosed_at : At → At

@@ -1,5 +1,5 @@
 -- One event of a trace, as a page shows it.
-use Rattle.std.specs.Prelude.{◌≡◌, ◌==◌, ℕ, Bool, true, false, cond, List, [], ◌∷◌, ◌++◌, codes, Option, Some, None, refl}
+use Rattle.std.specs.Prelude.{◌≡◌, ◌==◌, ℕ, Bool, true, length, false, cond, List, [], ◌∷◌, ◌++◌, codes, Option, Some, None, refl}
 use Rattle.std.specs.List.{list_any}
 use Rattle.std.specs.Fmt.{decimal, digits}
 use Rattle.std.specs.Str.Lines.{lines}
@@ -25,10 +25,10 @@ safe_style = Show safe_explained_text
 -- the text of an event as `show --safe --explain` writes it
 abbrev pub event_text : TraceEvent → List ℕ
 event_text (trace_event.message from m) = shown safe_explained_text from m
-event_text (trace_event.refused from head byte place why) = refused_text safe_style from place why
+event_text (trace_event.refused from before byte why) = refused_text safe_style from (length before) why
 event_text (trace_event.unread from) = stopped_text safe_style from
 event_text (trace_event.resumed from size) = resumed_text safe_style from size
-event_text (trace_event.cut_off from head have) = truncated_text safe_style from have
+event_text (trace_event.cut_off from bytes) = truncated_text safe_style from (length bytes)
 event_text trace_event.lost = lost_text safe_style
 
 -- an element for each line
@@ -48,10 +48,10 @@ side_class FromTerminal = codes "terminal"
 -- who says it; or that some bytes are no message; or that nobody says anything
 abbrev pub event_class : TraceEvent → List ℕ
 event_class (trace_event.message from m) = side_class from
-event_class (trace_event.refused from head byte place why) = codes "bad"
+event_class (trace_event.refused from before byte why) = codes "bad"
 event_class (trace_event.unread from) = codes "bad"
 event_class (trace_event.resumed from size) = codes "bad"
-event_class (trace_event.cut_off from head have) = codes "bad"
+event_class (trace_event.cut_off from bytes) = codes "bad"
 event_class trace_event.lost = codes "lost"
 
 -- where a link to a line leads

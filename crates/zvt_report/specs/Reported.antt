@@ -55,10 +55,10 @@ happened_with book FromTerminal m = happened FromTerminal m
 
 abbrev pub happenings_with : List Entry → TraceEvent → List Happening
 happenings_with book (trace_event.message from m) = cons_option (happened_with book from m) []
-happenings_with book (trace_event.refused from head byte place why) = happenings_of (trace_event.refused from head byte place why)
+happenings_with book (trace_event.refused from before byte why) = happenings_of (trace_event.refused from before byte why)
 happenings_with book (trace_event.unread from) = happenings_of (trace_event.unread from)
 happenings_with book (trace_event.resumed from size) = happenings_of (trace_event.resumed from size)
-happenings_with book (trace_event.cut_off from head have) = happenings_of (trace_event.cut_off from head have)
+happenings_with book (trace_event.cut_off from bytes) = happenings_of (trace_event.cut_off from bytes)
 happenings_with book trace_event.lost = happenings_of trace_event.lost
 
 -- ---- all events
@@ -88,10 +88,10 @@ beginning_from FromTerminal m = []
 
 abbrev pub beginning_in : TraceEvent → List Message
 beginning_in (trace_event.message from m) = beginning_from from m
-beginning_in (trace_event.refused from head byte place why) = []
+beginning_in (trace_event.refused from before byte why) = []
 beginning_in (trace_event.unread from) = []
 beginning_in (trace_event.resumed from size) = []
-beginning_in (trace_event.cut_off from head have) = []
+beginning_in (trace_event.cut_off from bytes) = []
 beginning_in trace_event.lost = []
 
 -- the messages that begin an order, in the order of the trace

@@ -53,10 +53,10 @@ ends_from FromTerminal accepted m = ends accepted (HeardIn (heard_as m))
 -- what ends an order that the terminal has accepted or not
 abbrev pub ends_by : (accepted : Bool) → TraceEvent → Bool
 ends_by accepted (trace_event.message from m) = ends_from from accepted m
-ends_by accepted (trace_event.refused from head byte place why) = true
+ends_by accepted (trace_event.refused from before byte why) = true
 ends_by accepted (trace_event.unread from) = false
 ends_by accepted (trace_event.resumed from size) = false
-ends_by accepted (trace_event.cut_off from head have) = false
+ends_by accepted (trace_event.cut_off from bytes) = false
 ends_by accepted trace_event.lost = true
 
 abbrev pub accepts_from : Direction → Message → Bool

@@ -39,10 +39,10 @@ terminal_from FromTerminal m = terminal_in m
 -- the identifier that the terminal names
 abbrev pub terminal_by : TraceEvent → Option (List ℕ)
 terminal_by (trace_event.message from m) = terminal_from from m
-terminal_by (trace_event.refused from head byte place why) = None
+terminal_by (trace_event.refused from before byte why) = None
 terminal_by (trace_event.unread from) = None
 terminal_by (trace_event.resumed from size) = None
-terminal_by (trace_event.cut_off from head have) = None
+terminal_by (trace_event.cut_off from bytes) = None
 terminal_by trace_event.lost = None
 
 -- the first one

@@ -173,16 +173,16 @@ fn finding_by(scope: Scope, line: u64, trace_event: &TraceEvent<'_>) -> Option<F
         TraceEvent::Refused { from, refusal } => Some(Finding::Refused {
             line,
             from: *from,
-            head: refusal.head,
-            place: refusal.place,
+            head: refusal.head(),
+            place: refusal.place(),
             why: refusal.why,
             reads_on: reads_on(scope),
         }),
-        TraceEvent::CutOff { from, head, have } => Some(Finding::CutOff {
+        TraceEvent::CutOff { from, bytes } => Some(Finding::CutOff {
             line,
             from: *from,
-            head: *head,
-            have: *have,
+            head: Head::of(bytes),
+            have: bytes.len(),
         }),
         TraceEvent::Message { .. }
         | TraceEvent::Unread { .. }

@@ -39,10 +39,10 @@ one_more scope since event all =
 
 one_said : (scope : Scope) (since : List At) (line : ℕ) (what : TraceEvent) (all : Lives) → said_at scope since line what ++ rest_text scope (events_since since line what) all ≡ rest_text scope since (with_event line what all)
 one_said scope since line (trace_event.message from m) all = one_more scope since (on line (trace_event.message from m)) all
-one_said scope since line (trace_event.refused from head byte place why) all = one_more scope since (on line (trace_event.refused from head byte place why)) all
+one_said scope since line (trace_event.refused from before byte why) all = one_more scope since (on line (trace_event.refused from before byte why)) all
 one_said scope since line (trace_event.unread from) all = one_more scope since (on line (trace_event.unread from)) all
 one_said scope since line (trace_event.resumed from size) all = one_more scope since (on line (trace_event.resumed from size)) all
-one_said scope since line (trace_event.cut_off from head have) all = one_more scope since (on line (trace_event.cut_off from head have)) all
+one_said scope since line (trace_event.cut_off from bytes) all = one_more scope since (on line (trace_event.cut_off from bytes)) all
 one_said scope since line trace_event.lost all =
     ap (λ (l : List At). unread_of scope l ++ (life_text scope all.first ++ flat_map (life_text scope) all.later)) (sym (append-nil since))
     ∙ ap (λ (l : List ℕ). unread_of scope (since ++ []) ++ l) (sym (flat_map-cons (life_text scope) all.first all.later))
@@ -88,10 +88,10 @@ says view scope (event ∷ events) since old new is trailing some =
 
 messages_step : (old : Counts) (event : TraceEvent) → Over old.messages (counted_more old event).messages (message_count event)
 messages_step old (trace_event.message from m) = inl refl
-messages_step old (trace_event.refused from head byte place why) = inr (refl, refl)
+messages_step old (trace_event.refused from before byte why) = inr (refl, refl)
 messages_step old (trace_event.unread from) = inr (refl, refl)
 messages_step old (trace_event.resumed from size) = inr (refl, refl)
-messages_step old (trace_event.cut_off from head have) = inr (refl, refl)
+messages_step old (trace_event.cut_off from bytes) = inr (refl, refl)
 messages_step old trace_event.lost = inr (refl, refl)
 
 messages_counted : (old new : Notes) (event : At) → Noted old new event → Over old.counts.messages new.counts.messages (message_count event.trace_event)
@@ -99,10 +99,10 @@ messages_counted old new event noted = subst (λ (c : Counts). Over old.counts.m
 
 refused_step : (old : Counts) (event : TraceEvent) → Over old.refused (counted_more old event).refused (refused_count event)
 refused_step old (trace_event.message from m) = inr (refl, refl)
-refused_step old (trace_event.refused from head byte place why) = inl refl
+refused_step old (trace_event.refused from before byte why) = inl refl
 refused_step old (trace_event.unread from) = inr (refl, refl)
 refused_step old (trace_event.resumed from size) = inr (refl, refl)
-refused_step old (trace_event.cut_off from head have) = inr (refl, refl)
+refused_step old (trace_event.cut_off from bytes) = inr (refl, refl)
 refused_step old trace_event.lost = inr (refl, refl)
 
 refused_counted : (old new : Notes) (event : At) → Noted old new event → Over old.counts.refused new.counts.refused (refused_count event.trace_event)
@@ -110,10 +110,10 @@ refused_counted old new event noted = subst (λ (c : Counts). Over old.counts.re
 
 cut_off_step : (old : Counts) (event : TraceEvent) → Over old.cut_off (counted_more old event).cut_off (cut_off_count event)
 cut_off_step old (trace_event.message from m) = inr (refl, refl)
-cut_off_step old (trace_event.refused from head byte place why) = inr (refl, refl)
+cut_off_step old (trace_event.refused from before byte why) = inr (refl, refl)
 cut_off_step old (trace_event.unread from) = inr (refl, refl)
 cut_off_step old (trace_event.resumed from size) = inr (refl, refl)
-cut_off_step old (trace_event.cut_off from head have) = inl refl
+cut_off_step old (trace_event.cut_off from bytes) = inl refl
 cut_off_step old trace_event.lost = inr (refl, refl)
 
 cut_off_counted : (old new : Notes) (event : At) → Noted old new event → Over old.counts.cut_off new.counts.cut_off (cut_off_count event.trace_event)

@@ -11,12 +11,13 @@ use Rattle.zvt_apdu.specs.declared.kinds.Kind.TheVariants as kind
 use Rattle.zvt_text.specs.Bytes.{hex_of}
 use Rattle.zvt_text.specs.MessageTexts.{kind_name}
 use Rattle.zvt_trace.specs.Lines.{direction_text}
-use Rattle.zvt_trace.specs.TraceEvent.{At, TraceEvent, messages_in}
+use Rattle.zvt_trace.specs.TraceEvent.{At, TraceEvent, messages_in, refused_head}
 use Rattle.zvt_trace.specs.TraceEvent as trace_event
 use Rattle.zvt_trace.specs.declared.direction.Direction.{Direction}
 use Rattle.zvt_trace.specs.declared.direction.Direction.TheVariants.{FromTill, FromTerminal}
 use Rattle.zvt_trace.specs.declared.listener.Scope.{Scope}
 use Rattle.zvt_trace.specs.declared.listener.Scope.TheVariants.{OneMessage, OneSide, WholeLine}
+use Rattle.zvt_stream.specs.Head.{head_of}
 use Rattle.zvt_stream.specs.declared.head.Head.{Head}
 use Rattle.zvt_stream.specs.declared.head.Head.TheVariants.{Empty, One, Two}
 
@@ -68,19 +69,19 @@ abbrev pub reason_text : Why → List ℕ
 reason_text why = codes ": " ++ why_name why ++ 10 ∷ []
 
 -- of the bytes after the control bytes the fatal one alone is written
-abbrev pub refused_note : ℕ → Direction → Head → (byte place : ℕ) → Why → List ℕ
-refused_note line from head byte place why =
-    begun_text line from head ++ place_text place byte ++ reason_text why
+abbrev pub refused_note : ℕ → Direction → (before : List ℕ) → (byte : ℕ) → Why → List ℕ
+refused_note line from before byte why =
+    begun_text line from (refused_head before byte) ++ place_text (length before) byte ++ reason_text why
 
-abbrev pub cut_off_note : ℕ → Direction → Head → ℕ → List ℕ
+abbrev pub cut_off_note : ℕ → Direction → Head → (have : ℕ) → List ℕ
 cut_off_note line from head have = begun_text line from head ++ codes " cut off after " ++ decimal have ++ 10 ∷ []
 
 abbrev pub event_note : ℕ → TraceEvent → List ℕ
 event_note line (trace_event.message from m) = []
-event_note line (trace_event.refused from head byte place why) = refused_note line from head byte place why
+event_note line (trace_event.refused from before byte why) = refused_note line from before byte why
 event_note line (trace_event.unread from) = []
 event_note line (trace_event.resumed from size) = []
-event_note line (trace_event.cut_off from head have) = cut_off_note line from head have
+event_note line (trace_event.cut_off from bytes) = cut_off_note line from (head_of bytes) (length bytes)
 event_note line trace_event.lost = []
 
 abbrev pub note_text : At → List ℕ
@@ -102,10 +103,10 @@ is_same_side FromTerminal FromTerminal = true
 
 abbrev pub is_unread : Scope → Direction → TraceEvent → Bool
 is_unread scope side (trace_event.message from m) = false
-is_unread scope side (trace_event.refused from head byte place why) = false
+is_unread scope side (trace_event.refused from before byte why) = false
 is_unread scope side (trace_event.unread from) = is_same_side side (counted_side scope from)
 is_unread scope side (trace_event.resumed from size) = false
-is_unread scope side (trace_event.cut_off from head have) = false
+is_unread scope side (trace_event.cut_off from bytes) = false
 is_unread scope side trace_event.lost = false
 
 -- the lines of the pieces that are not read
@@ -161,10 +162,10 @@ begins_with event lives = record { first = event ∷ lives.first; later = lives.
 
 abbrev pub with_event : ℕ → TraceEvent → Lives → Lives
 with_event line (trace_event.message from m) lives = begins_with (trace_event.on line (trace_event.message from m)) lives
-with_event line (trace_event.refused from head byte place why) lives = begins_with (trace_event.on line (trace_event.refused from head byte place why)) lives
+with_event line (trace_event.refused from before byte why) lives = begins_with (trace_event.on line (trace_event.refused from before byte why)) lives
 with_event line (trace_event.unread from) lives = begins_with (trace_event.on line (trace_event.unread from)) lives
 with_event line (trace_event.resumed from size) lives = begins_with (trace_event.on line (trace_event.resumed from size)) lives
-with_event line (trace_event.cut_off from head have) lives = begins_with (trace_event.on line (trace_event.cut_off from head have)) lives
+with_event line (trace_event.cut_off from bytes) lives = begins_with (trace_event.on line (trace_event.cut_off from bytes)) lives
 with_event line trace_event.lost lives = record { first = []; later = lives.first ∷ lives.later }
 
 abbrev pub lives : List At → Lives
@@ -182,18 +183,18 @@ lives_text scope all = life_text scope all.first ++ flat_map (life_text scope) a
 
 abbrev pub refused_count : TraceEvent → ℕ
 refused_count (trace_event.message from m) = 0
-refused_count (trace_event.refused from head byte place why) = 1
+refused_count (trace_event.refused from before byte why) = 1
 refused_count (trace_event.unread from) = 0
 refused_count (trace_event.resumed from size) = 0
-refused_count (trace_event.cut_off from head have) = 0
+refused_count (trace_event.cut_off from bytes) = 0
 refused_count trace_event.lost = 0
 
 abbrev pub cut_off_count : TraceEvent → ℕ
 cut_off_count (trace_event.message from m) = 0
-cut_off_count (trace_event.refused from head byte place why) = 0
+cut_off_count (trace_event.refused from before byte why) = 0
 cut_off_count (trace_event.unread from) = 0
 cut_off_count (trace_event.resumed from size) = 0
-cut_off_count (trace_event.cut_off from head have) = 1
+cut_off_count (trace_event.cut_off from bytes) = 1
 cut_off_count trace_event.lost = 0
 
 abbrev pub refused_in : List At → ℕ

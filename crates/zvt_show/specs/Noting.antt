@@ -29,10 +29,10 @@ one_more unread line = record { count = most (unread.count + 1); last = line }
 
 abbrev pub counted_more : Counts → TraceEvent → Counts
 counted_more counts (trace_event.message from m) = record counts { messages = most (counts.messages + 1) }
-counted_more counts (trace_event.refused from head byte place why) = record counts { refused = most (counts.refused + 1) }
+counted_more counts (trace_event.refused from before byte why) = record counts { refused = most (counts.refused + 1) }
 counted_more counts (trace_event.unread from) = counts
 counted_more counts (trace_event.resumed from size) = counts
-counted_more counts (trace_event.cut_off from head have) = record counts { cut_off = most (counts.cut_off + 1) }
+counted_more counts (trace_event.cut_off from bytes) = record counts { cut_off = most (counts.cut_off + 1) }
 counted_more counts trace_event.lost = counts
 
 -- ---- one thing
@@ -40,19 +40,19 @@ counted_more counts trace_event.lost = counts
 -- the events since the line was made, with this one
 abbrev pub events_since : List At → (line : ℕ) → TraceEvent → List At
 events_since events line (trace_event.message from m) = events ++ on line (trace_event.message from m) ∷ []
-events_since events line (trace_event.refused from head byte place why) = events ++ on line (trace_event.refused from head byte place why) ∷ []
+events_since events line (trace_event.refused from before byte why) = events ++ on line (trace_event.refused from before byte why) ∷ []
 events_since events line (trace_event.unread from) = events ++ on line (trace_event.unread from) ∷ []
 events_since events line (trace_event.resumed from size) = events ++ on line (trace_event.resumed from size) ∷ []
-events_since events line (trace_event.cut_off from head have) = events ++ on line (trace_event.cut_off from head have) ∷ []
+events_since events line (trace_event.cut_off from bytes) = events ++ on line (trace_event.cut_off from bytes) ∷ []
 events_since events line trace_event.lost = []
 
 -- a note of it, or of all that was not read up to it
 abbrev pub said_at : Scope → List At → (line : ℕ) → TraceEvent → List ℕ
 said_at scope events line (trace_event.message from m) = []
-said_at scope events line (trace_event.refused from head byte place why) = note_text (on line (trace_event.refused from head byte place why))
+said_at scope events line (trace_event.refused from before byte why) = note_text (on line (trace_event.refused from before byte why))
 said_at scope events line (trace_event.unread from) = []
 said_at scope events line (trace_event.resumed from size) = []
-said_at scope events line (trace_event.cut_off from head have) = note_text (on line (trace_event.cut_off from head have))
+said_at scope events line (trace_event.cut_off from bytes) = note_text (on line (trace_event.cut_off from bytes))
 said_at scope events line trace_event.lost = unread_of scope events
 
 -- the notes say it too

@@ -1,5 +1,5 @@
 -- The text of what a trace emits.
-use Rattle.std.specs.Prelude.{◌≡◌, ℕ, Bool, true, false, Option, Some, None, List, [], ◌∷◌, ◌++◌, if◌then◌else◌}
+use Rattle.std.specs.Prelude.{◌≡◌, ℕ, Bool, true, false, length, Option, Some, None, List, [], ◌∷◌, ◌++◌, if◌then◌else◌}
 use Rattle.hex.specs.Hex.{encode_upper}
 use Rattle.zvt_grammar.specs.Reading.{shortest}
 use Rattle.zvt_apdu.specs.Grammar.{Spells}
@@ -78,30 +78,30 @@ MessageText (JsonReceipts text_blocks) from message text = text ≡ []
 
 abbrev pub PlainText : Style → TraceEvent → List ℕ → Type 0
 PlainText style (trace_event.message from m) text = MessageText style from m text
-PlainText style (trace_event.refused from head byte place why) text = text ≡ refused_text style from place why
+PlainText style (trace_event.refused from before byte why) text = text ≡ refused_text style from (length before) why
 PlainText style (trace_event.unread from) text = text ≡ stopped_text style from
 PlainText style (trace_event.resumed from size) text = text ≡ resumed_text style from size
-PlainText style (trace_event.cut_off from head have) text = text ≡ truncated_text style from have
+PlainText style (trace_event.cut_off from bytes) text = text ≡ truncated_text style from (length bytes)
 PlainText style trace_event.lost text = text ≡ lost_text style
 
 -- a line that the terminal wants printed
 abbrev pub printed_in : TraceEvent → Option (List ℕ)
 printed_in (trace_event.message FromTill m) = None
 printed_in (trace_event.message FromTerminal m) = text_in m
-printed_in (trace_event.refused from head byte place why) = None
+printed_in (trace_event.refused from before byte why) = None
 printed_in (trace_event.unread from) = None
 printed_in (trace_event.resumed from size) = None
-printed_in (trace_event.cut_off from head have) = None
+printed_in (trace_event.cut_off from bytes) = None
 printed_in trace_event.lost = None
 
 -- the fields of a text block of the terminal
 abbrev pub block_in : TraceEvent → Option (List Field)
 block_in (trace_event.message FromTill m) = None
 block_in (trace_event.message FromTerminal m) = block_fields m
-block_in (trace_event.refused from head byte place why) = None
+block_in (trace_event.refused from before byte why) = None
 block_in (trace_event.unread from) = None
 block_in (trace_event.resumed from size) = None
-block_in (trace_event.cut_off from head have) = None
+block_in (trace_event.cut_off from bytes) = None
 block_in trace_event.lost = None
 
 -- a line of JSON for each line of a text block, if text blocks are read; nothing for another event

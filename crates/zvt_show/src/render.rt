@@ -17,7 +17,7 @@ use std::alloc::{AllocError, Global};
 use zvt_apdu::{ApduView, encode, owned};
 use zvt_grammar::{Lengths, Why};
 use zvt_text::{Text, TextOptions};
-use zvt_trace::{Direction, Moment, Refusal, Timed, TraceEvent, time_at};
+use zvt_trace::{Direction, Moment, Timed, TraceEvent, time_at};
 
 /// The styles in which the events of a trace are written.
 #[derive(Clone, Copy, Debug, PartialEq, Eq)]
@@ -168,12 +168,11 @@ fn plain(
             Style::Json | Style::JsonReceipts { .. } => Ok(()),
         },
         TraceEvent::Refused { from, refusal } => {
-            let Refusal { place, why, .. } = *refusal;
-            refused(text, alloc, style, *from, place, why)
+            refused(text, alloc, style, *from, refusal.place(), refusal.why)
         }
         TraceEvent::Unread { from } => stopped(text, alloc, style, *from),
         TraceEvent::Resumed { from, size } => resumed(text, alloc, style, *from, *size),
-        TraceEvent::CutOff { from, have, .. } => truncated(text, alloc, style, *from, *have),
+        TraceEvent::CutOff { from, bytes } => truncated(text, alloc, style, *from, bytes.len()),
         TraceEvent::Lost => lost(text, style),
     }
 }

@@ -1,14 +1,14 @@
 -- What a run of the judge over a piece says of the stream.
-use Rattle.std.proofs.Common.{◌≡◌, ℕ, suc, Bool, ◌+◌, ◌≤◌, List, [], ◌++◌, length, take, refl, sym, subst, arith, length-append}
-use Rattle.std.proofs.lemmas.List.{length-take-le}
+use Rattle.std.proofs.Common.{◌≡◌, ℕ, suc, Bool, ◌+◌, ◌<◌, ◌≤◌, List, [], ◌++◌, length, take, drop, refl, sym, ◌∙◌, ap, subst, arith, append_assoc}
+use Rattle.std.proofs.lemmas.List.{length-take-le, take-append-drop}
 use Rattle.zvt_grammar.specs.declared.why.Why.{Why}
 use Rattle.zvt_grammar.specs.Reading.{Reading}
-use Rattle.zvt_stream.specs.Apdus.{AliveIn, UnfinishedIn, IsRefusedIn}
+use Rattle.zvt_stream.specs.Apdus.{UnfinishedIn, IsRefusedIn}
 use Rattle.zvt_stream.specs.LineReading.{LineReading}
 use Rattle.zvt_stream.specs.StreamState.{IsSound}
 use Rattle.zvt_stream.specs.Judge.{JudgeState, start, StandsFor, Ran}
 use Rattle.zvt_stream.specs.declared.judge.DecodeRun.TheVariants.{Refused}
-use Rattle.zvt_stream.proofs.Beginnings.{bounds_in}
+use Rattle.zvt_stream.proofs.Beginnings.{few_in}
 use Rattle.zvt_stream.proofs.FeedLemmas.{sound_empty, fed_refused}
 use Rattle.zvt_stream.proofs.JudgeLemmas.{begun_anew_stands}
 
@@ -16,12 +16,15 @@ use Rattle.zvt_stream.proofs.JudgeLemmas.{begun_anew_stands}
 pub fresh : (l : LineReading) (r : Reading) (judge : JudgeState) (held : List ℕ) (stopped : Bool) → judge ≡ start r → held ≡ [] → IsSound l held stopped × StandsFor judge held
 fresh l r judge held stopped e f = (sound_empty l held stopped f, subst (λ (h : List ℕ). StandsFor judge h) (sym f) (subst (λ (j : JudgeState). StandsFor j []) (sym e) (begun_anew_stands r)))
 
-alive_few : (r : Reading) (b : List ℕ) → AliveIn r b → length b ≤ 65540
-alive_few r b a = omega (arith, (bounds_in r a.value (b ++ a.rest) a.spelled).1, length-append b a.rest)
-
 -- the place of a refusal is within the longest message
-pub place_few : (r : Reading) (b : List ℕ) (place : ℕ) (why : Why) → IsRefusedIn r b place why → place ≤ 65540
-place_few r b place why f = omega (arith, alive_few r (take place b) f.1.alive, length-take-le place b (omega (arith, f.1.present)))
+pub place_few : (r : Reading) (b : List ℕ) (place : ℕ) (why : Why) → IsRefusedIn r b place why → place < 65540
+place_few r b place why f = omega (arith, few_in r (take place b) begun, length-take-le place b (omega (arith, f.1.present)))
+  where
+    begun : UnfinishedIn r (take place b)
+    begun = record {
+      alive = f.1.alive;
+      none_whole = λ m prefix rest e s. f.0 m prefix (rest ++ drop place b) (sym (take-append-drop place b) ∙ ap (λ (l : List ℕ). l ++ drop place b) e ∙ append_assoc prefix rest (drop place b)) s;
+    }
 
 -- a refusal in a prefix of the piece
 pub ran_out : (r : Reading) (judge : JudgeState) (held piece : List ℕ) (at : ℕ) (why : Why) → UnfinishedIn r held → Ran r held piece (Refused at why) judge → IsRefusedIn r (held ++ piece) (length held + at) why × (length held ≤ length held + at)

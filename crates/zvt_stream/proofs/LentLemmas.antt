@@ -17,7 +17,7 @@ use Rattle.zvt_stream.specs.Passing.{IsPassing, Knows, judged_bytes, stops}
 use Rattle.zvt_stream.specs.Feeds.{Feeds, Lends}
 use Rattle.zvt_stream.specs.Judge.{HasLevelsBy, HasLevelsIn, JudgeState, IsMessageIn, Ran, StandsFor, start}
 use Rattle.zvt_stream.specs.Lending.{LentBytes, lent_of, held_of}
-use Rattle.zvt_stream.specs.StreamState.{StreamState, IsSound, Keeps, opening_of}
+use Rattle.zvt_stream.specs.StreamState.{StreamState, IsSound, Keeps}
 use Rattle.zvt_stream.specs.declared.stream.Fed.TheVariants as fed
 use Rattle.zvt_stream.specs.declared.stream.FedView.TheVariants as view
 use Rattle.zvt_stream.specs.declared.judge.DecodeRun.{DecodeRun}
@@ -89,10 +89,10 @@ pub record Idle (o refused has_message : Bool) (bytes : List ℕ) (judge : Judge
   pub passing : refused ≡ true → o ≡ true → IsPassing judge bytes
   pub stopped : stops refused o ≡ old.stopped
 
-pub idle : (o refused has_message : Bool) (bytes : List ℕ) (s : LentBytes has_message refused bytes) (room judged : ℕ) (opening : List ℕ) (judge : JudgeState) (old now : StreamState)
-    → (let state : StreamState = record { held = held_of has_message bytes; stopped = stops refused o; lent = lent_of has_message refused bytes s; room = room; judged = judged; reading = line_reading o judge.reading; opening = opening } in state) ≡ now → Keeps old now
+pub idle : (o refused has_message : Bool) (bytes : List ℕ) (s : LentBytes has_message refused bytes) (room judged : ℕ) (dead_bytes : List ℕ) (judge : JudgeState) (old now : StreamState)
+    → (let state : StreamState = record { held = held_of has_message bytes; stopped = stops refused o; lent = lent_of has_message refused bytes s; room = room; judged = judged; reading = line_reading o judge.reading; refused_bytes = dead_bytes } in state) ≡ now → Keeps old now
     → IsSound (line_reading o judge.reading) (held_of has_message bytes) (stops refused o) × StandsFor judge (judged_bytes refused (held_of has_message bytes)) × Knows o refused has_message judge bytes → Idle o refused has_message bytes judge old
-idle o false false bytes s room judged opening judge old now is keeps sound = record {
+idle o false false bytes s room judged dead_bytes judge old now is keeps sound = record {
   idle = refl;
   is_held = ap (λ (t : StreamState). t.held) is ∙ keeps.0;
   alike = ap (λ (t : StreamState). t.reading) is ∙ keeps.3;
@@ -101,7 +101,7 @@ idle o false false bytes s room judged opening judge old now is keeps sound = re
   passing = λ e. absurd (cc (e));
   stopped = ap (λ (t : StreamState). t.stopped) is ∙ keeps.1;
 }
-idle false true false bytes s room judged opening judge old now is keeps sound = record {
+idle false true false bytes s room judged dead_bytes judge old now is keeps sound = record {
   idle = refl;
   is_held = ap (λ (t : StreamState). t.held) is ∙ keeps.0;
   alike = ap (λ (t : StreamState). t.reading) is ∙ keeps.3;
@@ -110,7 +110,7 @@ idle false true false bytes s room judged opening judge old now is keeps sound =
   passing = λ e f. absurd (cc (f));
   stopped = ap (λ (t : StreamState). t.stopped) is ∙ keeps.1;
 }
-idle true true false bytes s room judged opening judge old now is keeps sound = record {
+idle true true false bytes s room judged dead_bytes judge old now is keeps sound = record {
   idle = refl;
   is_held = ap (λ (t : StreamState). t.held) is ∙ keeps.0;
   alike = ap (λ (t : StreamState). t.reading) is ∙ keeps.3;
@@ -119,8 +119,8 @@ idle true true false bytes s room judged opening judge old now is keeps sound = 
   passing = λ e f. sound.2;
   stopped = ap (λ (t : StreamState). t.stopped) is ∙ keeps.1;
 }
-idle o false true bytes s room judged opening judge old now is keeps sound = absurd (some_is_none (ap (λ (t : StreamState). t.lent) is ∙ keeps.2))
-idle o true true bytes s room judged opening judge old now is keeps sound = absurd (some_is_none (ap (λ (t : StreamState). t.lent) is ∙ keeps.2))
+idle o false true bytes s room judged dead_bytes judge old now is keeps sound = absurd (some_is_none (ap (λ (t : StreamState). t.lent) is ∙ keeps.2))
+idle o true true bytes s room judged dead_bytes judge old now is keeps sound = absurd (some_is_none (ap (λ (t : StreamState). t.lent) is ∙ keeps.2))
 
 -- what a run of a judge says, of a reading that is the judge's
 pub ran_in : (r : Reading) (judge : JudgeState) (bytes piece : List ℕ) (q : DecodeRun) (new : JudgeState) → judge.reading ≡ r → Ran judge.reading bytes piece q new → Ran r bytes piece q new
@@ -156,41 +156,41 @@ runs false o e = refl
 runs true o e = absurd (cc (e))
 
 -- what a feed gives where no message ended
-pub feeds_more : (o refused has_message : Bool) (bytes piece after : List ℕ) (lent : Option Message) (room judged : ℕ) (opening : List ℕ) (judge new : JudgeState) (old : StreamState)
+pub feeds_more : (o refused has_message : Bool) (bytes piece after : List ℕ) (lent : Option Message) (room judged : ℕ) (dead_bytes : List ℕ) (judge new : JudgeState) (old : StreamState)
     → Idle o refused has_message bytes judge old → StandsFor new (bytes ++ piece) × (new.reading ≡ judge.reading) → after ≡ bytes ++ piece → refused ≡ false
-    → Feeds old piece fed.More (let state : StreamState = record { held = held_of has_message after; stopped = stops refused o; lent = lent; room = room; judged = judged; reading = line_reading o new.reading; opening = opening } in state)
-feeds_more o refused false bytes piece after lent room judged opening judge new old i s is reads =
+    → Feeds old piece fed.More (let state : StreamState = record { held = held_of has_message after; stopped = stops refused o; lent = lent; room = room; judged = judged; reading = line_reading o new.reading; refused_bytes = dead_bytes } in state)
+feeds_more o refused false bytes piece after lent room judged dead_bytes judge new old i s is reads =
     let same : bytes ++ piece ≡ old.held ++ piece = ap (λ (b : List ℕ). b ++ piece) i.is_held in
     let alike : line_reading o new.reading ≡ old.reading = ap (line_reading o) s.1 ∙ i.alike in
     (subst (UnfinishedBy old.reading) same (subst (λ (l : LineReading). UnfinishedBy l (bytes ++ piece)) alike (unfinished_line o new.reading (bytes ++ piece) s.0.unfinished)), (is ∙ same, runs refused o reads), alike)
-feeds_more o refused true bytes piece after lent room judged opening judge new old i s is reads = absurd (cc (i.idle))
+feeds_more o refused true bytes piece after lent room judged dead_bytes judge new old i s is reads = absurd (cc (i.idle))
 
 up_to : (at : ℕ) (bytes piece : List ℕ) → bytes ++ take (at + 1) piece ≡ take (suc (length bytes + at)) (bytes ++ piece)
 up_to at bytes piece = sym (take-append-add bytes piece (at + 1)) ∙ ap (λ (n : ℕ). take n (bytes ++ piece)) {y = suc (length bytes + at)} (omega arith)
 
 -- and where bytes were refused
-pub feeds_refused : (o refused has_message : Bool) (bytes piece after : List ℕ) (lent : Option Message) (opening : List ℕ) (room judged at place : ℕ) (why : Why) (judge new : JudgeState) (old : StreamState)
-    → Idle o refused has_message bytes judge old → refused ≡ false → o ≡ false → Ran judge.reading bytes piece (run.Refused at why) new → place ≡ length bytes + at → after ≡ [] → opening ≡ opening_of (bytes ++ take (at + 1) piece)
-    → Feeds old piece (fed.Refused place why) (let state : StreamState = record { held = held_of has_message after; stopped = stops true o; lent = lent; room = room; judged = judged; reading = line_reading o new.reading; opening = opening } in state)
-feeds_refused false refused false bytes piece after lent opening room judged at place why judge new old i reads strict ran is none opens =
+pub feeds_refused : (o refused has_message : Bool) (bytes piece after : List ℕ) (lent : Option Message) (dead_bytes : List ℕ) (room judged at place : ℕ) (why : Why) (judge new : JudgeState) (old : StreamState)
+    → Idle o refused has_message bytes judge old → refused ≡ false → o ≡ false → Ran judge.reading bytes piece (run.Refused at why) new → place ≡ length bytes + at → after ≡ [] → dead_bytes ≡ bytes ++ take (at + 1) piece
+    → Feeds old piece (fed.Refused place why) (let state : StreamState = record { held = held_of has_message after; stopped = stops true o; lent = lent; room = room; judged = judged; reading = line_reading o new.reading; refused_bytes = dead_bytes } in state)
+feeds_refused false refused false bytes piece after lent dead_bytes room judged at place why judge new old i reads strict ran is none opens =
     let out = ran_out judge.reading new bytes piece at why (i.stands reads).unfinished ran in
     let alike : strictly new.reading ≡ old.reading = ap (λ (j : JudgeState). strictly j.reading) ran.2 ∙ i.alike in
     let refusal : IsRefusedBy old.reading (bytes ++ piece) (length bytes + at) why = subst (λ (l : LineReading). IsRefusedBy l (bytes ++ piece) (length bytes + at) why) i.alike out.0 in
-    rw (← i.is_held, is) (refusal, out.1, (none, refl), alike, opens ∙ ap opening_of (up_to at bytes piece))
-feeds_refused false refused true bytes piece after lent opening room judged at place why judge new old i reads strict ran is none opens = absurd (cc (i.idle))
-feeds_refused true refused has_message bytes piece after lent opening room judged at place why judge new old i reads strict ran is none opens = absurd (cc (strict))
+    rw (← i.is_held, is) (refusal, out.1, (none, refl), alike, opens ∙ up_to at bytes piece)
+feeds_refused false refused true bytes piece after lent dead_bytes room judged at place why judge new old i reads strict ran is none opens = absurd (cc (i.idle))
+feeds_refused true refused has_message bytes piece after lent dead_bytes room judged at place why judge new old i reads strict ran is none opens = absurd (cc (strict))
 
 -- and where a message ended, which is borrowed
-pub lends_message : (o refused : Bool) (bytes piece after : List ℕ) (s : LentBytes true refused after) (opening : List ℕ) (room judged taken : ℕ) (judge new : JudgeState) (has_message : Bool) (old : StreamState)
+pub lends_message : (o refused : Bool) (bytes piece after : List ℕ) (s : LentBytes true refused after) (dead_bytes : List ℕ) (room judged taken : ℕ) (judge new : JudgeState) (has_message : Bool) (old : StreamState)
     → Idle o refused has_message bytes judge old → Ran judge.reading bytes piece (run.Ended taken) new → after ≡ bytes ++ take taken piece → refused ≡ false
-    → Lends old piece (view.Message taken) (let state : StreamState = record { held = []; stopped = stops refused o; lent = lent_of true refused after s; room = room; judged = judged; reading = line_reading o new.reading; opening = opening } in state)
-lends_message o false bytes piece after s opening room judged taken judge new has_message old i ran is reads =
+    → Lends old piece (view.Message taken) (let state : StreamState = record { held = []; stopped = stops refused o; lent = lent_of true refused after s; room = room; judged = judged; reading = line_reading o new.reading; refused_bytes = dead_bytes } in state)
+lends_message o false bytes piece after s dead_bytes room judged taken judge new has_message old i ran is reads =
     let r = judge.reading in
     let whole : IsMessageIn r after = subst (IsMessageIn r) (sym is) ran.2 in
     let found : Reads old.reading whole.0 after = subst (λ (l : LineReading). Reads l whole.0 after) i.alike (reads_line o r whole.0 after whole.1) in
     let here : Reads old.reading whole.0 (old.held ++ take taken piece) = subst (Reads old.reading whole.0) (is ∙ ap (λ (b : List ℕ). b ++ take taken piece) i.is_held) found in
     (whole.0, (ran.0, ran.1, here, (refl, refl), ap (λ (j : JudgeState). line_reading o j.reading) ran.3 ∙ i.alike), ap Some (same_message whole.0 after ∣ loosened r whole.0 after whole.1 ∣₁ (s refl refl)))
-lends_message o true bytes piece after s opening room judged taken judge new has_message old i ran is reads = absurd (cc (reads))
+lends_message o true bytes piece after s dead_bytes room judged taken judge new has_message old i ran is reads = absurd (cc (reads))
 
 -- a feed whose message is the one that is shown
 pub feeds_shown : (old new : StreamState) (piece : List ℕ) (taken : ℕ) (shown : Option Message) (apdu : Message) → Lends old piece (view.Message taken) new → shown ≡ new.lent → shown ≡ Some apdu → Feeds old piece (fed.Message apdu taken) new
@@ -210,13 +210,13 @@ pub kept_none : (bytes piece old new : List ℕ) → new ≡ old ++ take 0 piece
 kept_none bytes piece old new is same = is ∙ append-nil old ∙ same
 
 -- and where a message ended, which is built
-pub feeds_message : (o refused has_message : Bool) (bytes piece final : List ℕ) (apdu : Message) (lent : Option Message) (opening : List ℕ) (room judged taken : ℕ) (judge new : JudgeState) (old : StreamState)
+pub feeds_message : (o refused has_message : Bool) (bytes piece final : List ℕ) (apdu : Message) (lent : Option Message) (dead_bytes : List ℕ) (room judged taken : ℕ) (judge new : JudgeState) (old : StreamState)
     → Idle o refused has_message bytes judge old → Ran judge.reading bytes piece (run.Ended taken) new → Spells judge.reading apdu (bytes ++ take taken piece) → final ≡ [] → refused ≡ false
-    → Feeds old piece (fed.Message apdu taken) (let state : StreamState = record { held = held_of has_message final; stopped = stops refused o; lent = lent; room = room; judged = judged; reading = line_reading o new.reading; opening = opening } in state)
-feeds_message o refused false bytes piece final apdu lent opening room judged taken judge new old i ran spells none reads =
+    → Feeds old piece (fed.Message apdu taken) (let state : StreamState = record { held = held_of has_message final; stopped = stops refused o; lent = lent; room = room; judged = judged; reading = line_reading o new.reading; refused_bytes = dead_bytes } in state)
+feeds_message o refused false bytes piece final apdu lent dead_bytes room judged taken judge new old i ran spells none reads =
     let found : Reads old.reading apdu (bytes ++ take taken piece) = subst (λ (l : LineReading). Reads l apdu (bytes ++ take taken piece)) i.alike (reads_line o judge.reading apdu (bytes ++ take taken piece) spells) in
     (ran.0, ran.1, subst (λ (b : List ℕ). Reads old.reading apdu (b ++ take taken piece)) i.is_held found, (none, runs refused o reads), ap (λ (j : JudgeState). line_reading o j.reading) ran.3 ∙ i.alike)
-feeds_message o refused true bytes piece final apdu lent opening room judged taken judge new old i ran spells none reads = absurd (cc (i.idle))
+feeds_message o refused true bytes piece final apdu lent dead_bytes room judged taken judge new old i ran spells none reads = absurd (cc (i.idle))
 
 -- how many levels are open
 pub levels_by : (o refused has_message : Bool) (judge : JudgeState) (bytes : List ℕ) (n : ℕ) → IsSound (line_reading o judge.reading) (held_of has_message bytes) (stops refused o) × StandsFor judge (judged_bytes refused (held_of has_message bytes)) × Knows o refused has_message judge bytes
@@ -228,5 +228,3 @@ levels_by true true true judge bytes n s levels one some = absurd (omega (arith,
 levels_by false true has_message judge bytes n s levels one some = absurd (omega (arith, some, ap length (s.0.none_held refl)))
 
 -- the first bytes of a refused message
-pub opens_by : (bytes piece held last : List ℕ) (opening : List ℕ) (at : ℕ) → opening ≡ opening_of (held ++ last) → held ≡ bytes → last ≡ take (at + 1) piece → opening ≡ opening_of (bytes ++ take (at + 1) piece)
-opens_by bytes piece held last opening at opens is rest = opens ∙ ap (λ (b : List ℕ). opening_of (b ++ last)) is ∙ ap (λ (l : List ℕ). opening_of (bytes ++ l)) rest

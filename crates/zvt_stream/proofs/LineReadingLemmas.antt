@@ -30,7 +30,7 @@ bounds_by (openly r) m bytes p = by_item p.0 p.1
   where
     by_item : (item : OpenItem) → OpenSpells r item bytes → (2 < length bytes) × (length bytes ≤ 65540)
     by_item (read n) q = bounds_in r n bytes q
-    by_item (unread high low size place byte why) q = frame_bounds high low bytes q.0
+    by_item (unread high low size before byte why) q = frame_bounds high low bytes q.0
 
 pub nothing_by : (l : LineReading) → UnfinishedBy l []
 nothing_by (strictly r) = nothing_in r

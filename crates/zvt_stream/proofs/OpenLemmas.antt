@@ -68,7 +68,7 @@ message_frame r m b p =
 
 pub item_frame : (r : Reading) (item : OpenItem) (b : List ℕ) → OpenSpells r item b → IsFramed b
 item_frame r (read m) b p = message_frame r m b p
-item_frame r (unread high low size place byte why) b p = (high, low, p.0)
+item_frame r (unread high low size before byte why) b p = (high, low, p.0)
 
 pub record SameFrame (high low k l : ℕ) (a b : List ℕ) : Type 0 where
   pub highs : high ≡ k
@@ -122,6 +122,18 @@ decided r (x ∷ more) before u are = stands (λ v. decided r more (before ++ x 
     stands others p = by_fault others p.0 p.1 p.2 (fault r p.1 x) refl
 
 -- a frame is a message, or is refused
+-- where a byte is, the list is split
+split_at : (l : List ℕ) (n x : ℕ) → slice_get l n ≡ Some x → l ≡ take n l ++ x ∷ drop (suc n) l
+split_at [] n x e = absurd (cc (e))
+split_at (y ∷ l) zero x e = let same : y ≡ x = cc (e) in ap (λ (z : ℕ). z ∷ l) same
+split_at (y ∷ l) (suc n) x e = ap (λ (t : List ℕ). y ∷ t) (split_at l n x e)
+
+pub refused_split : (r : Reading) (b : List ℕ) (place : ℕ) (why : Why) → (p : IsRefusedIn r b place why) → (later : List ℕ) × (b ≡ take place b ++ p.2.byte ∷ later)
+refused_split r b place why p = (drop (suc place) b, split_at b place p.2.byte p.2.is_byte)
+
+pub refused_there : (r : Reading) (b : List ℕ) (place : ℕ) (why : Why) → IsRefusedIn r b place why → IsRefusedIn r b (length (take place b)) why
+refused_there r b place why p = subst (λ (n : ℕ). IsRefusedIn r b n why) (sym (length-take-le place b (omega (arith, p.1.present)))) p
+
 pub frame_item : (r : Reading) (b : List ℕ) → IsFramed b → AreBytes b → (item : OpenItem) × OpenSpells r item b
 frame_item r b f are = by_decision (decided r b [] (nothing_in r) are)
   where
@@ -136,7 +148,7 @@ frame_item r b f are = by_decision (decided r b [] (nothing_in r) are)
     by_decision (begins m prefix later e p) =
         let same = (frames_end prefix b later [] (message_frame r m prefix p) f (sym e ∙ sym (append-nil b))).same in
         (read m, subst (Spells r m) same p)
-    by_decision (refused place why p) = (unread f.0 f.1 (length b) place p.2.byte why, (f.2, refl, p, p.2.is_byte))
+    by_decision (refused place why p) = (unread f.0 f.1 (length b) (take place b) p.2.byte why, (f.2, refl, refused_there r b place why p, refused_split r b place why p))
 
 -- ---- the first frame
 
@@ -188,21 +200,31 @@ none_yet r bytes more some f item prefix rest e p =
 
 -- ---- laws
 
+same_start : (a b : List ℕ) (x y : ℕ) (more others : List ℕ) → a ++ x ∷ more ≡ b ++ y ∷ others → length a ≡ length b → (a ≡ b) × (x ≡ y)
+same_start [] [] x y more others e same = (refl, cc (e))
+same_start [] (z ∷ b) x y more others e same = absurd (omega (arith, same))
+same_start (z ∷ a) [] x y more others e same = absurd (omega (arith, same))
+same_start (z ∷ a) (w ∷ b) x y more others e same =
+    let heads : z ≡ w = cc (e) in
+    let tails : a ++ x ∷ more ≡ b ++ y ∷ others = cc (e) in
+    let rest = same_start a b x y more others tails (omega (arith, same)) in
+    (cc (heads, rest.0), rest.1)
+
 pub ends_itself : (r : Reading) → EndThemselves (OpenSpells r)
 ends_itself r (read m) (read n) a b x y p q e = let one = messages_end_themselves r m n a b x y p q e in (ap read one.0, one.1)
-ends_itself r (read m) (unread high low size place byte why) a b x y p q e =
+ends_itself r (read m) (unread high low size before byte why) a b x y p q e =
     let same = (frames_end a b x y (message_frame r m a p) (high, low, q.0) e).same in
     absurd (q.2.0 m a [] (sym same ∙ sym (append-nil a)) p)
-ends_itself r (unread high low size place byte why) (read m) a b x y p q e =
+ends_itself r (unread high low size before byte why) (read m) a b x y p q e =
     let same = (frames_end a b x y (high, low, p.0) (message_frame r m b q) e).same in
     absurd (p.2.0 m b [] (same ∙ sym (append-nil b)) q)
-ends_itself r (unread high low size place byte why) (unread h l s k c w) a b x y p q e =
+ends_itself r (unread high low size before byte why) (unread h l s first c w) a b x y p q e =
     let one = frames_end a b x y (high, low, p.0) (h, l, q.0) e in
-    let other : IsRefusedIn r a k w = subst (λ (d : List ℕ). IsRefusedIn r d k w) (sym one.same) q.2 in
-    let refusals = refusals_are_one r place k a why w p.2.1 other.1 p.2.2 other.2 in
+    let other : IsRefusedIn r a (length first) w = subst (λ (d : List ℕ). IsRefusedIn r d (length first) w) (sym one.same) q.2 in
+    let refusals = refusals_are_one r (length before) (length first) a why w p.2.1 other.1 p.2.2 other.2 in
     let sizes : size ≡ s = p.1 ∙ ap length one.same ∙ sym q.1 in
-    let bytes : Some byte ≡ Some c = sym p.3 ∙ ap (λ (d : List ℕ). slice_get d place) one.same ∙ ap (slice_get b) refusals.0 ∙ q.3 in
-    (cc (one.highs, one.lows, sizes, refusals.0, bytes, refusals.1), one.same)
+    let starts = same_start before first byte c p.3.0 q.3.0 (sym p.3.1 ∙ one.same ∙ q.3.1) refusals.0 in
+    (cc (one.highs, one.lows, sizes, starts.0, starts.1, refusals.1), one.same)
 
 pub open_cuts_are_one : (r : Reading) → OpenCutsAreOne r
 open_cuts_are_one r = record { one = cuts_are_one (OpenSpells r) (ends_itself r); prefixes = prefixes_of_cut (OpenSpells r) (ends_itself r); growth = grows (OpenSpells r) (ends_itself r) }
@@ -237,7 +259,8 @@ spelled_open r bytes (m ∷ ms) rest s = (s.0, s.1, s.2, s.3, spelled_open r s.1
 -- what is alive begins with no refused frame
 pub alive_none : (r : Reading) (rest : List ℕ) → NoneWhole (Spells r) rest → AliveIn r rest → NoneWhole (OpenSpells r) rest
 alive_none r rest none a (read m) prefix later e p = none m prefix later e p
-alive_none r rest none a (unread high low size place byte why) prefix later e p =
+alive_none r rest none a (unread high low size before byte why) prefix later e p =
+    let place = length before in
     let first = take (suc place) prefix in
     let others = drop (suc place) prefix ++ later in
     let whole : rest ≡ first ++ others = e ∙ ap (λ (s : List ℕ). s ++ later) (sym (take-append-drop (suc place) prefix)) ∙ append_assoc first (drop (suc place) prefix) later in

@@ -56,7 +56,7 @@ at_a_name = record {
 }
 
 -- 06 0F 04 F0 F0 F0 00, the completion of a status enquiry: a frame of 7 bytes, and no field has the BMP F0
-an_enquiry : OpenSpells shortest (unread 0x06 0x0F 7 3 0xF0 UnknownField) ((0x06 ∷ 0x0F ∷ 0x04 ∷ 0xF0 ∷ []) ++ 0xF0 ∷ 0xF0 ∷ 0x00 ∷ [])
+an_enquiry : OpenSpells shortest (unread 0x06 0x0F 7 (0x06 ∷ 0x0F ∷ 0x04 ∷ []) 0xF0 UnknownField) ((0x06 ∷ 0x0F ∷ 0x04 ∷ 0xF0 ∷ []) ++ 0xF0 ∷ 0xF0 ∷ 0x00 ∷ [])
 unfolding form_of shape_of
 an_enquiry = (
   record { size = 0x04 ∷ []; content = 0xF0 ∷ 0xF0 ∷ 0xF0 ∷ 0x00 ∷ []; whole = refl; are_bytes = (omega arith, omega arith); is_size = (omega arith, refl) },
@@ -64,13 +64,13 @@ an_enquiry = (
   refused_more shortest (0x06 ∷ 0x0F ∷ 0x04 ∷ 0xF0 ∷ []) (0xF0 ∷ 0xF0 ∷ 0x00 ∷ []) 3 UnknownField
       (refuses_at shortest [] (in_fields name 3) (0x06 ∷ 0x0F ∷ 0x04 ∷ []) 0xF0 UnknownField (omega arith)
       (longer_unfinished shortest (completion (plain 0x22 (0x55 ∷ []) ∷ [])) (0x06 ∷ 0x0F ∷ 0x04 ∷ []) (0xF0 ∷ 0xF1 ∷ 0x55 ∷ []) 0x22 a_completion) at_a_name refl),
-  refl,
+  (0xF0 ∷ 0xF0 ∷ 0x00 ∷ [], refl),
 )
 
 -- an open line reads it as a completion without fields
 an_unread_completion : Reads (openly shortest) (completion []) ((0x06 ∷ 0x0F ∷ 0x04 ∷ 0xF0 ∷ []) ++ 0xF0 ∷ 0xF0 ∷ 0x00 ∷ [])
 unfolding kind_at
-an_unread_completion = (unread 0x06 0x0F 7 3 0xF0 UnknownField, an_enquiry, refl)
+an_unread_completion = (unread 0x06 0x0F 7 (0x06 ∷ 0x0F ∷ 0x04 ∷ []) 0xF0 UnknownField, an_enquiry, refl)
 
 -- and a message as itself
 a_read_ack : Reads (openly shortest) (ack []) (0x80 ∷ 0x00 ∷ 0x00 ∷ [])

@@ -23,7 +23,7 @@ use Rattle.zvt_stream.specs.declared.stream.FedView.{FedView}
 use Rattle.zvt_stream.specs.declared.stream.Fed.TheVariants as fed
 use Rattle.zvt_stream.proofs.FeedLemmas.{refused_more, sound_empty}
 use Rattle.zvt_stream.proofs.JudgeLemmas.{begun_anew_stands}
-use Rattle.zvt_stream.proofs.OpenLemmas.{Opens, bytes_joined, frame_item, framed, frames_end, message_frame, none_yet, opens, short}
+use Rattle.zvt_stream.proofs.OpenLemmas.{Opens, bytes_joined, frame_item, framed, frames_end, message_frame, none_yet, opens, refused_split, refused_there, short}
 
 -- a frame that begins a message is the message
 pub whole_frame : (r : Reading) (m : Message) (b more prefix rest : List ℕ) → b ≡ prefix ++ rest → IsFramed prefix → Spells r m (b ++ more) → Spells r m prefix
@@ -93,7 +93,7 @@ passing_unfinished r b are none = by_opening (opens b are)
 -- a refused frame is read as its stand-in
 pub unread_read : (r : Reading) (b : List ℕ) (place : ℕ) (why : Why) → IsFramed b → IsRefusedIn r b place why → Reads (openly r) (stand_in (kind_named (head_of b))) b
 unread_read r b place why (high, low, f) refused =
-    (unread high low (length b) place refused.2.byte why, (f, refl, refused, refused.2.is_byte), sym (ap (λ (s : List ℕ). stand_in (kind_named (head_of s))) f.whole))
+    (unread high low (length b) (take place b) refused.2.byte why, (f, refl, refused_there r b place why refused, refused_split r b place why refused), sym (ap (λ (s : List ℕ). stand_in (kind_named (head_of s))) f.whole))
 
 -- ---- what a stream has then
 
@@ -154,23 +154,23 @@ reading_after : (r : Reading) (after : List ℕ) (passed : Option ℕ) (judge : 
 reading_after r after (Some taken) judge rests = ap (λ (j : JudgeState). j.reading) rests
 reading_after r after None judge rests = rests.2
 
-pub lends_passed : (r : Reading) (bytes piece after : List ℕ) (place : ℕ) (why : Why) (judge : JudgeState) (passed : Option ℕ) (has_message : Bool) (s : LentBytes has_message true after) (room judged : ℕ) (opening : List ℕ) (old : StreamState)
+pub lends_passed : (r : Reading) (bytes piece after : List ℕ) (place : ℕ) (why : Why) (judge : JudgeState) (passed : Option ℕ) (has_message : Bool) (s : LentBytes has_message true after) (room judged : ℕ) (dead_bytes : List ℕ) (old : StreamState)
     → Dead r bytes piece place why → NoFrame bytes → Passes bytes piece passed after → Rests r after passed judge → has_message ≡ is_some passed → bytes ≡ old.held → openly r ≡ old.reading
-    → Lends old piece (seen_as passed) (let state : StreamState = record { held = held_of has_message after; stopped = false; lent = lent_of has_message true after s; room = room; judged = judged; reading = openly judge.reading; opening = opening } in state)
-lends_passed r bytes piece after place why judge (Some taken) true s room judged opening old dead none p rests e is_held alike =
-    (stand_in (kind_named (head_of after)), feeds_frame r bytes piece after place taken why old (record { held = []; stopped = false; lent = Some (stand_in (kind_named (head_of after))); room = room; judged = judged; reading = openly judge.reading; opening = opening }) dead none p is_held alike (refl, refl) (ap openly (reading_after r after (Some taken) judge rests)), refl)
-lends_passed r bytes piece after place why judge None false s room judged opening old dead none p rests e is_held alike =
-    (feeds_part r bytes piece after old (record { held = after; stopped = false; lent = None; room = room; judged = judged; reading = openly judge.reading; opening = opening }) p is_held alike (refl, refl) (ap openly (reading_after r after None judge rests)), refl)
-lends_passed r bytes piece after place why judge (Some taken) false s room judged opening old dead none p rests e is_held alike = absurd (cc (e))
-lends_passed r bytes piece after place why judge None true s room judged opening old dead none p rests e is_held alike = absurd (cc (e))
+    → Lends old piece (seen_as passed) (let state : StreamState = record { held = held_of has_message after; stopped = false; lent = lent_of has_message true after s; room = room; judged = judged; reading = openly judge.reading; refused_bytes = dead_bytes } in state)
+lends_passed r bytes piece after place why judge (Some taken) true s room judged dead_bytes old dead none p rests e is_held alike =
+    (stand_in (kind_named (head_of after)), feeds_frame r bytes piece after place taken why old (record { held = []; stopped = false; lent = Some (stand_in (kind_named (head_of after))); room = room; judged = judged; reading = openly judge.reading; refused_bytes = dead_bytes }) dead none p is_held alike (refl, refl) (ap openly (reading_after r after (Some taken) judge rests)), refl)
+lends_passed r bytes piece after place why judge None false s room judged dead_bytes old dead none p rests e is_held alike =
+    (feeds_part r bytes piece after old (record { held = after; stopped = false; lent = None; room = room; judged = judged; reading = openly judge.reading; refused_bytes = dead_bytes }) p is_held alike (refl, refl) (ap openly (reading_after r after None judge rests)), refl)
+lends_passed r bytes piece after place why judge (Some taken) false s room judged dead_bytes old dead none p rests e is_held alike = absurd (cc (e))
+lends_passed r bytes piece after place why judge None true s room judged dead_bytes old dead none p rests e is_held alike = absurd (cc (e))
 
-pub feeds_passed : (r : Reading) (bytes piece after final : List ℕ) (place : ℕ) (why : Why) (judge : JudgeState) (passed : Option ℕ) (found : Fed) (lent : Option Message) (room judged : ℕ) (opening : List ℕ) (old : StreamState)
+pub feeds_passed : (r : Reading) (bytes piece after final : List ℕ) (place : ℕ) (why : Why) (judge : JudgeState) (passed : Option ℕ) (found : Fed) (lent : Option Message) (room judged : ℕ) (dead_bytes : List ℕ) (old : StreamState)
     → Dead r bytes piece place why → NoFrame bytes → Passes bytes piece passed after → Rests r after passed judge → HearsFrame after passed found final → bytes ≡ old.held → openly r ≡ old.reading
-    → Feeds old piece found (let state : StreamState = record { held = final; stopped = false; lent = lent; room = room; judged = judged; reading = openly judge.reading; opening = opening } in state)
-feeds_passed r bytes piece after final place why judge (Some taken) found lent room judged opening old dead none p rests h is_held alike =
-    rw h.0 (feeds_frame r bytes piece after place taken why old (record { held = final; stopped = false; lent = lent; room = room; judged = judged; reading = openly judge.reading; opening = opening }) dead none p is_held alike (h.1, refl) (ap openly (reading_after r after (Some taken) judge rests)))
-feeds_passed r bytes piece after final place why judge None found lent room judged opening old dead none p rests h is_held alike =
-    rw h.0 (feeds_part r bytes piece after old (record { held = final; stopped = false; lent = lent; room = room; judged = judged; reading = openly judge.reading; opening = opening }) p is_held alike (h.1, refl) (ap openly (reading_after r after None judge rests)))
+    → Feeds old piece found (let state : StreamState = record { held = final; stopped = false; lent = lent; room = room; judged = judged; reading = openly judge.reading; refused_bytes = dead_bytes } in state)
+feeds_passed r bytes piece after final place why judge (Some taken) found lent room judged dead_bytes old dead none p rests h is_held alike =
+    rw h.0 (feeds_frame r bytes piece after place taken why old (record { held = final; stopped = false; lent = lent; room = room; judged = judged; reading = openly judge.reading; refused_bytes = dead_bytes }) dead none p is_held alike (h.1, refl) (ap openly (reading_after r after (Some taken) judge rests)))
+feeds_passed r bytes piece after final place why judge None found lent room judged dead_bytes old dead none p rests h is_held alike =
+    rw h.0 (feeds_part r bytes piece after old (record { held = final; stopped = false; lent = lent; room = room; judged = judged; reading = openly judge.reading; refused_bytes = dead_bytes }) p is_held alike (h.1, refl) (ap openly (reading_after r after None judge rests)))
 
 -- as many bytes are taken where the stand-in is taken out
 pub same_taken : (old : StreamState) (piece after final : List ℕ) (passed : Option ℕ) (found : Fed) → HearsFrame after passed found final → taken_by old piece found ≡ taken_in_view old piece (seen_as passed)
@@ -202,18 +202,18 @@ heard_kept true r bytes piece after final place why judge passed found true fals
 heard_kept false r bytes piece after final place why judge passed found refused has_message e f dead p rests g h = absurd (cc (e))
 heard_kept true r bytes piece after final place why judge passed found refused true e f dead p rests g h = absurd (cc (f))
 
-pub lends_by : (o refused : Bool) (r : Reading) (bytes piece after : List ℕ) (place : ℕ) (why : Why) (judge : JudgeState) (passed : Option ℕ) (found : FedView) (has_message : Bool) (s : LentBytes has_message refused after) (room judged : ℕ) (opening : List ℕ) (old : StreamState)
+pub lends_by : (o refused : Bool) (r : Reading) (bytes piece after : List ℕ) (place : ℕ) (why : Why) (judge : JudgeState) (passed : Option ℕ) (found : FedView) (has_message : Bool) (s : LentBytes has_message refused after) (room judged : ℕ) (dead_bytes : List ℕ) (old : StreamState)
     → o ≡ true → refused ≡ true → Dead r bytes piece place why → NoFrame bytes → Passes bytes piece passed after → Rests r after passed judge → has_message ≡ is_some passed → found ≡ seen_as passed → bytes ≡ old.held → line_reading o r ≡ old.reading
-    → Lends old piece found (let state : StreamState = record { held = held_of has_message after; stopped = stops refused o; lent = lent_of has_message refused after s; room = room; judged = judged; reading = line_reading o judge.reading; opening = opening } in state)
-lends_by true true r bytes piece after place why judge passed found has_message s room judged opening old e f dead none p rests g is is_held alike =
-    rw is (lends_passed r bytes piece after place why judge passed has_message s room judged opening old dead none p rests g is_held alike)
-lends_by false refused r bytes piece after place why judge passed found has_message s room judged opening old e f dead none p rests g is is_held alike = absurd (cc (e))
-lends_by true false r bytes piece after place why judge passed found has_message s room judged opening old e f dead none p rests g is is_held alike = absurd (cc (f))
+    → Lends old piece found (let state : StreamState = record { held = held_of has_message after; stopped = stops refused o; lent = lent_of has_message refused after s; room = room; judged = judged; reading = line_reading o judge.reading; refused_bytes = dead_bytes } in state)
+lends_by true true r bytes piece after place why judge passed found has_message s room judged dead_bytes old e f dead none p rests g is is_held alike =
+    rw is (lends_passed r bytes piece after place why judge passed has_message s room judged dead_bytes old dead none p rests g is_held alike)
+lends_by false refused r bytes piece after place why judge passed found has_message s room judged dead_bytes old e f dead none p rests g is is_held alike = absurd (cc (e))
+lends_by true false r bytes piece after place why judge passed found has_message s room judged dead_bytes old e f dead none p rests g is is_held alike = absurd (cc (f))
 
-pub feeds_by : (o : Bool) (r : Reading) (bytes piece after final : List ℕ) (place : ℕ) (why : Why) (judge : JudgeState) (passed : Option ℕ) (found : Fed) (refused has_message : Bool) (lent : Option Message) (room judged : ℕ) (opening : List ℕ) (old : StreamState)
+pub feeds_by : (o : Bool) (r : Reading) (bytes piece after final : List ℕ) (place : ℕ) (why : Why) (judge : JudgeState) (passed : Option ℕ) (found : Fed) (refused has_message : Bool) (lent : Option Message) (room judged : ℕ) (dead_bytes : List ℕ) (old : StreamState)
     → o ≡ true → has_message ≡ false → Dead r bytes piece place why → NoFrame bytes → Passes bytes piece passed after → Rests r after passed judge → HearsFrame after passed found final → bytes ≡ old.held → line_reading o r ≡ old.reading
-    → Feeds old piece found (let state : StreamState = record { held = held_of has_message final; stopped = stops refused o; lent = lent; room = room; judged = judged; reading = line_reading o judge.reading; opening = opening } in state)
-feeds_by true r bytes piece after final place why judge passed found true false lent room judged opening old e f dead none p rests h is_held alike = feeds_passed r bytes piece after final place why judge passed found lent room judged opening old dead none p rests h is_held alike
-feeds_by true r bytes piece after final place why judge passed found false false lent room judged opening old e f dead none p rests h is_held alike = feeds_passed r bytes piece after final place why judge passed found lent room judged opening old dead none p rests h is_held alike
-feeds_by false r bytes piece after final place why judge passed found refused has_message lent room judged opening old e f dead none p rests h is_held alike = absurd (cc (e))
-feeds_by true r bytes piece after final place why judge passed found refused true lent room judged opening old e f dead none p rests h is_held alike = absurd (cc (f))
+    → Feeds old piece found (let state : StreamState = record { held = held_of has_message final; stopped = stops refused o; lent = lent; room = room; judged = judged; reading = line_reading o judge.reading; refused_bytes = dead_bytes } in state)
+feeds_by true r bytes piece after final place why judge passed found true false lent room judged dead_bytes old e f dead none p rests h is_held alike = feeds_passed r bytes piece after final place why judge passed found lent room judged dead_bytes old dead none p rests h is_held alike
+feeds_by true r bytes piece after final place why judge passed found false false lent room judged dead_bytes old e f dead none p rests h is_held alike = feeds_passed r bytes piece after final place why judge passed found lent room judged dead_bytes old dead none p rests h is_held alike
+feeds_by false r bytes piece after final place why judge passed found refused has_message lent room judged dead_bytes old e f dead none p rests h is_held alike = absurd (cc (e))
+feeds_by true r bytes piece after final place why judge passed found refused true lent room judged dead_bytes old e f dead none p rests h is_held alike = absurd (cc (f))

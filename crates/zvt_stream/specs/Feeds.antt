@@ -2,7 +2,7 @@
 use Rattle.std.specs.Prelude.{◌≡◌, ℕ, suc, ◌-◌, ◌<◌, ◌≤◌, Some, None, List, [], ◌++◌, length, take}
 use Rattle.zvt_apdu.specs.Message as message
 use Rattle.zvt_stream.specs.LineReading.{IsRefusedBy, Reads, UnfinishedBy}
-use Rattle.zvt_stream.specs.StreamState.{StreamState, Holds, HasRefused, opening_of}
+use Rattle.zvt_stream.specs.StreamState.{StreamState, Holds, HasRefused}
 use Rattle.zvt_stream.specs.declared.stream.Fed.{Fed}
 use Rattle.zvt_stream.specs.declared.stream.Fed.TheVariants.{Message, More, Refused}
 use Rattle.zvt_stream.specs.declared.stream.FedView.{FedView}
@@ -12,7 +12,7 @@ use Rattle.zvt_stream.specs.declared.stream.FedView.TheVariants as view
 abbrev pub Feeds : StreamState → List ℕ → Fed → StreamState → Type 0
 Feeds old piece (Message apdu taken) new = (0 < taken) × (taken ≤ length piece) × Reads old.reading apdu (old.held ++ take taken piece) × Holds [] new × (new.reading ≡ old.reading)
 Feeds old piece More new = UnfinishedBy old.reading (old.held ++ piece) × Holds (old.held ++ piece) new × (new.reading ≡ old.reading)
-Feeds old piece (Refused place why) new = IsRefusedBy old.reading (old.held ++ piece) place why × (length old.held ≤ place) × HasRefused new × (new.reading ≡ old.reading) × (new.opening ≡ opening_of (take (suc place) (old.held ++ piece)))
+Feeds old piece (Refused place why) new = IsRefusedBy old.reading (old.held ++ piece) place why × (length old.held ≤ place) × HasRefused new × (new.reading ≡ old.reading) × (new.refused_bytes ≡ take (suc place) (old.held ++ piece))
 
 -- The same when the message is lent.
 abbrev pub Lends : StreamState → List ℕ → FedView → StreamState → Type 0

@@ -7,10 +7,11 @@ use Rattle.zvt_apdu.specs.Views.{MessageBytes, message_once}
 use Rattle.zvt_stream.specs.Head.{head_of}
 use Rattle.zvt_stream.specs.LineReading.{kind_named, stand_in}
 
--- The stored bytes, and the capacity.
+-- The stored bytes, the capacity, and the bytes of the refused message.
 pub record HeldState : Type 0 where
   pub bytes : List ℕ
   pub room : ℕ
+  pub refused : List ℕ
 
 -- Lent bytes spell a message, unless they were refused.
 abbrev pub LentBytes : (has_message refused : Bool) → List ℕ → Type 0

@@ -50,7 +50,7 @@ kind_named Empty = kind.Other
 
 abbrev pub heard_of : OpenItem → Message
 heard_of (read message) = message
-heard_of (unread high low size place byte why) = stand_in (kind_at high low)
+heard_of (unread high low size before byte why) = stand_in (kind_at high low)
 
 -- The bytes are read as the message: they spell it; or, on an open line, they are an unread frame that counts as it.
 abbrev pub Reads : LineReading → Message → List ℕ → Type 0

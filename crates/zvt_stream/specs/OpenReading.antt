@@ -1,5 +1,5 @@
 -- The open reading of a line: a frame ends where its length says, whether or not its data can be read.
-use Rattle.std.specs.Prelude.{◌≡◌, ℕ, ◌<◌, Some, List, ◌∷◌, ◌++◌, length, map, slice_get}
+use Rattle.std.specs.Prelude.{◌≡◌, ℕ, ◌<◌, List, ◌∷◌, ◌++◌, length, map}
 use Rattle.zvt_grammar.specs.Beginnings.{Alive}
 use Rattle.zvt_grammar.specs.Cuts as cuts
 use Rattle.zvt_grammar.specs.Laws.{CutsAreOne, PrefixesOfCut, Growth}
@@ -21,16 +21,17 @@ pub record IsFrame (high low : ℕ) (bytes : List ℕ) : Type 0 where
 abbrev pub IsFramed : List ℕ → Type 0
 IsFramed bytes = (high : ℕ) × (low : ℕ) × IsFrame high low bytes
 
--- A message, or a frame that holds none: its control bytes, its size, and where and why it is refused: the place of the
--- fatal byte, the byte, and the reason.
+-- A message, or a frame that holds none: its control bytes, its size, its bytes before the first after which no message
+-- can follow, that byte, and the reason.
 pub data OpenItem : Type 0 where
   read : (message : Message) → OpenItem
-  unread : (high low size place byte : ℕ) → (why : Why) → OpenItem
+  unread : (high low size : ℕ) → (before : List ℕ) → (byte : ℕ) → (why : Why) → OpenItem
 
 -- The bytes spell the item.
 abbrev pub OpenSpells : Reading → OpenItem → List ℕ → Type 0
 OpenSpells r (read message) bytes = Spells r message bytes
-OpenSpells r (unread high low size place byte why) bytes = IsFrame high low bytes × (size ≡ length bytes) × IsRefusedIn r bytes place why × (slice_get bytes place ≡ Some byte)
+OpenSpells r (unread high low size before byte why) bytes =
+    IsFrame high low bytes × (size ≡ length bytes) × IsRefusedIn r bytes (length before) why × ((later : List ℕ) × (bytes ≡ before ++ byte ∷ later))
 
 -- The items of a line, and the rest, which has no complete frame.
 abbrev pub OpenCutIn : Reading → List ℕ → List OpenItem → (rest : List ℕ) → Type 0

@@ -31,6 +31,8 @@ pub struct Held {
     /// The bytes, and the capacity after them.
     room: Vec<u8>,
     size: usize,
+    /// How many bytes at the start of the room are a message that was refused.
+    refused: usize,
 }
 
 impl Model for Held {
@@ -39,29 +41,38 @@ impl Model for Held {
 
     ghost Value = { HeldState };
 
-    ghost view = { λ h. record { bytes = take h.size h.room.items; room = length h.room.items } };
+    ghost view = { λ h. record {
+      bytes = take h.size h.room.items;
+      room = length h.room.items;
+      refused = take h.refused h.room.items;
+    } };
 
-    ghost invariant = { λ h. h.size ≤ length h.room.items };
+    ghost invariant = { λ h. (h.size ≤ length h.room.items) × (h.refused ≤ length h.room.items) };
 }
 
 impl Held {
     /// Creates an empty buffer without capacity.
     pub fn new(alloc: Global) -> Held
-        ensures { result ≡ record { bytes = []; room = 0 } }
+        ensures { result ≡ record { bytes = []; room = 0; refused = [] } }
     {
         Held {
             room: Vec::new(alloc),
             size: 0,
+            refused: 0,
         }
     }
 
     /// Creates an empty buffer with capacity for the longest message, so that adding bytes never allocates.
     pub fn reserved(alloc: Global) -> Result<Held, AllocError>
-        ensures { IfOk result (λ held. held ≡ record { bytes = []; room = 65540 }) }
+        ensures { IfOk result (λ held. held ≡ record { bytes = []; room = 65540; refused = [] }) }
     {
         let mut room = Vec::new(alloc);
         room.resize(MAX_APDU_LEN, 0)?;
-        Ok(Held { room, size: 0 })
+        Ok(Held {
+            room,
+            size: 0,
+            refused: 0,
+        })
     }
 
     /// Reserves capacity for the given number of bytes, or for the rest of the longest message if that is less. If the
@@ -160,8 +171,7 @@ impl Held {
     pub(crate) fn head(&self) -> Head
         ensures { result ≡ head_of self.now.bytes }
     {
-        let head = Head::Empty.before(self.arrived());
-        head
+        Head::of(self.arrived())
     }
 
     /// Returns the bytes of a frame.
@@ -189,7 +199,8 @@ impl Held {
     #[inline(always)]
     pub fn put(&mut self, bytes: &[u8])
         requires { length self.old.bytes + length bytes.now ≤ self.old.room }
-        ensures { self.new ≡ record { bytes = self.old.bytes ++ bytes.now; room = self.old.room } }
+        ensures bytes { self.new.bytes ≡ self.old.bytes ++ bytes.now }
+        ensures room { self.new.room ≡ self.old.room }
     {
         let at = self.size;
         // A peer that sends byte by byte costs no call for each.
@@ -207,9 +218,31 @@ impl Held {
     #[inline(always)]
     pub fn cut(&mut self, count: usize)
         requires { count ≤ length self.old.bytes }
-        ensures { self.new ≡ record { bytes = take count self.old.bytes; room = self.old.room } }
+        ensures bytes { self.new.bytes ≡ take count self.old.bytes }
+        ensures room { self.new.room ≡ self.old.room }
     {
         self.size = count;
+    }
+
+    /// Takes the last bytes of a message that is refused. From then on no byte of it is held, and `refused` returns it.
+    #[cold]
+    #[inline(never)]
+    pub(crate) fn refuse(&mut self, last: &[u8])
+        requires { length self.old.bytes + length last.now ≤ self.old.room }
+        ensures bytes { self.new.bytes ≡ [] }
+        ensures refused { self.new.refused ≡ self.old.bytes ++ last.now }
+        ensures room { self.new.room ≡ self.old.room }
+    {
+        self.put(last);
+        self.refused = self.size;
+        self.size = 0;
+    }
+
+    /// Returns the bytes of the message that `refuse` was called for, until bytes are added.
+    pub(crate) fn refused(&self) -> &[u8]
+        ensures { result.now ≡ self.now.refused }
+    {
+        &self.room[..self.refused]
     }
 
     /// Returns the number of bytes.

@@ -14,6 +14,13 @@ pub enum Head {
 }
 
 impl Head {
+    /// Returns the control bytes of a message that begins with these bytes.
+    pub fn of(bytes: &[u8]) -> Head
+        ensures { result ≡ head_of bytes.now }
+    {
+        Head::Empty.before(bytes)
+    }
+
     /// Returns the control bytes after one more byte of the message.
     #[inline(always)]
     pub fn then(self, byte: u8) -> Head

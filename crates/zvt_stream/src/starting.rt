@@ -10,7 +10,6 @@ use crate::buffer::Held;
 use crate::form::LineForm;
 use crate::judge::{Judge, Steps};
 use crate::stream::Stream;
-use arrayvec::ArrayVec;
 use std::alloc::{AllocError, Global};
 use zvt_grammar::Lengths;
 
@@ -67,7 +66,6 @@ impl Stream {
             passes: form.passes,
             refused: false,
             has_message: false,
-            opening: ArrayVec::new(),
         }
     }
 

@@ -2,14 +2,13 @@
 //!
 //! `feed_view` and `head` are `#[inline(always)]`: a reader that feeds byte by byte calls both for each byte.
 
-ghost use Rattle.std.specs.Prelude.{◌≡◌, ℕ, ◌+◌, ◌<◌, ◌≤◌, [], ◌++◌, None, IfOk, IfNone, IfSome, IsNone, IsSome, OnErr};
-ghost use Rattle.std.specs.Prelude.{List, length, take, false, true, MatchResult};
+ghost use Rattle.std.specs.Prelude.{◌≡◌, ◌+◌, ◌<◌, ◌≤◌, [], None, IfOk, IfSome, IsNone, IsSome, OnErr};
+ghost use Rattle.std.specs.Prelude.{length, take, true, MatchResult};
 ghost use Rattle.std.specs.Result.{IsErrOf};
-ghost use Rattle.zvt_grammar.specs.Reading.{padded, shortest};
 ghost use Rattle.zvt_grammar.specs.Lengths.{reading_of};
 ghost use Rattle.zvt_apdu.specs.Grammar.{Spells};
-ghost use Rattle.zvt_stream.specs.LineReading.{Judges, Reads, UnfinishedBy, openly, reading_as, strictly};
-ghost use Rattle.zvt_stream.specs.StreamState.{at_start, opening_of, start_by, start_in, Holds, Keeps, IsReserved};
+ghost use Rattle.zvt_stream.specs.LineReading.{Judges, Reads, UnfinishedBy};
+ghost use Rattle.zvt_stream.specs.StreamState.{Keeps, IsReserved};
 ghost use Rattle.zvt_stream.specs.Lending.{LentBytes, lent_once};
 ghost use Rattle.zvt_stream.specs.Feeds.{Feeds, Lends, taken_by, taken_in_view};
 ghost use Rattle.zvt_stream.specs.Head.{head_of};
@@ -19,7 +18,6 @@ use crate::buffer::Held;
 use crate::head::Head;
 use crate::judge::{DecodeRun, Judge, Steps};
 use crate::unread::{go_on, heard_frame, pass_frame, seen_frame};
-use arrayvec::ArrayVec;
 use std::alloc::{AllocError, Global};
 use std::marker::Model;
 use thiserror::Error;
@@ -93,7 +91,6 @@ pub struct Stream {
     /// Whether bytes were refused: it passes their frame, or takes no more.
     pub(crate) refused: bool,
     pub(crate) has_message: bool,
-    pub(crate) opening: ArrayVec<u8, 5>,
     ghost spelled: { LentBytes has_message refused held.bytes } by { lent_once has_message refused held.bytes },
 }
 
@@ -116,7 +113,7 @@ impl Model for Stream {
       room = s.held.room;
       judged = judged_of s.steps;
       reading = line_reading s.passes s.judge.reading;
-      opening = s.opening.items;
+      refused_bytes = s.held.refused;
     } };
 
     ghost invariant = { λ s. IsSound (line_reading s.passes s.judge.reading) (held_of s.has_message s.held.bytes)
@@ -194,8 +191,7 @@ impl Stream {
                     return Ok(heard_frame(alloc, &mut self.held, passed));
                 }
                 let place = self.held.len() + at;
-                self.opening = opening(self.held.bytes(), &piece[..at + 1]);
-                self.held.cut(0);
+                self.held.refuse(&piece[..at + 1]);
                 self.judge = judge;
                 self.refused = true;
                 Ok(Fed::Refused { place, why })
@@ -238,20 +234,19 @@ impl Stream {
                     return Ok(seen_frame(passed));
                 }
                 let place = self.held.len() + at;
-                self.opening = opening(self.held.bytes(), &piece[..at + 1]);
-                self.held.cut(0);
+                self.held.refuse(&piece[..at + 1]);
                 self.refused = true;
                 Ok(FedView::Refused { place, why })
             }
         }
     }
 
-    /// Returns the first bytes of the refused message, at most five, which tell its control bytes and its size. There
+    /// Returns the bytes of the refused message, up to and including the first after which no message can follow. There
     /// are none before a refusal.
-    pub fn opening(&self) -> &[u8]
-        ensures { result.now ≡ self.now.opening }
+    pub fn refused_bytes(&self) -> &[u8]
+        ensures { result.now ≡ self.now.refused_bytes }
     {
-        self.opening.as_slice()
+        self.held.refused()
     }
 
     /// Checks that the input does not end in the middle of a message. Always succeeds after a refusal, because the
@@ -277,6 +272,17 @@ impl Stream {
         if self.has_message { 0 } else { self.held.len() }
     }
 
+    /// Returns the bytes held of an incomplete message.
+    pub fn unfinished(&self) -> &[u8]
+        ensures { result.now ≡ self.now.held }
+    {
+        if self.has_message {
+            &[]
+        } else {
+            self.held.bytes()
+        }
+    }
+
     /// Returns the control bytes of the unfinished message, as far as they have arrived.
     #[inline(always)]
     pub fn head(&self) -> Head
@@ -298,27 +304,6 @@ impl Stream {
             self.judge.levels()
         }
     }
-}
-
-/// Returns the first bytes of a message, at most five. `last` is the part of it that arrived last.
-#[cold]
-#[inline(never)]
-fn opening(held: &[u8], last: &[u8]) -> ArrayVec<u8, 5>
-    ensures { result.items ≡ opening_of (held.now ++ last.now) }
-{
-    let mut first = ArrayVec::new();
-    add(&mut first, held);
-    add(&mut first, last);
-    first
-}
-
-/// Adds the next bytes of a message to its first ones, up to five.
-fn add(first: &mut ArrayVec<u8, 5>, bytes: &[u8])
-    ensures { (held : List ℕ) → first.old.items ≡ opening_of held → first.new.items ≡ opening_of (held ++ bytes.now) }
-{
-    let room = first.remaining_capacity();
-    let count = bytes.len().min(room);
-    let _ = first.try_extend_from_slice(&bytes[..count]);
 }
 
 /// Takes the message out of the buffer. If an allocation fails, the first `before` bytes stay.

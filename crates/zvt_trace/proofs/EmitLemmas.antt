@@ -1,8 +1,9 @@
 -- What the parts of a piece emit.
-use Rattle.std.proofs.Common.{◌≡◌, ℕ, ◌-◌, ◌<◌, ◌≤◌, zero, suc, min, Bool, true, false, subst, List, [], ◌∷◌, ◌++◌, length, take, slice_index, Option, None, Some, Result, Ok, Err, refl, sym, ◌∙◌, ap, arith, append-nil}
+use Rattle.std.proofs.Common.{◌≡◌, ◌≢◌, inl, inr, ℕ, ◌-◌, ◌<◌, ◌≤◌, ◌==◌, zero, suc, min, Bool, true, false, subst, List, [], ◌∷◌, ◌++◌, length, take, Option, None, Some, Result, Ok, Err, refl, sym, ◌∙◌, ap, arith, append-nil}
 use Rattle.std.specs.Prelude.{MatchResult}
 use Rattle.std.proofs.lemmas.List.{length-take-le, take-append-drop}
 use Rattle.std.proofs.lemmas.Bool.{false≢true}
+use Rattle.std.proofs.lemmas.Bool.Decides.{eqb_tells}
 use Rattle.zvt_grammar.specs.Cuts.{Cut}
 use Rattle.zvt_grammar.specs.Reading.{Reading}
 use Rattle.zvt_grammar.specs.declared.why.Why.{Why}
@@ -10,13 +11,11 @@ use Rattle.zvt_apdu.specs.Grammar.{Spells}
 use Rattle.zvt_apdu.specs.Message.{Message}
 use Rattle.zvt_stream.proofs.Beginnings.{nothing_in}
 use Rattle.zvt_stream.specs.Apdus.{IsRefusedIn, UnfinishedIn}
-use Rattle.zvt_stream.specs.StreamState.{StreamState, HasRefused, Holds, Keeps, opening_of}
-use Rattle.zvt_stream.specs.Head.{head_of}
-use Rattle.zvt_stream.specs.declared.head.Head.{Head}
+use Rattle.zvt_stream.specs.StreamState.{StreamState, HasRefused, Holds, Keeps}
 use Rattle.zvt_trace.specs.Listening.{BytesBegin, EmitsEnd, EmitsRest, Fails, FailsIn, Hears, HearsAll, HearsBytes, HearsEnd, StaysSilent, counted_in}
 use Rattle.zvt_trace.specs.TraceEvent.{At, message, on}
 use Rattle.zvt_trace.specs.TraceEvent as trace_event
-use Rattle.zvt_trace.specs.Emitting.{PartEmits, PrefixOf, SideEnds}
+use Rattle.zvt_trace.specs.Emitting.{PartEmits, PrefixOf, SideEnds, refusal_event}
 use Rattle.zvt_trace.specs.Resuming.{IsWithin, announced, refused_size, resuming_events, side_refused, side_skipping, skipping_events}
 use Rattle.zvt_trace.specs.Trace.{Side, begun, refused, running, skipping, stopped}
 use Rattle.zvt_trace.specs.Written.{Follows, Skips, SkipsTo, StreamFollows, is_everything, skipped_by}
@@ -93,9 +92,6 @@ hears_more {r = r} hears scope line from part reader next now going unfinished i
 
 -- ---- a refusal
 
-abbrev pub refusal_event : ℕ → Direction → List ℕ → ℕ → Why → At
-refusal_event line from whole place why = on line (trace_event.refused from (head_of whole) (slice_index whole place) place why)
-
 refusal_emits : {r : Reading} (scope : Scope) (line : ℕ) (from : Direction) (before part : List ℕ) (reader : SideReader) (place : ℕ) (why : Why) → Follows r reader (running before) → IsRefusedIn r (reader.stream.held ++ part) place why
     → suc place ≡ length (reader.stream.held ++ part)
     → (let whole = reader.stream.held ++ part in PartEmits r scope line from (running before) part (refusal_event line from whole place why ∷ resuming_events line from (refused_size scope whole place) (length whole)) (side_refused (refused_size scope whole place) (length whole)))
@@ -125,23 +121,23 @@ ends_refusal {S = S} r hears fails line from None come reader next now new answe
 ends_refusal r hears fails line from (Some size) come reader next now new (Ok any) gone is rest all = let ended = rest size (size - come) (gone, is) in (ended.0, ended.1)
 ends_refusal r hears fails line from (Some size) come reader next now new (Err why) gone is rest all = rest size (size - come) (gone, is)
 
-pub hears_refused : {S : Type 0} {r : Reading} (hears : Hears S) (fails : Fails S) (scope : Scope) (line : ℕ) (from : Direction) (part : List ℕ) (reader next : SideReader) (opening : List ℕ) (place : ℕ) (why : Why) (now middle new : S) (any : Bool) → 0 < length part → reader.stream.stopped ≡ false
-    → IsRefusedIn r (reader.stream.held ++ part) place why → suc place ≡ length (reader.stream.held ++ part) → opening ≡ opening_of (reader.stream.held ++ part) → ((held : List ℕ) → opening ≡ opening_of (held ++ part) → suc place ≡ length (held ++ part) → hears now (refusal_event line from (held ++ part) place why) middle)
-    → (((held : List ℕ) → opening ≡ opening_of (held ++ part) → suc place ≡ length (held ++ part) → EndsRefusal r hears fails line from (refused_size scope (held ++ part) place) (length (held ++ part)) next middle new (Ok any)))
+pub hears_refused : {S : Type 0} {r : Reading} (hears : Hears S) (fails : Fails S) (scope : Scope) (line : ℕ) (from : Direction) (part : List ℕ) (reader next : SideReader) (dead : List ℕ) (place : ℕ) (why : Why) (now middle new : S) (any : Bool) → 0 < length part → reader.stream.stopped ≡ false
+    → IsRefusedIn r (reader.stream.held ++ part) place why → suc place ≡ length (reader.stream.held ++ part) → dead ≡ reader.stream.held ++ part → hears now (refusal_event line from dead place why) middle
+    → EndsRefusal r hears fails line from (refused_size scope dead place) (length dead) next middle new (Ok any)
     → (side : Side) → Follows r reader side → HearsBytes r hears scope line from side part next true now new
-hears_refused hears fails scope line from part reader next opening place why now middle new any long going fatal all opens heard ended stopped follows = absurd (false≢true (sym going ∙ (follows.0).1))
-hears_refused hears fails scope line from part reader next opening place why now middle new any long going fatal all opens heard ended (skipping size left) follows = absurd (false≢true (sym going ∙ (follows.0).1))
-hears_refused {r = r} hears fails scope line from part reader next opening place why now middle new any long going fatal all opens heard ended (running before) follows =
+hears_refused hears fails scope line from part reader next dead place why now middle new any long going fatal all opens heard ended stopped follows = absurd (false≢true (sym going ∙ (follows.0).1))
+hears_refused hears fails scope line from part reader next dead place why now middle new any long going fatal all opens heard ended (skipping size left) follows = absurd (false≢true (sym going ∙ (follows.0).1))
+hears_refused {r = r} hears fails scope line from part reader next dead place why now middle new any long going fatal all opens heard ended (running before) follows =
     let whole = reader.stream.held ++ part in
     let size = refused_size scope whole place in
     let first = refusal_event line from whole place why in
     let later = resuming_events line from size (length whole) in
     let after = side_refused size (length whole) in
-    let over = ended reader.stream.held opens all in record {
+    let over = subst (λ (w : List ℕ). EndsRefusal r hears fails line from (refused_size scope w place) (length w) next middle new (Ok any)) opens ended in record {
       events = first ∷ later;
       after = after;
       passes = one_part r scope line from (running before) after part (first ∷ later) (refusal_emits scope line from before part reader place why follows fatal all);
-      heard = (middle, heard reader.stream.held opens all, over.0);
+      heard = (middle, subst (λ (w : List ℕ). hears now (refusal_event line from w place why) middle) opens heard, over.0);
       follows = over.1;
       few = omega (arith, long, no_more size (length whole));
       some = refl;
@@ -155,12 +151,12 @@ hears_refused {r = r} hears fails scope line from part reader next opening place
     no_more None come = refl
     no_more (Some size) come = none_left size (size - come)
 
-pub fails_refused : {S : Type 0} {r : Reading} (hears : Hears S) (fails : Fails S) (failure : ListenerError) (scope : Scope) (line : ℕ) (from : Direction) (part : List ℕ) (reader : SideReader) (opening : List ℕ) (place : ℕ) (why : Why) (now new : S) → reader.stream.stopped ≡ false
-    → IsRefusedIn r (reader.stream.held ++ part) place why → suc place ≡ length (reader.stream.held ++ part) → opening ≡ opening_of (reader.stream.held ++ part) → ((held : List ℕ) → opening ≡ opening_of (held ++ part) → suc place ≡ length (held ++ part) → fails now (refusal_event line from (held ++ part) place why) failure new)
+pub fails_refused : {S : Type 0} {r : Reading} (hears : Hears S) (fails : Fails S) (failure : ListenerError) (scope : Scope) (line : ℕ) (from : Direction) (part : List ℕ) (reader : SideReader) (dead : List ℕ) (place : ℕ) (why : Why) (now new : S) → reader.stream.stopped ≡ false
+    → IsRefusedIn r (reader.stream.held ++ part) place why → suc place ≡ length (reader.stream.held ++ part) → dead ≡ reader.stream.held ++ part → fails now (refusal_event line from dead place why) failure new
     → (side : Side) → Follows r reader side → FailsIn hears fails failure (BytesBegin r scope line from side part) now new
-fails_refused hears fails failure scope line from part reader opening place why now new going fatal all opens failed stopped follows = absurd (false≢true (sym going ∙ (follows.0).1))
-fails_refused hears fails failure scope line from part reader opening place why now new going fatal all opens failed (skipping size left) follows = absurd (false≢true (sym going ∙ (follows.0).1))
-fails_refused {r = r} hears fails failure scope line from part reader opening place why now new going fatal all opens failed (running before) follows =
+fails_refused hears fails failure scope line from part reader dead place why now new going fatal all opens failed stopped follows = absurd (false≢true (sym going ∙ (follows.0).1))
+fails_refused hears fails failure scope line from part reader dead place why now new going fatal all opens failed (skipping size left) follows = absurd (false≢true (sym going ∙ (follows.0).1))
+fails_refused {r = r} hears fails failure scope line from part reader dead place why now new going fatal all opens failed (running before) follows =
     let whole = reader.stream.held ++ part in
     let size = refused_size scope whole place in
     let first = refusal_event line from whole place why in
@@ -168,21 +164,21 @@ fails_refused {r = r} hears fails failure scope line from part reader opening pl
     let after = side_refused size (length whole) in
     let passes = one_part r scope line from (running before) after part (first ∷ later) (refusal_emits scope line from before part reader place why follows fatal all) in
     fails_next hears fails failure [] first now now new refl
-    (record { first = part; more = []; after = after; cut = sym (append-nil part); emits = record { all = first ∷ later; later = later; emit = passes; is_prefix = refl } }) (failed reader.stream.held opens all)
+    (record { first = part; more = []; after = after; cut = sym (append-nil part); emits = record { all = first ∷ later; later = later; emit = passes; is_prefix = refl } }) (subst (λ (w : List ℕ). fails now (refusal_event line from w place why) failure new) opens failed)
 
-pub fails_resumed : {S : Type 0} {r : Reading} (hears : Hears S) (fails : Fails S) (failure : ListenerError) (scope : Scope) (line : ℕ) (from : Direction) (part : List ℕ) (reader next : SideReader) (opening : List ℕ) (place : ℕ) (why : Why) (now middle new : S) → reader.stream.stopped ≡ false
-    → IsRefusedIn r (reader.stream.held ++ part) place why → suc place ≡ length (reader.stream.held ++ part) → opening ≡ opening_of (reader.stream.held ++ part) → ((held : List ℕ) → opening ≡ opening_of (held ++ part) → suc place ≡ length (held ++ part) → hears now (refusal_event line from (held ++ part) place why) middle)
-    → (((held : List ℕ) → opening ≡ opening_of (held ++ part) → suc place ≡ length (held ++ part) → EndsRefusal r hears fails line from (refused_size scope (held ++ part) place) (length (held ++ part)) next middle new (Err failure)))
+pub fails_resumed : {S : Type 0} {r : Reading} (hears : Hears S) (fails : Fails S) (failure : ListenerError) (scope : Scope) (line : ℕ) (from : Direction) (part : List ℕ) (reader next : SideReader) (dead : List ℕ) (place : ℕ) (why : Why) (now middle new : S) → reader.stream.stopped ≡ false
+    → IsRefusedIn r (reader.stream.held ++ part) place why → suc place ≡ length (reader.stream.held ++ part) → dead ≡ reader.stream.held ++ part → hears now (refusal_event line from dead place why) middle
+    → EndsRefusal r hears fails line from (refused_size scope dead place) (length dead) next middle new (Err failure)
     → (side : Side) → Follows r reader side → FailsIn hears fails failure (BytesBegin r scope line from side part) now new
-fails_resumed hears fails failure scope line from part reader next opening place why now middle new going fatal all opens heard ended stopped follows = absurd (false≢true (sym going ∙ (follows.0).1))
-fails_resumed hears fails failure scope line from part reader next opening place why now middle new going fatal all opens heard ended (skipping size left) follows = absurd (false≢true (sym going ∙ (follows.0).1))
-fails_resumed {r = r} hears fails failure scope line from part reader next opening place why now middle new going fatal all opens heard ended (running before) follows =
+fails_resumed hears fails failure scope line from part reader next dead place why now middle new going fatal all opens heard ended stopped follows = absurd (false≢true (sym going ∙ (follows.0).1))
+fails_resumed hears fails failure scope line from part reader next dead place why now middle new going fatal all opens heard ended (skipping size left) follows = absurd (false≢true (sym going ∙ (follows.0).1))
+fails_resumed {r = r} hears fails failure scope line from part reader next dead place why now middle new going fatal all opens heard ended (running before) follows =
     let whole = reader.stream.held ++ part in
     let size = refused_size scope whole place in
     let first = refusal_event line from whole place why in
     let after = side_refused size (length whole) in
     let emits = refusal_emits scope line from before part reader place why follows fatal all in
-    fails_after hears fails failure (first ∷ []) now middle new (hears_one hears first now middle (heard reader.stream.held opens all)) (ended reader.stream.held opens all) (λ events so. record {
+    fails_after hears fails failure (first ∷ []) now middle new (hears_one hears first now middle (subst (λ (w : List ℕ). hears now (refusal_event line from w place why) middle) opens heard)) (subst (λ (w : List ℕ). EndsRefusal r hears fails line from (refused_size scope w place) (length w) next middle new (Err failure)) opens ended) (λ events so. record {
       first = part;
       more = [];
       after = after;
@@ -303,6 +299,17 @@ rest_left r hears fails line from reader known some_left size (suc left) now is 
 
 -- ---- the end of a side
 
+pub length_none : (bytes : List ℕ) → (length bytes == 0) ≡ true → bytes ≡ []
+length_none [] is = refl
+length_none (byte ∷ bytes) is = elim (eqb_tells (length (byte ∷ bytes)) 0) [
+  | inl same ↦ absurd (omega (arith, same.1))
+  | inr other ↦ absurd (false≢true (sym other.0 ∙ is))
+]
+
+pub length_some : (bytes : List ℕ) → (length bytes == 0) ≡ false → bytes ≢ []
+length_some [] is none = false≢true (sym is)
+length_some (byte ∷ bytes) is none = cc (none)
+
 pub none_cut : {S : Type 0} (r : Reading) (hears : Hears S) (line : ℕ) (from : Direction) (side : Side) (state : StreamState) (now : S) → StreamFollows r state side → state.held ≡ [] → HearsEnd hears (SideEnds r line from side) 1 now now
 none_cut r hears line from (running bytes) state now follows none = record {
   events = [];
@@ -314,32 +321,28 @@ none_cut r hears line from (skipping size left) state now follows none = record 
 none_cut r hears line from stopped state now follows none = record { events = []; ends = refl; heard = refl; few = omega arith }
 
 -- what is cut off, as its events are emitted
-pub ends_cut : (r : Reading) (line : ℕ) (from : Direction) (side : Side) (state : StreamState) (head : Head) (have : ℕ) → StreamFollows r state side → 0 < have → have ≡ length state.held → head ≡ head_of state.held
-    → SideEnds r line from side (on line (trace_event.cut_off from head have) ∷ [])
-ends_cut r line from (skipping size left) state head have follows some is is_head = absurd (omega (arith, some, is, ap length follows.0))
-ends_cut r line from stopped state head have follows some is is_head = absurd (omega (arith, some, is, ap length follows.0))
-ends_cut r line from (running bytes) state head have follows some is is_head = by_held state.held follows.2 is is_head
-  where
-    by_held : (held : List ℕ) → Cut (Spells r) bytes follows.1 held → have ≡ length held → head ≡ head_of held → SideEnds r line from (running bytes) (on line (trace_event.cut_off from head have) ∷ [])
-    by_held [] cut is is_head = absurd (omega (arith, some, is))
-    by_held (byte ∷ held) cut is is_head = (follows.1, byte ∷ held, cut, rw (is, is_head) refl)
+pub ends_cut : (r : Reading) (line : ℕ) (from : Direction) (side : Side) (state : StreamState) (bytes : List ℕ) → StreamFollows r state side → bytes ≢ [] → bytes ≡ state.held → SideEnds r line from side (on line (trace_event.cut_off from bytes) ∷ [])
+ends_cut r line from (skipping size left) state bytes follows some is = absurd (some (is ∙ follows.0))
+ends_cut r line from stopped state bytes follows some is = absurd (some (is ∙ follows.0))
+ends_cut r line from (running sent) state [] follows some is = absurd (some refl)
+ends_cut r line from (running sent) state (byte ∷ bytes) follows some is = (follows.1, byte ∷ bytes, subst (λ (h : List ℕ). Cut (Spells r) sent follows.1 h) (sym is) follows.2, refl)
 
-some_cut : {S : Type 0} (r : Reading) (hears : Hears S) (line : ℕ) (from : Direction) (side : Side) (head : Head) (have : ℕ) (old new : S) → SideEnds r line from side (on line (trace_event.cut_off from head have) ∷ []) → hears old (on line (trace_event.cut_off from head have)) new
+some_cut : {S : Type 0} (r : Reading) (hears : Hears S) (line : ℕ) (from : Direction) (side : Side) (bytes : List ℕ) (old new : S) → SideEnds r line from side (on line (trace_event.cut_off from bytes) ∷ []) → hears old (on line (trace_event.cut_off from bytes)) new
     → HearsEnd hears (SideEnds r line from side) 1 old new
-some_cut r hears line from side head have old new ended heard = record {
-  events = on line (trace_event.cut_off from head have) ∷ [];
+some_cut r hears line from side bytes old new ended heard = record {
+  events = on line (trace_event.cut_off from bytes) ∷ [];
   ends = ended;
-  heard = hears_one hears (on line (trace_event.cut_off from head have)) old new heard;
+  heard = hears_one hears (on line (trace_event.cut_off from bytes)) old new heard;
   few = omega arith;
 }
 
-cut_failed : {S : Type 0} (r : Reading) (hears : Hears S) (fails : Fails S) (why : ListenerError) (line : ℕ) (from : Direction) (side : Side) (head : Head) (have : ℕ) (old new : S) → SideEnds r line from side (on line (trace_event.cut_off from head have) ∷ []) → fails old (on line (trace_event.cut_off from head have)) why new
+cut_failed : {S : Type 0} (r : Reading) (hears : Hears S) (fails : Fails S) (why : ListenerError) (line : ℕ) (from : Direction) (side : Side) (bytes : List ℕ) (old new : S) → SideEnds r line from side (on line (trace_event.cut_off from bytes) ∷ []) → fails old (on line (trace_event.cut_off from bytes)) why new
     → FailsIn hears fails why (PrefixOf (SideEnds r line from side)) old new
-cut_failed r hears fails why line from side head have old new ended failed =
-    fails_next hears fails why [] (on line (trace_event.cut_off from head have)) old old new refl (prefix_whole (on line (trace_event.cut_off from head have) ∷ []) ended) failed
+cut_failed r hears fails why line from side bytes old new ended failed =
+    fails_next hears fails why [] (on line (trace_event.cut_off from bytes)) old old new refl (prefix_whole (on line (trace_event.cut_off from bytes) ∷ []) ended) failed
 
 -- what emitting that it is cut off answers
-pub cut_ends : {S : Type 0} (r : Reading) (hears : Hears S) (fails : Fails S) (line : ℕ) (from : Direction) (side : Side) (head : Head) (have : ℕ) (old new : S) (answer : Result Unit ListenerError) → SideEnds r line from side (on line (trace_event.cut_off from head have) ∷ [])
-    → MatchResult answer (λ _. hears old (on line (trace_event.cut_off from head have)) new) (λ why. fails old (on line (trace_event.cut_off from head have)) why new) → EmitsEnd hears fails (SideEnds r line from side) 1 old new answer
-cut_ends r hears fails line from side head have old new (Ok done) ended heard = some_cut r hears line from side head have old new ended heard
-cut_ends r hears fails line from side head have old new (Err why) ended failed = cut_failed r hears fails why line from side head have old new ended failed
+pub cut_ends : {S : Type 0} (r : Reading) (hears : Hears S) (fails : Fails S) (line : ℕ) (from : Direction) (side : Side) (bytes : List ℕ) (old new : S) (answer : Result Unit ListenerError) → SideEnds r line from side (on line (trace_event.cut_off from bytes) ∷ [])
+    → MatchResult answer (λ _. hears old (on line (trace_event.cut_off from bytes)) new) (λ why. fails old (on line (trace_event.cut_off from bytes)) why new) → EmitsEnd hears fails (SideEnds r line from side) 1 old new answer
+cut_ends r hears fails line from side bytes old new (Ok done) ended heard = some_cut r hears line from side bytes old new ended heard
+cut_ends r hears fails line from side bytes old new (Err why) ended failed = cut_failed r hears fails why line from side bytes old new ended failed

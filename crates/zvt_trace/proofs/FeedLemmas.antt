@@ -1,8 +1,7 @@
 -- What the functions of a walker answer.
-use Rattle.std.proofs.Common.{◌≡◌, take, drop, length-drop, inr, ℕ, suc, slice_index, ◌+◌, ◌-◌, ◌<◌, ◌≤◌, false, List, [], ◌∷◌, ◌++◌, length, Result, Ok, Err, refl, sym, ◌∙◌, ap, subst, arith, append_assoc, append-nil, length-append}
+use Rattle.std.proofs.Common.{◌≡◌, take, drop, length-drop, inr, ℕ, ◌+◌, ◌-◌, ◌<◌, ◌≤◌, false, List, [], ◌∷◌, ◌++◌, length, Result, Ok, Err, refl, sym, ◌∙◌, ap, subst, arith, append_assoc, append-nil, length-append}
 use Rattle.std.specs.Prelude.{◌==◌, IfErr, OnOk}
 use Rattle.std.proofs.lemmas.List.Elements.{All-append, All-nil, All-take}
-use Rattle.std.proofs.Math.Seq.{get_or-append_right}
 use Rattle.std.proofs.lemmas.List.{length-take-le, take-append-drop}
 use Rattle.std.specs.Str.Lines.{lines}
 use Rattle.zvt_grammar.specs.Lengths.{reading_of}
@@ -113,11 +112,3 @@ chunk_comes r scope bytes chunk line rest events walker has cut = subst (λ (t :
 -- where no line has begun
 pub chunk_begins : (r : Reading) (scope : Scope) (bytes chunk : List ℕ) (events : List At) (walker : Walker) → HasRead r scope bytes events walker → walker.begun.items ≡ [] → ReadTo r scope (bytes ++ chunk) chunk events walker.progress
 chunk_begins r scope bytes chunk events walker has none = subst (λ (t : List ℕ). ReadTo r scope (bytes ++ chunk) (t ++ chunk) events walker.progress) none (more_come r scope bytes chunk events walker has)
-
--- the last of these bytes is the last of all
-pub last_is : (held bytes : List ℕ) (place : ℕ) → 0 < length bytes → suc place ≡ length (held ++ bytes) → slice_index bytes (length bytes - 1) ≡ slice_index (held ++ bytes) place
-last_is held bytes place some all =
-    let size = length-append held bytes in
-    let at : length held ≤ place = omega (arith, some, all, size) in
-    let is : place - length held ≡ length bytes - 1 = omega (arith, some, all, size) in
-    ap (λ (n : ℕ). slice_index bytes n) (sym is) ∙ sym (get_or-append_right held bytes place 0 at)

@@ -184,10 +184,10 @@ cut_ends r line from stopped never = absurd never
 -- a message is cut off
 abbrev pub IsCut : TraceEvent → Type 0
 IsCut (trace_event.message from m) = ⊥
-IsCut (trace_event.refused from head byte place why) = ⊥
+IsCut (trace_event.refused from before byte why) = ⊥
 IsCut (trace_event.unread from) = ⊥
 IsCut (trace_event.resumed from size) = ⊥
-IsCut (trace_event.cut_off from head have) = ⊤
+IsCut (trace_event.cut_off from bytes) = ⊤
 IsCut trace_event.lost = ⊥
 
 -- a piece is unread where both sides are
@@ -232,10 +232,10 @@ module _ {S : Type 0} (hears : Hears S) where
     where
       still : (event : TraceEvent) → is_told true event ≡ false → refused_after true event ≡ true
       still (trace_event.message from m) silent = refl
-      still (trace_event.refused from head byte place why) silent = refl
+      still (trace_event.refused from before byte why) silent = refl
       still (trace_event.unread from) silent = refl
       still (trace_event.resumed from size) silent = refl
-      still (trace_event.cut_off from head have) silent = refl
+      still (trace_event.cut_off from bytes) silent = refl
       still trace_event.lost silent = let bad = silent in cc
 
   -- all is told, and no line is refused

@@ -12,21 +12,17 @@ use Rattle.zvt_grammar.specs.declared.why.Why.TheVariants.{DoesNotFit}
 use Rattle.zvt_grammar.specs.Tests.{check}
 use Rattle.zvt_grammar.proofs.CutLemmas.{spelled_append, spelled_more, spelled_push}
 use Rattle.zvt_grammar.proofs.CutLemmas as cut
-use Rattle.zvt_tlv.proofs.Places.{byte_more}
 use Rattle.zvt_tlv.specs.Judging.{Opener}
 use Rattle.zvt_apdu.specs.Message.{Message}
 use Rattle.zvt_apdu.specs.Grammar.{IsFrameLength, Spells}
 use Rattle.zvt_apdu.specs.Judging.{InData, can_fill, layout_of, Position, Role, first_control, second_control, first_size, low_size, high_size, free, digit, in_fields, fault}
 use Rattle.zvt_apdu.proofs.OneMessage.{messages_end_themselves}
 use Rattle.zvt_stream.specs.Apdus.{AliveIn, CutIn, IsRefusedIn, SpelledIn}
-use Rattle.zvt_stream.specs.Head.{head_of}
 use Rattle.zvt_stream.specs.OpenReading.{IsFramed, OpenItem, OpenSpells, read, unread}
-use Rattle.zvt_stream.specs.declared.head.Head.{Head}
-use Rattle.zvt_stream.specs.declared.head.Head.TheVariants.{Two}
 use Rattle.zvt_stream.proofs.Beginnings.{nothing_in}
 use Rattle.zvt_stream.proofs.FeedLemmas.{refused_more}
-use Rattle.zvt_stream.proofs.OpenLemmas.{alive_none, bytes_apart, bytes_joined, none_yet, spelled_open, zero_bytes, zeros, zeros_many}
-use Rattle.zvt_trace.specs.Emitting.{EndsWithin, PartEmits, PartsEmit, PieceEmits, ending_events, messages_emitted, side_after, told}
+use Rattle.zvt_stream.proofs.OpenLemmas.{alive_none, bytes_apart, bytes_joined, none_yet, refused_split, refused_there, spelled_open, zero_bytes, zeros, zeros_many}
+use Rattle.zvt_trace.specs.Emitting.{EndsWithin, PartEmits, PartsEmit, PieceEmits, ending_events, messages_emitted, refusal_event, side_after, told}
 use Rattle.zvt_trace.specs.OpenSides.{HearsCut, Piece, OpenSidesHearCuts, PiecesEmit, begun, bytes_in, facts_of, item_facts, refused, with_fact}
 use Rattle.zvt_trace.specs.Resuming.{IsWithin, announced, long_size, refused_size, resuming_events, side_refused, side_skipping, size_by, skipping_events}
 use Rattle.zvt_trace.specs.Trace.{Arrives, Ending, Side, running, skipping, stopped}
@@ -55,11 +51,6 @@ announced_more [] b n e = nothing_some n e
 announced_more (c ∷ []) b n e = nothing_some n e
 announced_more (c ∷ i ∷ []) b n e = nothing_some n e
 announced_more (c ∷ i ∷ s ∷ more) b n e = flag_more (s == 255) more b (3 + s) n e
-
-head_more : (a b : List ℕ) (n : ℕ) → announced a ≡ Some n → head_of (a ++ b) ≡ head_of a
-head_more [] b n e = nothing_some n e
-head_more (c ∷ []) b n e = nothing_some n e
-head_more (c ∷ i ∷ more) b n e = refl
 
 not_long : (s : ℕ) → s < 255 → (s == 255) ≡ false
 not_long s lt = elim (eqb_tells s 255) [
@@ -153,10 +144,10 @@ within_size place size lt = ap (λ (f : Bool). if f then Some size else None) (l
 
 facts_joined : (a b : List TraceEvent) (event : TraceEvent) → with_fact event (a ++ b) ≡ with_fact event a ++ b
 facts_joined a b (trace_event.message from m) = refl
-facts_joined a b (trace_event.refused from head byte place why) = refl
+facts_joined a b (trace_event.refused from before byte why) = refl
 facts_joined a b (trace_event.unread from) = refl
 facts_joined a b (trace_event.resumed from size) = refl
-facts_joined a b (trace_event.cut_off from head have) = refl
+facts_joined a b (trace_event.cut_off from bytes) = refl
 facts_joined a b trace_event.lost = refl
 
 facts_both : (a b : List At) → facts_of (a ++ b) ≡ facts_of a ++ facts_of b
@@ -177,8 +168,8 @@ heard_both from (m ∷ a) b = ap (λ (facts : List TraceEvent). trace_event.mess
 items_both : (from : Direction) (a b : List OpenItem) → item_facts from (a ++ b) ≡ item_facts from a ++ item_facts from b
 items_both from [] b = refl
 items_both from (read m ∷ a) b = ap (λ (facts : List TraceEvent). trace_event.message from m ∷ facts) (items_both from a b)
-items_both from (unread high low size place byte why ∷ a) b =
-    ap (λ (facts : List TraceEvent). trace_event.refused from (Two high low) byte place why ∷ trace_event.resumed from size ∷ facts) (items_both from a b)
+items_both from (unread high low size before byte why ∷ a) b =
+    ap (λ (facts : List TraceEvent). trace_event.refused from before byte why ∷ trace_event.resumed from size ∷ facts) (items_both from a b)
 
 items_read : (from : Direction) (messages : List Message) → item_facts from (map read messages) ≡ heard from messages
 items_read from [] = refl
@@ -210,15 +201,16 @@ pub record Skipping (r : Reading) (from : Direction) (bytes : List ℕ) (facts :
   pub part : List ℕ
   pub spelled : cuts.Spelled (OpenSpells r) bytes items part
   pub are_bytes : AreBytes part
-  pub place : ℕ
+  pub before : List ℕ
   pub byte : ℕ
+  pub later : List ℕ
   pub why : Why
-  pub refusal : IsRefusedIn r part place why
-  pub is_byte : slice_get part place ≡ Some byte
+  pub refusal : IsRefusedIn r part (length before) why
+  pub is_part : part ≡ before ++ byte ∷ later
   pub says : announced part ≡ Some size
   pub many : length part + left ≡ size
   pub some : 0 < left
-  pub is_all : facts ≡ item_facts from items ++ trace_event.refused from (head_of part) byte place why ∷ []
+  pub is_all : facts ≡ item_facts from items ++ trace_event.refused from before byte why ∷ []
 
 abbrev pub Stands : Reading → Direction → List ℕ → List TraceEvent → Side → Type 0
 Stands r from bytes facts (running before) = Running r from bytes facts before
@@ -226,24 +218,21 @@ Stands r from bytes facts (skipping size left) = Skipping r from bytes facts siz
 Stands r from bytes facts stopped = ⊥
 
 -- a refused message has come so far: all of it, or not
-frame_of_part : (part : List ℕ) (f : IsFramed part) → head_of part ≡ Two f.0 f.1
-frame_of_part part (high, low, f) = ap head_of f.whole
-
-closes : (r : Reading) (line : ℕ) (from : Direction) (bytes : List ℕ) (facts : List TraceEvent) (items : List OpenItem) (part : List ℕ) (place byte : ℕ) (why : Why) (size left : ℕ)
-    → cuts.Spelled (OpenSpells r) bytes items part → AreBytes part → IsRefusedIn r part place why → slice_get part place ≡ Some byte → announced part ≡ Some size → length part + left ≡ size
-    → facts ≡ item_facts from items ++ trace_event.refused from (head_of part) byte place why ∷ []
+closes : (r : Reading) (line : ℕ) (from : Direction) (bytes : List ℕ) (facts : List TraceEvent) (items : List OpenItem) (part before : List ℕ) (byte : ℕ) (later : List ℕ) (why : Why) (size left : ℕ)
+    → cuts.Spelled (OpenSpells r) bytes items part → AreBytes part → IsRefusedIn r part (length before) why → part ≡ before ++ byte ∷ later → announced part ≡ Some size → length part + left ≡ size
+    → facts ≡ item_facts from items ++ trace_event.refused from before byte why ∷ []
     → Stands r from bytes (facts ++ facts_of (skipping_events line from size left)) (side_skipping size left)
-closes r line from bytes facts items part place byte why size zero spelled are p is says many all =
+closes r line from bytes facts items part before byte later why size zero spelled are p is says many all =
     let sized : size ≡ length part = omega (arith, many) in
     let f = framed_sized part are (says ∙ ap Some sized) in
-    let item = unread f.0 f.1 size place byte why in
-    let last : item_facts from (items ++ item ∷ []) ≡ item_facts from items ++ trace_event.refused from (Two f.0 f.1) byte place why ∷ trace_event.resumed from size ∷ [] = items_both from items (item ∷ []) in
+    let item = unread f.0 f.1 size before byte why in
+    let last : item_facts from (items ++ item ∷ []) ≡ item_facts from items ++ trace_event.refused from before byte why ∷ trace_event.resumed from size ∷ [] = items_both from items (item ∷ []) in
     let whole : facts ++ trace_event.resumed from size ∷ [] ≡ item_facts from (items ++ item ∷ []) =
-    ap (λ (l : List TraceEvent). l ++ trace_event.resumed from size ∷ []) (all ∙ ap (λ (h : Head). item_facts from items ++ trace_event.refused from h byte place why ∷ []) (frame_of_part part f))
-    ∙ append_assoc (item_facts from items) (trace_event.refused from (Two f.0 f.1) byte place why ∷ []) (trace_event.resumed from size ∷ []) ∙ sym last in
+    ap (λ (l : List TraceEvent). l ++ trace_event.resumed from size ∷ []) all
+    ∙ append_assoc (item_facts from items) (trace_event.refused from before byte why ∷ []) (trace_event.resumed from size ∷ []) ∙ sym last in
     record {
       items = items ++ item ∷ [];
-      spelled = spelled_push (OpenSpells r) items item bytes part [] part spelled (sym (append-nil part)) (f.2, sized, p, is);
+      spelled = spelled_push (OpenSpells r) items item bytes part [] part spelled (sym (append-nil part)) (f.2, sized, p, (later, is));
       messages = [];
       rest = [];
       cut = record { spelled = refl; none_whole = (nothing_in r).none_whole };
@@ -251,16 +240,17 @@ closes r line from bytes facts items part place byte why size zero spelled are p
       are_bytes = tt;
       is_all = whole ∙ sym (append-nil (item_facts from (items ++ item ∷ [])));
     }
-closes r line from bytes facts items part place byte why size (suc left) spelled are p is says many all = record {
+closes r line from bytes facts items part before byte later why size (suc left) spelled are p is says many all = record {
   items = items;
   part = part;
   spelled = spelled;
   are_bytes = are;
-  place = place;
+  before = before;
   byte = byte;
+  later = later;
   why = why;
   refusal = p;
-  is_byte = is;
+  is_part = is;
   says = says;
   many = many;
   some = omega arith;
@@ -306,18 +296,20 @@ module _ (r : Reading) (line : ℕ) (from : Direction) (bytes part : List ℕ) (
       let same : refused_size OneMessage rest place ≡ Some size = ap (size_by OneMessage place) found.1 ∙ within_size place size found.2 in
       let few : length rest ≤ size = subst (λ (o : Option ℕ). IsWithin o (length rest)) same w in
       let byte = a.ends.1.byte in
+      let first = take place rest in
+      let split = refused_split r rest place why refusal in
       let items = s.items ++ map read (a.earlier ++ messages) in
       let spelled = spelled_append (OpenSpells r) s.items (map read (a.earlier ++ messages)) (bytes ++ part) (before ++ part) rest
       (spelled_more (OpenSpells r) s.items bytes before part s.spelled) (spelled_open r (before ++ part) (a.earlier ++ messages) rest a.now.spelled) in
-      let event = trace_event.refused from (head_of rest) byte place why in
+      let event = trace_event.refused from first byte why in
       let until_now : facts ++ heard from messages ≡ item_facts from items =
       all_heard before s messages rest (ending.refused place why) a ∙ ap (λ (l : List TraceEvent). item_facts from s.items ++ l) (sym (items_read from (a.earlier ++ messages))) ∙ sym (items_both from s.items (map read (a.earlier ++ messages))) in
       let told_now : (facts ++ heard from messages) ++ event ∷ [] ≡ item_facts from items ++ event ∷ [] = ap (λ (l : List TraceEvent). l ++ event ∷ []) until_now in
       let says : announced rest ≡ Some size = subst (λ (b : List ℕ). announced b ≡ Some size) (take-append-drop (suc place) rest) (announced_more (take (suc place) rest) (drop (suc place) rest) size found.1) in
-      let stands = closes r line from (bytes ++ part) ((facts ++ heard from messages) ++ event ∷ []) items rest place byte why size (size - length rest) spelled are refusal a.ends.1.is_byte says (omega (arith, few)) told_now in
+      let stands = closes r line from (bytes ++ part) ((facts ++ heard from messages) ++ event ∷ []) items rest first byte split.0 why size (size - length rest) spelled are (refused_there r rest place why refusal) split.1 says (omega (arith, few)) told_now in
       let shown : slice_index rest place ≡ byte = get_or_from_slice_get rest place byte 0 a.ends.1.is_byte in
-      subst (λ (o : Option ℕ). Stands r from (bytes ++ part) (facts ++ facts_of (messages_emitted line from messages ++ on line (trace_event.refused from (head_of rest) (slice_index rest place) place why) ∷ resuming_events line from o (length rest))) (side_refused o (length rest))) (sym same)
-      (subst (λ (x : ℕ). Stands r from (bytes ++ part) (facts ++ facts_of (messages_emitted line from messages ++ on line (trace_event.refused from (head_of rest) x place why) ∷ skipping_events line from size (size - length rest))) (side_skipping size (size - length rest))) (sym shown)
+      subst (λ (o : Option ℕ). Stands r from (bytes ++ part) (facts ++ facts_of (messages_emitted line from messages ++ refusal_event line from rest place why ∷ resuming_events line from o (length rest))) (side_refused o (length rest))) (sym same)
+      (subst (λ (x : ℕ). Stands r from (bytes ++ part) (facts ++ facts_of (messages_emitted line from messages ++ on line (trace_event.refused from first x why) ∷ skipping_events line from size (size - length rest))) (side_skipping size (size - length rest))) (sym shown)
       (subst (λ (l : List TraceEvent). Stands r from (bytes ++ part) l (side_skipping size (size - length rest))) (regrouped messages event (skipping_events line from size (size - length rest)) refl) stands))
     where
       regrouped : (messages : List Message) (event : TraceEvent) (later : List At) → with_fact event (facts_of later) ≡ event ∷ facts_of later
@@ -329,9 +321,9 @@ module _ (r : Reading) (line : ℕ) (from : Direction) (bytes part : List ℕ) (
   skips_on : (size left : ℕ) → Skipping r from bytes facts size left → length part ≤ left
       → Stands r from (bytes ++ part) (facts ++ facts_of (skipping_events line from size (left - length part))) (side_skipping size (left - length part))
   skips_on size left s few =
-      closes r line from (bytes ++ part) facts s.items (s.part ++ part) s.place s.byte s.why size (left - length part) (spelled_more (OpenSpells r) s.items bytes s.part part s.spelled) (bytes_joined s.part part s.are_bytes ready)
-      (refused_more r s.part part s.place s.why s.refusal) (byte_more s.part part s.place s.byte s.is_byte) (announced_more s.part part size s.says) (omega (arith, few, s.many, length-append s.part part))
-      (s.is_all ∙ ap (λ (h : Head). item_facts from s.items ++ trace_event.refused from h s.byte s.place s.why ∷ []) (sym (head_more s.part part size s.says)))
+      closes r line from (bytes ++ part) facts s.items (s.part ++ part) s.before s.byte (s.later ++ part) s.why size (left - length part) (spelled_more (OpenSpells r) s.items bytes s.part part s.spelled) (bytes_joined s.part part s.are_bytes ready)
+      (refused_more r s.part part (length s.before) s.why s.refusal) (ap (λ (l : List ℕ). l ++ part) s.is_part ∙ append_assoc s.before (s.byte ∷ s.later) part) (announced_more s.part part size s.says) (omega (arith, few, s.many, length-append s.part part))
+      s.is_all
 
   part_stands : (side : Side) (own : List At) (middle : Side) → Stands r from bytes facts side → PartEmits r OneMessage line from side part own middle → Stands r from (bytes ++ part) (facts ++ facts_of own) middle
   part_stands (running before) own middle s e =
@@ -405,8 +397,8 @@ heard_cut r from bytes events (skipping size left) s =
         items = s.items;
         rest = s.part;
         cut = record { spelled = s.spelled; none_whole = none_yet r s.part more (omega (arith, s.some, zeros_many left)) f };
-        last = trace_event.refused from (head_of s.part) s.byte s.place s.why ∷ [];
-        of_rest = refused s.place s.byte s.why s.refusal s.is_byte refl;
+        last = trace_event.refused from s.before s.byte s.why ∷ [];
+        of_rest = refused s.before s.later s.byte s.why s.refusal s.is_part refl;
         is_all = s.is_all;
       },
       λ e. goes_on size left e,

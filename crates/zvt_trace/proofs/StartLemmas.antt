@@ -1,8 +1,7 @@
 -- A new stream.
-use Rattle.std.proofs.Common.{◌≡◌, ℕ, List, [], ◌∷◌, refl, take}
+use Rattle.std.proofs.Common.{◌≡◌, [], refl}
 use Rattle.zvt_grammar.specs.Reading.{Reading}
 use Rattle.zvt_stream.proofs.Beginnings.{nothing_in}
-use Rattle.zvt_stream.specs.Head.{head_of}
 use Rattle.zvt_stream.specs.StreamState.{StreamState, start_in}
 use Rattle.zvt_trace.specs.Trace.{running}
 use Rattle.zvt_trace.specs.Written.{StreamFollows}
@@ -10,9 +9,3 @@ use Rattle.zvt_trace.specs.Written.{StreamFollows}
 -- nothing is held by a new stream
 pub new_follows : {r : Reading} (state : StreamState) → state ≡ start_in r → StreamFollows r state (running [])
 new_follows {r = r} state is = rw is (refl, [], record { spelled = refl; none_whole = (nothing_in r).none_whole })
-
--- the first bytes have the control bytes
-pub first_head : (held : List ℕ) → head_of (take 5 held) ≡ head_of held
-first_head [] = refl
-first_head (first ∷ []) = refl
-first_head (first ∷ second ∷ more) = refl

@@ -22,10 +22,10 @@ never_fails old event why new = ⊥
 one_counted : (tally : Tally) (event : TraceEvent) → tally.messages + message_count event ≤ 18446744073709551615 → tally.bad + bad_count event ≤ 18446744073709551615
     → ((counted tally event).messages ≡ tally.messages + message_count event) × ((counted tally event).bad ≡ tally.bad + bad_count event)
 one_counted tally (message from m) few none = (omega (arith, few), omega arith)
-one_counted tally (refused from head byte place why) none few = (omega arith, omega (arith, few))
+one_counted tally (refused from before byte why) none few = (omega arith, omega (arith, few))
 one_counted tally (unread from) none few = (omega arith, omega arith)
 one_counted tally (resumed from size) none few = (omega arith, omega arith)
-one_counted tally (cut_off from head have) none few = (omega arith, omega (arith, few))
+one_counted tally (cut_off from bytes) none few = (omega arith, omega (arith, few))
 one_counted tally lost none few = (omega arith, omega arith)
 
 -- all events are counted, where there is room

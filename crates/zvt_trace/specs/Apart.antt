@@ -22,10 +22,10 @@ HearsAlone hears fails old event new = HearsOrFailed hears fails old.fault new.f
 -- A refusal lasts until the connection is lost.
 abbrev pub refused_after : (was : Bool) → TraceEvent → Bool
 refused_after was (message from m) = was
-refused_after was (refused from head byte place why) = true
+refused_after was (refused from before byte why) = true
 refused_after was (unread from) = was
 refused_after was (resumed from size) = was
-refused_after was (cut_off from head have) = was
+refused_after was (cut_off from bytes) = was
 refused_after was lost = false
 
 -- nothing is told of a line that was refused before the event and is after it

@@ -1,12 +1,12 @@
 -- The events of a piece, of a line, and of a whole trace.
-use Rattle.std.specs.Prelude.{⊤, ◌≡◌, ◌⊎◌, ◌≤◌, ℕ, ◌+◌, ◌-◌, List, [], ◌∷◌, ◌++◌, length, map, slice_index, Ok, Err}
+use Rattle.std.specs.Prelude.{⊤, ◌≡◌, ◌⊎◌, ◌≤◌, ℕ, ◌+◌, ◌-◌, List, [], ◌∷◌, ◌++◌, length, map, slice_index, take, Ok, Err}
 use Rattle.std.specs.List.{concat}
 use Rattle.zvt_grammar.specs.Cuts.{Cut}
 use Rattle.zvt_grammar.specs.Reading.{Reading}
+use Rattle.zvt_grammar.specs.declared.why.Why.{Why}
 use Rattle.zvt_apdu.specs.Grammar.{Spells}
 use Rattle.zvt_apdu.specs.Message.{Message}
 use Rattle.zvt_trace.specs.Meanings.{Meaning, lost, meaning_of, piece, comment}
-use Rattle.zvt_stream.specs.Head.{head_of}
 use Rattle.zvt_trace.specs.TraceEvent.{At, on}
 use Rattle.zvt_trace.specs.TraceEvent as trace_event
 use Rattle.zvt_trace.specs.Resuming.{IsWithin, refused_size, resuming_events, side_refused, side_skipping, skipping_events}
@@ -22,10 +22,14 @@ use Rattle.zvt_trace.specs.declared.listener.Scope.TheVariants.{OneMessage, OneS
 abbrev pub messages_emitted : ℕ → Direction → List Message → List At
 messages_emitted line from messages = map (λ (message : Message). on line (trace_event.message from message)) messages
 
+-- the refusal of a message at this place of its bytes
+abbrev pub refusal_event : ℕ → Direction → List ℕ → (place : ℕ) → Why → At
+refusal_event line from bytes place why = on line (trace_event.refused from (take place bytes) (slice_index bytes place) why)
+
 abbrev pub ending_events : Scope → ℕ → Direction → List ℕ → Ending → List At
 ending_events scope line from rest begun = []
 ending_events scope line from rest (refused place why) =
-    on line (trace_event.refused from (head_of rest) (slice_index rest place) place why) ∷ resuming_events line from (refused_size scope rest place) (length rest)
+    refusal_event line from rest place why ∷ resuming_events line from (refused_size scope rest place) (length rest)
 
 abbrev pub side_after : Scope → (bytes rest : List ℕ) → Ending → Side
 side_after scope bytes rest begun = running bytes
@@ -90,7 +94,7 @@ pub record PieceEmits (r : Reading) (scope : Scope) (line : ℕ) (from : Directi
 
 abbrev pub cut_off_event : ℕ → Direction → List ℕ → List At
 cut_off_event line from [] = []
-cut_off_event line from (byte ∷ bytes) = on line (trace_event.cut_off from (head_of (byte ∷ bytes)) (length (byte ∷ bytes))) ∷ []
+cut_off_event line from (byte ∷ bytes) = on line (trace_event.cut_off from (byte ∷ bytes)) ∷ []
 
 -- the end of the line cuts off the unfinished message of a side
 abbrev pub SideEnds : Reading → ℕ → Direction → Side → List At → Type 0

@@ -1,11 +1,9 @@
 -- A side that is read on after refused messages hears the open cut of its bytes.
-use Rattle.std.specs.Prelude.{◌≡◌, ℕ, Some, List, [], ◌∷◌, ◌++◌, slice_get}
+use Rattle.std.specs.Prelude.{◌≡◌, ℕ, List, [], ◌∷◌, ◌++◌, length}
 use Rattle.zvt_grammar.specs.Reading.{Reading, AreBytes}
 use Rattle.zvt_grammar.specs.declared.why.Why.{Why}
 use Rattle.zvt_stream.specs.Apdus.{AliveIn, IsRefusedIn}
-use Rattle.zvt_stream.specs.Head.{head_of}
 use Rattle.zvt_stream.specs.OpenReading.{OpenCutIn, OpenItem, read, unread}
-use Rattle.zvt_stream.specs.declared.head.Head.TheVariants.{Two}
 use Rattle.zvt_trace.specs.Emitting.{PieceEmits}
 use Rattle.zvt_trace.specs.Trace.{Side, running, stopped}
 use Rattle.zvt_trace.specs.TraceEvent.{At, TraceEvent}
@@ -35,10 +33,10 @@ PiecesEmit r scope from side (piece ∷ pieces) events after =
 -- A line whose piece is skipped adds nothing.
 abbrev pub with_fact : TraceEvent → List TraceEvent → List TraceEvent
 with_fact (trace_event.message from m) facts = trace_event.message from m ∷ facts
-with_fact (trace_event.refused from head byte place why) facts = trace_event.refused from head byte place why ∷ facts
+with_fact (trace_event.refused from before byte why) facts = trace_event.refused from before byte why ∷ facts
 with_fact (trace_event.unread from) facts = facts
 with_fact (trace_event.resumed from size) facts = trace_event.resumed from size ∷ facts
-with_fact (trace_event.cut_off from head have) facts = trace_event.cut_off from head have ∷ facts
+with_fact (trace_event.cut_off from bytes) facts = trace_event.cut_off from bytes ∷ facts
 with_fact trace_event.lost facts = trace_event.lost ∷ facts
 
 abbrev pub facts_of : List At → List TraceEvent
@@ -49,12 +47,12 @@ facts_of (event ∷ events) = with_fact event.trace_event (facts_of events)
 abbrev pub item_facts : Direction → List OpenItem → List TraceEvent
 item_facts from [] = []
 item_facts from (read m ∷ items) = trace_event.message from m ∷ item_facts from items
-item_facts from (unread high low size place byte why ∷ items) = trace_event.refused from (Two high low) byte place why ∷ trace_event.resumed from size ∷ item_facts from items
+item_facts from (unread high low size before byte why ∷ items) = trace_event.refused from before byte why ∷ trace_event.resumed from size ∷ item_facts from items
 
 -- of the bytes after the items: nothing, or a refusal
 pub data RestFacts (r : Reading) (from : Direction) (rest : List ℕ) (facts : List TraceEvent) : Type 0 where
   begun : AliveIn r rest → facts ≡ [] → RestFacts r from rest facts
-  refused : (place byte : ℕ) (why : Why) → IsRefusedIn r rest place why → slice_get rest place ≡ Some byte → facts ≡ trace_event.refused from (head_of rest) byte place why ∷ [] → RestFacts r from rest facts
+  refused : (before later : List ℕ) (byte : ℕ) (why : Why) → IsRefusedIn r rest (length before) why → rest ≡ before ++ byte ∷ later → facts ≡ trace_event.refused from before byte why ∷ [] → RestFacts r from rest facts
 
 -- The events report the open cut of the bytes.
 pub record HearsCut (r : Reading) (from : Direction) (bytes : List ℕ) (events : List At) : Type 0 where

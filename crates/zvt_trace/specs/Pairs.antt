@@ -20,8 +20,8 @@ one_more n = min (n + 1) 18446744073709551615
 -- messages are counted, and so are streams that are refused or cut off
 abbrev pub counted : Tally → TraceEvent → Tally
 counted tally (message from m) = record tally { messages = one_more tally.messages }
-counted tally (refused from head byte place why) = record tally { bad = one_more tally.bad }
+counted tally (refused from before byte why) = record tally { bad = one_more tally.bad }
 counted tally (unread from) = tally
 counted tally (resumed from size) = tally
-counted tally (cut_off from head have) = record tally { bad = one_more tally.bad }
+counted tally (cut_off from bytes) = record tally { bad = one_more tally.bad }
 counted tally lost = tally

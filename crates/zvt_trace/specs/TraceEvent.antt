@@ -1,5 +1,5 @@
 -- The events of a trace, with their lines.
-use Rattle.std.specs.Prelude.{◌≡◌, ℕ, List}
+use Rattle.std.specs.Prelude.{◌≡◌, ℕ, List, [], ◌∷◌, ◌++◌}
 use Rattle.std.specs.List.{sum_by}
 use Rattle.zvt_grammar.specs.declared.why.Why.{Why}
 use Rattle.zvt_grammar.specs.Lengths.{reading_of}
@@ -7,20 +7,25 @@ use Rattle.zvt_apdu.specs.Grammar.{Spells}
 use Rattle.zvt_apdu.specs.Message.{Message}
 use Rattle.zvt_trace.specs.declared.direction.Direction.{Direction}
 use Rattle.zvt_trace.specs.declared.fault.Tally.{Tally}
+use Rattle.zvt_stream.specs.Head.{head_of}
 use Rattle.zvt_stream.specs.declared.head.Head.{Head}
 use Rattle.zvt_trace.specs.declared.event.TraceEvent as code
 use Rattle.zvt_trace.specs.declared.event.TraceEvent.TheVariants as code_event
 
--- a complete message; a refusal, with the first byte after which no message can follow; an unread piece after a refusal;
--- the end of a refused message of this size, where reading resumes; the end of the line after this many bytes of a
--- message; or the loss of the connection
+-- a complete message; a refusal: the bytes of a message before the first after which none can follow, and that byte; an
+-- unread piece after a refusal; the end of a refused message of this size, where reading resumes; the end of the line
+-- after these bytes of a message; or the loss of the connection
 pub data TraceEvent : Type 0 where
   message : (from : Direction) → (message : Message) → TraceEvent
-  refused : (from : Direction) → (head : Head) → (byte place : ℕ) → (why : Why) → TraceEvent
+  refused : (from : Direction) → (before : List ℕ) → (byte : ℕ) → (why : Why) → TraceEvent
   unread : (from : Direction) → TraceEvent
   resumed : (from : Direction) → (size : ℕ) → TraceEvent
-  cut_off : (from : Direction) → (head : Head) → (have : ℕ) → TraceEvent
+  cut_off : (from : Direction) → (bytes : List ℕ) → TraceEvent
   lost : TraceEvent
+
+-- the control bytes of a refused message, as far as they have arrived
+abbrev pub refused_head : (before : List ℕ) → (byte : ℕ) → Head
+refused_head before byte = head_of (before ++ byte ∷ [])
 
 -- an event at a line of the trace, which is counted from 1
 pub record At : Type 0 where
@@ -34,10 +39,10 @@ on line trace_event = record { line = line; trace_event = trace_event }
 
 abbrev pub event_of : code.TraceEvent → TraceEvent
 event_of (code_event.Message from apdu bytes lengths) = message from apdu
-event_of (code_event.Refused from refusal) = refused from refusal.head refusal.byte refusal.place refusal.why
+event_of (code_event.Refused from refusal) = refused from refusal.before.now refusal.byte refusal.why
 event_of (code_event.Unread from) = unread from
 event_of (code_event.Resumed from size) = resumed from size
-event_of (code_event.CutOff from head have) = cut_off from head have
+event_of (code_event.CutOff from bytes) = cut_off from bytes.now
 event_of code_event.Lost = lost
 
 -- the bytes of a message are a spelling of it by the reading of its event: by the shortest lengths its one spelling
@@ -46,25 +51,25 @@ HasItsBytes (code_event.Message from apdu bytes lengths) = Spells (reading_of le
 HasItsBytes (code_event.Refused from refusal) = Unit {0}
 HasItsBytes (code_event.Unread from) = Unit {0}
 HasItsBytes (code_event.Resumed from size) = Unit {0}
-HasItsBytes (code_event.CutOff from head have) = Unit {0}
+HasItsBytes (code_event.CutOff from bytes) = Unit {0}
 HasItsBytes code_event.Lost = Unit {0}
 
 -- ---- counts
 
 abbrev pub message_count : TraceEvent → ℕ
 message_count (message from m) = 1
-message_count (refused from head byte place why) = 0
+message_count (refused from before byte why) = 0
 message_count (unread from) = 0
 message_count (resumed from size) = 0
-message_count (cut_off from head have) = 0
+message_count (cut_off from bytes) = 0
 message_count lost = 0
 
 abbrev pub bad_count : TraceEvent → ℕ
 bad_count (message from m) = 0
-bad_count (refused from head byte place why) = 1
+bad_count (refused from before byte why) = 1
 bad_count (unread from) = 0
 bad_count (resumed from size) = 0
-bad_count (cut_off from head have) = 1
+bad_count (cut_off from bytes) = 1
 bad_count lost = 0
 
 abbrev pub messages_in : List At → ℕ

@@ -7,10 +7,10 @@ use Rattle.zvt_trace.specs.declared.listener.Scope.{Scope}
 
 abbrev pub is_refusal : TraceEvent → Bool
 is_refusal (message from m) = false
-is_refusal (refused from head byte place why) = true
+is_refusal (refused from before byte why) = true
 is_refusal (unread from) = false
 is_refusal (resumed from size) = false
-is_refusal (cut_off from head have) = false
+is_refusal (cut_off from bytes) = false
 is_refusal lost = false
 
 abbrev pub NoneRefused : List At → Type 0

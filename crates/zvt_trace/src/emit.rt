@@ -1,16 +1,14 @@
 //! Passes the events of one side of the line to a listener.
-ghost use Rattle.std.specs.Prelude.{◌≡◌, ◌<◌, ◌≤◌, ◌+◌, ◌++◌, List, ℕ, suc, length, slice_index, false, true, Some};
-ghost use Rattle.std.specs.Prelude.{IfOk, OnOk, MatchResult};
+ghost use Rattle.std.specs.Prelude.{◌≡◌, ◌<◌, ℕ, length, false, true, Some};
+ghost use Rattle.std.specs.Prelude.{OnOk, MatchResult};
 ghost use Rattle.zvt_grammar.specs.Reading.{Reading};
 ghost use Rattle.zvt_grammar.specs.Lengths.{reading_of};
 ghost use Rattle.zvt_apdu.specs.Message.{Message};
-ghost use Rattle.zvt_stream.specs.Head.{head_of};
 ghost use Rattle.zvt_stream.specs.LineReading.{strictly};
-ghost use Rattle.zvt_stream.specs.StreamState.{opening_of};
 ghost use Rattle.zvt_trace.specs.TraceEvent.{on};
 ghost use Rattle.zvt_trace.specs.TraceEvent as trace_event;
 ghost use Rattle.zvt_trace.specs.Trace.{Side};
-ghost use Rattle.zvt_trace.specs.Emitting.{SideEnds};
+ghost use Rattle.zvt_trace.specs.Emitting.{SideEnds, refusal_event};
 ghost use Rattle.zvt_trace.specs.Listening.{EmitsEnd, EmitsRest, StaysSilent};
 ghost use Rattle.zvt_trace.specs.Written.{ReadsBy, SkipsTo, StreamFollows, is_everything};
 
@@ -21,7 +19,7 @@ use crate::side::{SideReader, Skipped};
 use std::alloc::Global;
 use zvt_apdu::view;
 use zvt_grammar::{Lengths, Why};
-use zvt_stream::{Head, Stream, Truncated};
+use zvt_stream::Stream;
 
 /// The options of a walk: its allocator, what a refusal leaves unread, and the accepted forms of length.
 #[derive(Clone, Copy)]
@@ -59,7 +57,7 @@ pub(crate) fn emit_message<L: Listener>(
     listener.hear(line, &trace_event)
 }
 
-/// Emits the refusal of a message at its byte `place`. `bytes` is the part of the message that arrived last.
+/// Emits the refusal of a message at its byte `place`.
 #[cold]
 #[inline(never)]
 pub(crate) fn emit_refusal<L: Listener>(
@@ -67,24 +65,18 @@ pub(crate) fn emit_refusal<L: Listener>(
     line: u64,
     from: Direction,
     stream: &Stream,
-    bytes: &[u8],
     place: usize,
     why: Why,
 ) -> Result<(), ListenerError>
-    requires some { 0 < length bytes.now }
-    ensures { (held : List ℕ) → stream.now.opening ≡ opening_of (held ++ bytes.now)
-        → suc place ≡ length (held ++ bytes.now)
-        → MatchResult result
-        (λ _. L.hears listener.old (on line (trace_event.refused from (head_of (held ++ bytes.now))
-        (slice_index (held ++ bytes.now) place) place why)) listener.new)
-        (λ failure. L.fails listener.old (on line (trace_event.refused from (head_of (held ++ bytes.now))
-        (slice_index (held ++ bytes.now) place) place why)) failure listener.new) }
+    requires { place < length stream.now.refused_bytes }
+    ensures { MatchResult result
+        (λ _. L.hears listener.old (refusal_event line from stream.now.refused_bytes place why) listener.new)
+        (λ failure. L.fails listener.old (refusal_event line from stream.now.refused_bytes place why) failure listener.new) }
 {
-    let head = Head::Empty.before(stream.opening());
+    let bytes = stream.refused_bytes();
     let refusal = Refusal {
-        head,
-        byte: bytes[bytes.len() - 1],
-        place,
+        before: &bytes[..place],
+        byte: bytes[place],
         why,
     };
     listener.hear(line, &TraceEvent::Refused { from, refusal })
@@ -147,11 +139,9 @@ pub(crate) fn emit_truncation<L: Listener>(
     ensures { (r : Reading) (side : Side) → StreamFollows r stream.now side → EmitsEnd L.hears L.fails
         (SideEnds r line from side) 1 listener.old listener.new result }
 {
-    match stream.finish() {
-        Ok(()) => Ok(()),
-        Err(Truncated { have }) => {
-            let head = stream.head();
-            listener.hear(line, &TraceEvent::CutOff { from, head, have })
-        }
+    let bytes = stream.unfinished();
+    if bytes.is_empty() {
+        return Ok(());
     }
+    listener.hear(line, &TraceEvent::CutOff { from, bytes })
 }

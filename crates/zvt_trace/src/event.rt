@@ -5,16 +5,33 @@ use zvt_apdu::ApduView;
 use zvt_grammar::{Lengths, Why};
 use zvt_stream::Head;
 
-/// The index at which a message is refused, and the reason.
+/// Where a message is refused, and why.
 #[derive(Clone, Copy)]
-pub struct Refusal {
-    /// The control bytes of the message, as far as they have arrived.
-    pub head: Head,
-    /// The first byte after which no message can follow.
+pub struct Refusal<'a> {
+    /// The bytes of the message before the first after which no message can follow.
+    pub before: &'a [u8],
+    /// That byte.
     pub byte: u8,
-    /// The offset of that byte from the start of the message.
-    pub place: usize,
     pub why: Why,
+}
+
+impl<'a> Refusal<'a> {
+    ghost use Rattle.std.specs.Prelude.{◌≡◌, length};
+    ghost use Rattle.zvt_trace.specs.TraceEvent.{refused_head};
+
+    /// Returns the control bytes of the message, as far as they have arrived.
+    pub fn head(&self) -> Head
+        ensures { result ≡ refused_head self.now.before.now self.now.byte }
+    {
+        Head::of(self.before).then(self.byte)
+    }
+
+    /// Returns the offset of the refused byte from the start of the message.
+    pub fn place(&self) -> usize
+        ensures { result ≡ length self.now.before.now }
+    {
+        self.before.len()
+    }
 }
 
 /// An event at a line of a trace.
@@ -30,7 +47,7 @@ pub enum TraceEvent<'a> {
     /// No message starts with the bytes of this side.
     Refused {
         from: Direction,
-        refusal: Refusal,
+        refusal: Refusal<'a>,
     },
     /// A piece after a refusal, which is not read.
     Unread {
@@ -41,11 +58,10 @@ pub enum TraceEvent<'a> {
         from: Direction,
         size: usize,
     },
-    /// The line ends after the first `have` bytes of a message.
+    /// The line ends after these first bytes of a message.
     CutOff {
         from: Direction,
-        head: Head,
-        have: usize,
+        bytes: &'a [u8],
     },
     /// The line between till and terminal was lost.
     Lost,

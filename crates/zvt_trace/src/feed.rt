@@ -58,8 +58,8 @@ fn feed_next<'b, L: Listener>(
             rest: &[],
         }),
         Ok(FedView::Refused { place, why }) => {
-            let (refused, rest) = bytes.split_at(place - held + 1);
-            emit_refusal(listener, line, from, &reader.stream, refused, place, why)?;
+            let rest = bytes.split_at(place - held + 1).1;
+            emit_refusal(listener, line, from, &reader.stream, place, why)?;
             reader.refuse(options.scope, place);
             emit_resumed(listener, options, line, from, reader)?;
             Ok(Next { any: true, rest })

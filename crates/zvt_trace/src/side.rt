@@ -1,7 +1,6 @@
 //! Reads one side of a line.
-ghost use Rattle.std.specs.Prelude.{◌≡◌, ◌++◌, [], ℕ, List, length, suc};
+ghost use Rattle.std.specs.Prelude.{◌≡◌, [], length, suc};
 ghost use Rattle.zvt_grammar.specs.Lengths.{reading_of};
-ghost use Rattle.zvt_stream.specs.StreamState.{opening_of};
 ghost use Rattle.zvt_trace.specs.Resuming.{announced, refused_size, size_by};
 ghost use Rattle.zvt_trace.specs.Trace.{running};
 ghost use Rattle.zvt_trace.specs.Written.{Follows, ReadsBy, Skips, is_everything, is_nothing, skipped_by};
@@ -12,11 +11,11 @@ use zvt_grammar::Lengths;
 use zvt_stream::Stream;
 
 /// Returns the size of the whole message, if its first bytes announce it.
-fn announced(opening: &[u8]) -> Option<usize>
-    ensures { (whole : List ℕ) → opening.now ≡ opening_of whole → result ≡ announced whole }
+fn announced(bytes: &[u8]) -> Option<usize>
+    ensures { result ≡ announced bytes.now }
 {
-    match opening {
-        [_, _, 0xFF, low, high] => Some(5 + *low as usize + 256 * *high as usize),
+    match bytes {
+        [_, _, 0xFF, low, high, ..] => Some(5 + *low as usize + 256 * *high as usize),
         [_, _, 0xFF, ..] => None,
         [_, _, size, ..] => Some(3 + *size as usize),
         _ => None,
@@ -91,11 +90,11 @@ impl SideReader {
     #[cold]
     #[inline(never)]
     pub(crate) fn refuse(&mut self, scope: Scope, place: usize)
-        ensures skipped { (whole : List ℕ) → self.old.stream.opening ≡ opening_of whole → suc place ≡ length whole
-            → self.new.skipped ≡ skipped_by (refused_size scope whole place) (length whole) }
+        ensures skipped { suc place ≡ length self.old.stream.refused_bytes → self.new.skipped ≡ skipped_by
+            (refused_size scope self.old.stream.refused_bytes place) (length self.old.stream.refused_bytes) }
         ensures stream { self.new.stream ≡ self.old.stream }
     {
-        let size = announced(self.stream.opening());
+        let size = announced(self.stream.refused_bytes());
         self.skipped = Skipped::after(scope, size, place);
     }
 

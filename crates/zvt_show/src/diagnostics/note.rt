@@ -1,5 +1,6 @@
 //! The note of one bad stream.
-ghost use Rattle.std.specs.Prelude.{◌≡◌, ◌++◌, OnOk};
+ghost use Rattle.std.specs.Prelude.{◌≡◌, ◌++◌, OnOk, length};
+ghost use Rattle.zvt_stream.specs.Head.{head_of};
 ghost use Rattle.zvt_trace.specs.TraceEvent.{event_of};
 ghost use Rattle.zvt_show.specs.Notes.{begun_text, control_part, cut_off_note, head_name, line_text, place_text};
 ghost use Rattle.zvt_show.specs.Notes.{reason_text, refused_note, event_note};
@@ -20,7 +21,7 @@ pub(crate) fn put(
 {
     match trace_event {
         TraceEvent::Refused { from, refusal } => put_refused(text, line, *from, refusal),
-        TraceEvent::CutOff { from, head, have } => put_cut_off(text, line, *from, *head, *have),
+        TraceEvent::CutOff { from, bytes } => put_cut_off(text, line, *from, bytes),
         TraceEvent::Message { .. }
         | TraceEvent::Unread { .. }
         | TraceEvent::Resumed { .. }
@@ -33,13 +34,13 @@ fn put_refused(
     text: &mut Text,
     line: u64,
     from: Direction,
-    refusal: &Refusal,
+    refusal: &Refusal<'_>,
 ) -> Result<(), AllocError>
-    ensures { OnOk result (text.new ≡ text.old ++ refused_note line from refusal.now.head refusal.now.byte
-        refusal.now.place refusal.now.why) }
+    ensures { OnOk result (text.new ≡ text.old ++ refused_note line from refusal.now.before.now refusal.now.byte
+        refusal.now.why) }
 {
-    put_begun(text, line, from, refusal.head)?;
-    put_place(text, refusal.place, refusal.byte)?;
+    put_begun(text, line, from, refusal.head())?;
+    put_place(text, refusal.place(), refusal.byte)?;
     put_reason(text, refusal.why)
 }
 
@@ -62,8 +63,15 @@ fn put_reason(text: &mut Text, why: Why) -> Result<(), AllocError>
     text.push(b'\n')
 }
 
-/// Adds where a message was cut off.
-fn put_cut_off(
+/// Adds where the message was cut off that begins with these bytes.
+fn put_cut_off(text: &mut Text, line: u64, from: Direction, bytes: &[u8]) -> Result<(), AllocError>
+    ensures { OnOk result (text.new ≡ text.old ++ cut_off_note line from (head_of bytes.now) (length bytes.now)) }
+{
+    put_have(text, line, from, Head::of(bytes), bytes.len())
+}
+
+/// Adds that a message was cut off after this many bytes.
+fn put_have(
     text: &mut Text,
     line: u64,
     from: Direction,

@@ -3,7 +3,7 @@ use Rattle.std.proofs.lemmas.List.{length-take-le, take-append-drop}
 use Rattle.std.proofs.lemmas.Result.{err_from_is_err_and}
 use Rattle.zvt_trace.proofs.EmitLemmas.{ends_refusal, fails_message, fails_refused, fails_resumed, fails_skipped, hears_message, hears_more, hears_refused, hears_skipped, skipped_part, skips_part}
 use Rattle.zvt_trace.proofs.FeedLemmas.{split_is}
-use Rattle.zvt_stream.specs.StreamState.{HasRefused, Keeps, opening_of}
+use Rattle.zvt_stream.specs.StreamState.{HasRefused, Keeps}
 use Rattle.zvt_grammar.specs.Lengths.{reading_of}
 use Rattle.zvt_trace.proofs.PassLemmas.{fails_part, stops_here}
 use Rattle.zvt_trace.proofs.PieceLemmas.{fatal_cut, fed_as, going, refused_by, spells_by, unfinished_by}
@@ -62,7 +62,7 @@ returns-in_err-emit_refusal-in-Ok-Refused-clause-emits g c = λ side follows.
     let feeds = found.0 in
     let fatal = fatal_cut _ held bytes part c.in-Ok-Refused.place (c.in-Ok-Refused.place - length held + 1) c.in-Ok-Refused.why (refused_by _ _ _ _ _ c.requires.reading.0 feeds.0) feeds.1 refl (c.split_at-in-Ok-Refused.ensures.front ∙ ap (λ n. take (c.in-Ok-Refused.place - n + 1) bytes) c.held-held.ensures.count) in
     rw (p.1, p.2) (fails_part g.L.Listener.hears g.L.Listener.fails _ _ _ _ side bytes part rest _ _ (split_is _ bytes part rest c.split_at-in-Ok-Refused.ensures.front c.split_at-in-Ok-Refused.ensures.back)
-    (fails_refused g.L.Listener.hears g.L.Listener.fails _ _ _ _ part c.args.reader.now c.feed_view.new.self.opening c.in-Ok-Refused.place c.in-Ok-Refused.why _ _ (going _ _ _ c.in-Ok-Refused.is c.feed_view.ensures.stopped) fatal.0 fatal.1 (feeds.4 ∙ ap opening_of fatal.2)
+    (fails_refused g.L.Listener.hears g.L.Listener.fails _ _ _ _ part c.args.reader.now c.feed_view.new.self.refused_bytes c.in-Ok-Refused.place c.in-Ok-Refused.why _ _ (going _ _ _ c.in-Ok-Refused.is c.feed_view.ensures.stopped) fatal.0 fatal.1 (feeds.4 ∙ fatal.2)
     c.in_err-emit_refusal-in-Ok-Refused.ensures side follows))
 
 pub returns-in_err-emit_resumed-in-Ok-Refused-clause-emits :
@@ -77,9 +77,9 @@ returns-in_err-emit_resumed-in-Ok-Refused-clause-emits g c = λ side follows.
     let feeds = found.0 in
     let fatal = fatal_cut _ held bytes part c.in-Ok-Refused.place (c.in-Ok-Refused.place - length held + 1) c.in-Ok-Refused.why (refused_by _ _ _ _ _ c.requires.reading.0 feeds.0) feeds.1 refl (c.split_at-in-Ok-Refused.ensures.front ∙ ap (λ n. take (c.in-Ok-Refused.place - n + 1) bytes) c.held-held.ensures.count) in
     rw (p.1, p.2) (fails_part g.L.Listener.hears g.L.Listener.fails _ _ _ _ side bytes part rest _ _ (split_is _ bytes part rest c.split_at-in-Ok-Refused.ensures.front c.split_at-in-Ok-Refused.ensures.back)
-    (fails_resumed g.L.Listener.hears g.L.Listener.fails _ _ _ _ part c.args.reader.now c.emit_resumed.new.reader c.feed_view.new.self.opening c.in-Ok-Refused.place c.in-Ok-Refused.why _ _ _ (going _ _ _ c.in-Ok-Refused.is c.feed_view.ensures.stopped) fatal.0 fatal.1 (feeds.4 ∙ ap opening_of fatal.2)
+    (fails_resumed g.L.Listener.hears g.L.Listener.fails _ _ _ _ part c.args.reader.now c.emit_resumed.new.reader c.feed_view.new.self.refused_bytes c.in-Ok-Refused.place c.in-Ok-Refused.why _ _ _ (going _ _ _ c.in-Ok-Refused.is c.feed_view.ensures.stopped) fatal.0 fatal.1 (feeds.4 ∙ fatal.2)
     c.in_ok-emit_refusal-in-Ok-Refused.ensures
-    (λ held opens all. ends_refusal (reading_of c.args.options.now.lengths) g.L.Listener.hears g.L.Listener.fails _ _ _ _ c.refuse.new.self c.emit_resumed.new.reader _ _ _ (subst HasRefused (sym c.refuse.ensures.stream) feeds.2) (c.refuse.ensures.skipped (held ++ part) opens all) c.in_err-emit_resumed-in-Ok-Refused.ensures.rest c.in_err-emit_resumed-in-Ok-Refused.ensures.none) side follows))
+    (ends_refusal (reading_of c.args.options.now.lengths) g.L.Listener.hears g.L.Listener.fails _ _ _ _ c.refuse.new.self c.emit_resumed.new.reader _ _ _ (subst HasRefused (sym c.refuse.ensures.stream) feeds.2) (c.refuse.ensures.skipped (fatal.1 ∙ sym (ap length (feeds.4 ∙ fatal.2)))) c.in_err-emit_resumed-in-Ok-Refused.ensures.rest c.in_err-emit_resumed-in-Ok-Refused.ensures.none) side follows))
 
 pub returns-in_ok-emit_resumed-in-Ok-Refused-clause-emits :
     goal.returns-in_ok-emit_resumed-in-Ok-Refused-clause-emits
@@ -94,9 +94,9 @@ returns-in_ok-emit_resumed-in-Ok-Refused-clause-emits g c = λ side follows.
     (record {
       first = part;
       cut = split_is _ bytes part rest c.split_at-in-Ok-Refused.ensures.front c.split_at-in-Ok-Refused.ensures.back;
-      heard = hears_refused g.L.Listener.hears g.L.Listener.fails _ _ _ part c.args.reader.now c.emit_resumed.new.reader c.feed_view.new.self.opening c.in-Ok-Refused.place c.in-Ok-Refused.why _ _ _ c.in_ok-emit_resumed-in-Ok-Refused.field-0 (omega (arith, fatal.1, feeds.1, length-append held part)) (going _ _ _ c.in-Ok-Refused.is c.feed_view.ensures.stopped) fatal.0 fatal.1 (feeds.4 ∙ ap opening_of fatal.2)
+      heard = hears_refused g.L.Listener.hears g.L.Listener.fails _ _ _ part c.args.reader.now c.emit_resumed.new.reader c.feed_view.new.self.refused_bytes c.in-Ok-Refused.place c.in-Ok-Refused.why _ _ _ c.in_ok-emit_resumed-in-Ok-Refused.field-0 (omega (arith, fatal.1, feeds.1, length-append held part)) (going _ _ _ c.in-Ok-Refused.is c.feed_view.ensures.stopped) fatal.0 fatal.1 (feeds.4 ∙ fatal.2)
           c.in_ok-emit_refusal-in-Ok-Refused.ensures
-          (λ held opens all. ends_refusal (reading_of c.args.options.now.lengths) g.L.Listener.hears g.L.Listener.fails _ _ _ _ c.refuse.new.self c.emit_resumed.new.reader _ _ _ (subst HasRefused (sym c.refuse.ensures.stream) feeds.2) (c.refuse.ensures.skipped (held ++ part) opens all) c.in_ok-emit_resumed-in-Ok-Refused.ensures.rest c.in_ok-emit_resumed-in-Ok-Refused.ensures.none) side follows;
+          (ends_refusal (reading_of c.args.options.now.lengths) g.L.Listener.hears g.L.Listener.fails _ _ _ _ c.refuse.new.self c.emit_resumed.new.reader _ _ _ (subst HasRefused (sym c.refuse.ensures.stream) feeds.2) (c.refuse.ensures.skipped (fatal.1 ∙ sym (ap length (feeds.4 ∙ fatal.2)))) c.in_ok-emit_resumed-in-Ok-Refused.ensures.rest c.in_ok-emit_resumed-in-Ok-Refused.ensures.none) side follows;
     })
 
 pub returns-in_err-any-in-Err-Stopped-clause-emits : goal.returns-in_err-any-in-Err-Stopped-clause-emits

@@ -10,4 +10,4 @@ pub returns-in-Resumed : goal.returns-in-Resumed
 returns-in-Resumed c = rw c.in-Resumed.is (becomes_same c.args.self.now c.args.line (trace_event.resumed c.in-Resumed.from c.in-Resumed.size) refl refl refl (λ later. refl) refl)
 
 pub returns-in-CutOff : goal.returns-in-CutOff
-returns-in-CutOff c = rw c.in-CutOff.is (becomes_same c.args.self.now c.args.line (trace_event.cut_off c.in-CutOff.from c.in-CutOff.head c.in-CutOff.have) refl refl refl (λ later. refl) refl)
+returns-in-CutOff c = rw c.in-CutOff.is (becomes_same c.args.self.now c.args.line (trace_event.cut_off c.in-CutOff.from c.in-CutOff.bytes.now) refl refl refl (λ later. refl) refl)

@@ -14,5 +14,5 @@ returns-in-Resumed c = rw c.in-Resumed.is (reports_same c.args.self.now (on c.ar
     (pass_states c.args.self.now.hearing _ refl (λ a. refl) refl refl))
 
 pub returns-in-CutOff : goal.returns-in-CutOff
-returns-in-CutOff c = rw c.in-CutOff.is (reports_same c.args.self.now (on c.args.line (trace_event.cut_off c.in-CutOff.from c.in-CutOff.head c.in-CutOff.have)) (λ book. refl) refl refl refl
+returns-in-CutOff c = rw c.in-CutOff.is (reports_same c.args.self.now (on c.args.line (trace_event.cut_off c.in-CutOff.from c.in-CutOff.bytes.now)) (λ book. refl) refl refl refl
     (pass_states c.args.self.now.hearing _ refl (λ a. refl) refl refl))

@@ -7,7 +7,7 @@ use Rattle.zvt_report.proofs.slips.SlipsListener.hear.Goals as goal
 pub returns-in_ok-close-in-Refused : goal.returns-in_ok-close-in-Refused
 returns-in_ok-close-in-Refused c =
     rw c.in-Refused.is (other_prints c.args.self.now c.close.new.self
-    (on c.args.line (trace_event.refused c.in-Refused.from c.in-Refused.refusal.head c.in-Refused.refusal.byte c.in-Refused.refusal.place c.in-Refused.refusal.why)) refl refl c.in_ok-close-in-Refused.ensures)
+    (on c.args.line (trace_event.refused c.in-Refused.from c.in-Refused.refusal.before.now c.in-Refused.refusal.byte c.in-Refused.refusal.why)) refl refl c.in_ok-close-in-Refused.ensures)
 
 pub returns-in_ok-close-in-Lost : goal.returns-in_ok-close-in-Lost
 returns-in_ok-close-in-Lost c = rw c.in-Lost.is (other_prints c.args.self.now c.close-in-Lost.new.self (on c.args.line trace_event.lost) refl refl c.in_ok-close-in-Lost.ensures)
@@ -22,4 +22,4 @@ returns-in_ok-close-in-Resumed c =
 
 pub returns-in_ok-close-in-CutOff : goal.returns-in_ok-close-in-CutOff
 returns-in_ok-close-in-CutOff c =
-    rw c.in-CutOff.is (other_prints c.args.self.now c.close-in-CutOff.new.self (on c.args.line (trace_event.cut_off c.in-CutOff.from c.in-CutOff.head c.in-CutOff.have)) refl refl c.in_ok-close-in-CutOff.ensures)
+    rw c.in-CutOff.is (other_prints c.args.self.now c.close-in-CutOff.new.self (on c.args.line (trace_event.cut_off c.in-CutOff.from c.in-CutOff.bytes.now)) refl refl c.in_ok-close-in-CutOff.ensures)

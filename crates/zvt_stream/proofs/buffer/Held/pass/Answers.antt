@@ -24,12 +24,12 @@ frame-preserved c =
     let few : n ≤ length piece - t = omega (arith, c.min-count.ensures) in
     let lacks : n ≤ missing c.frame.self.bytes = omega (arith, c.min-count.ensures, c.missing-lacking.ensures, ap missing c.arrived-bytes.ensures) in
     let next = take n (drop t piece) in
-    let added : c.put.new.self.bytes ≡ c.frame.self.bytes ++ next = ap (λ h. h.bytes) c.put.ensures ∙ ap (λ (k : ℕ). c.frame.self.bytes ++ take k (drop t piece)) (omega arith) in
+    let added : c.put.new.self.bytes ≡ c.frame.self.bytes ++ next = c.put.ensures.bytes ∙ ap (λ (k : ℕ). c.frame.self.bytes ++ take k (drop t piece)) (omega arith) in
     let size : length next ≡ n = length-take-le n (drop t piece) (omega (arith, few, length-drop t piece)) in
     let most = more_at_most c.frame.self.bytes next so_far.at_most (omega (arith, size, lacks)) (omega (arith, size, c.if-count-eq0.false)) in
     record {
       within = omega (arith, few, so_far.within);
       bytes = added ∙ ap (λ (b : List ℕ). b ++ next) so_far.bytes ∙ append_assoc c.args.self.now.bytes (take t piece) next ∙ ap (λ (b : List ℕ). c.args.self.now.bytes ++ b) (sym (take-add t n piece));
-      room = ap (λ h. h.room) c.put.ensures ∙ so_far.room;
+      room = c.put.ensures.room ∙ so_far.room;
       at_most = subst AtMost (sym added) most;
     }

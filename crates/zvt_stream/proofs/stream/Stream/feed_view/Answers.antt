@@ -1,4 +1,4 @@
-use Rattle.std.proofs.Common.{take, [], ◌≡◌, true, None, refl, ℕ, ◌+◌, List, arith, length, sym, ◌∙◌, ap, subst}
+use Rattle.std.proofs.Common.{take, [], ◌≡◌, ◌++◌, true, None, refl, ℕ, ◌+◌, List, arith, length, sym, ◌∙◌, ap, subst, length-append}
 use Rattle.zvt_grammar.specs.Reading.{Reading}
 use Rattle.std.proofs.lemmas.List.{length-take-le}
 use Rattle.std.proofs.Math.Seq.{take-length}
@@ -8,7 +8,7 @@ use Rattle.zvt_stream.proofs.CountLemmas.{alive_all, counts_alive, counts_passin
 use Rattle.zvt_stream.proofs.UnreadLemmas.{dead_before, dead_now, lends_by, no_frame, view_kept}
 use Rattle.zvt_stream.specs.Judge.{IsMessageIn, JudgeState, Ran, StandsFor}
 use Rattle.zvt_stream.proofs.JudgedFeeds.{place_few}
-use Rattle.zvt_stream.proofs.LentLemmas.{ran_in, idle, refused_all, grown, none_lent, message_bytes, feeds_more, feeds_refused, lends_message, lending, kept_all, kept_first, kept_none, opens_by}
+use Rattle.zvt_stream.proofs.LentLemmas.{ran_in, idle, refused_all, grown, none_lent, message_bytes, feeds_more, feeds_refused, lends_message, lending, kept_all, kept_first, kept_none}
 use Rattle.zvt_stream.proofs.stream.Stream.feed_view.Goals as goal
 
 pub reserve_for-requires : goal.reserve_for-requires
@@ -72,19 +72,31 @@ overflow_add-place c =
     let few = place_few _ _ _ _ told.1 in
     omega (arith, few, c.len.ensures, ap length (kept_none c.self.inside.held.bytes c.args.piece.now _ _ (rw c.in-Refused.is at c.judge.ensures.bytes) c.reserve_for.ensures.bytes))
 
+pub refuse-requires : goal.refuse-requires
+refuse-requires c =
+    let i = idle _ _ _ _ _ _ _ _ _ c.args.self.now c.give_up.new.self c.self.view_is c.give_up.ensures.keeps c.self.invariant in
+    let ran = subst (λ (b : List ℕ). Ran c.self.inside.judge.reading b c.args.piece.now c.judge.result c.judge.new.judge) c.reserve_for.ensures.bytes c.judge.ensures.judged in
+    let told = rw c.in-Refused.is at (ran_in c.self.inside.judge.reading c.self.inside.judge c.self.inside.held.bytes c.args.piece.now c.judge.result c.judge.new.judge refl ran) in
+    let few = place_few _ _ _ _ told.1 in
+    let kept = kept_none c.self.inside.held.bytes c.args.piece.now _ _ (rw c.in-Refused.is at c.judge.ensures.bytes) c.reserve_for.ensures.bytes in
+    let there = told.1.1.present in
+    let all = length-append c.self.inside.held.bytes c.args.piece.now in
+    let size = length-take-le (c.in-Refused.at + 1) c.args.piece.now (omega (arith, there, all)) in
+    omega (arith, few, there, all, size, ap length kept, c.judge.ensures.room, c.in_ok-reserve_for.ensures.ok, ap length c.reserve_for.ensures.bytes)
+
 pub invariant_of-self-in-Refused : goal.invariant_of-self-in-Refused
 invariant_of-self-in-Refused c =
     let i = idle _ _ _ _ _ _ _ _ _ c.args.self.now c.give_up.new.self c.self.view_is c.give_up.ensures.keeps c.self.invariant in
     let ran = subst (λ (b : List ℕ). Ran c.self.inside.judge.reading b c.args.piece.now c.judge.result c.judge.new.judge) c.reserve_for.ensures.bytes c.judge.ensures.judged in
     let told = rw c.in-Refused.is at (ran_in c.self.inside.judge.reading c.self.inside.judge c.self.inside.held.bytes c.args.piece.now c.judge.result c.judge.new.judge refl ran) in
-    refused_all _ _ _ _ _ c.if-self-2.false i.idle told.2 (ap (λ h. h.bytes) c.cut.ensures)
+    refused_all _ _ _ _ _ c.if-self-2.false i.idle told.2 c.refuse.ensures.bytes
 
 pub returns-else-self-2-clause-fed : goal.returns-else-self-2-clause-fed
 returns-else-self-2-clause-fed c =
     let i = idle _ _ _ _ _ _ _ _ _ c.args.self.now c.give_up.new.self c.self.view_is c.give_up.ensures.keeps c.self.invariant in
     let ran = subst (λ (b : List ℕ). Ran c.self.inside.judge.reading b c.args.piece.now c.judge.result c.judge.new.judge) c.reserve_for.ensures.bytes c.judge.ensures.judged in
     let told = rw c.in-Refused.is at (ran_in c.self.inside.judge.reading c.self.inside.judge c.self.inside.held.bytes c.args.piece.now c.judge.result c.judge.new.judge refl ran) in
-    (feeds_refused _ _ _ _ _ _ None _ 0 0 c.in-Refused.at _ c.in-Refused.why _ _ _ i c.if-self.false c.if-self-2.false told (ap (λ n. n + c.in-Refused.at) (c.len.ensures ∙ ap length (kept_none c.self.inside.held.bytes c.args.piece.now _ _ (rw c.in-Refused.is at c.judge.ensures.bytes) c.reserve_for.ensures.bytes))) (ap (λ h. h.bytes) c.cut.ensures) (opens_by _ c.args.piece.now c.bytes.result.now (take (c.in-Refused.at + 1) c.args.piece.now) _ c.in-Refused.at c.opening-self-inside.ensures (c.bytes.ensures ∙ kept_none c.self.inside.held.bytes c.args.piece.now _ _ (rw c.in-Refused.is at c.judge.ensures.bytes) c.reserve_for.ensures.bytes) refl), sym (none_lent _ _ _ _ i.idle))
+    (feeds_refused _ _ _ _ _ _ None _ 0 0 c.in-Refused.at _ c.in-Refused.why _ _ _ i c.if-self.false c.if-self-2.false told (ap (λ n. n + c.in-Refused.at) (c.len.ensures ∙ ap length (kept_none c.self.inside.held.bytes c.args.piece.now _ _ (rw c.in-Refused.is at c.judge.ensures.bytes) c.reserve_for.ensures.bytes))) c.refuse.ensures.bytes (c.refuse.ensures.refused ∙ ap (λ (b : List ℕ). b ++ take (c.in-Refused.at + 1) c.args.piece.now) (kept_none c.self.inside.held.bytes c.args.piece.now _ _ (rw c.in-Refused.is at c.judge.ensures.bytes) c.reserve_for.ensures.bytes)), sym (none_lent _ _ _ _ i.idle))
 
 pub go_on-requires-clause-few : goal.go_on-requires-clause-few
 go_on-requires-clause-few c =
