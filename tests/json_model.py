@@ -296,7 +296,7 @@ class Side:
         self.anew()
 
     def anew(self):
-        self.held, self.reader, self.read, self.first, self.refused, self.size, self.left = b"", None, 0, b"", False, 0, 0
+        self.held, self.reader, self.read, self.first, self.before, self.refused, self.size, self.left = b"", None, 0, b"", b"", False, 0, 0
 
     def feed(self, piece, line):
         if self.refused and (not self.resync or len(piece) < self.left):
@@ -319,7 +319,7 @@ class Side:
         held, at = self.held + piece, 0
         while self.reader or at < len(held):
             if self.reader is None:
-                self.reader, self.read, self.first = message(self.loose), 0, b""
+                self.reader, self.read, self.first, self.before = message(self.loose), 0, b"", b""
                 self.wanted = next(self.reader)
             if len(held) - at < self.wanted:
                 break
@@ -327,7 +327,7 @@ class Side:
             self.first = (self.first + given)[:5]
             try:
                 wanted = self.reader.send(given)
-                self.read, self.wanted = self.read + len(given), wanted
+                self.read, self.before, self.wanted = self.read + len(given), self.before + given, wanted
             except StopIteration as ended:
                 self.reader = None
                 yield {"from": self.name, "line": line, **ended.value}

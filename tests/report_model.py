@@ -464,14 +464,14 @@ class Report(Audit):
             yield {"look": said(again=None if again is None else again + 1, case=case, cause=self.ending(order).get("cause"),
                                 confirmed_by=None if confirmed is None else confirmed + 1, lines=[order.first, order.last], order=at + 1,
                                 payment=self.number_of(order), time=self.times.text(order.first), weight=weight, **sentences.of(case, order, *others))}
-        yield from findings(*self.trace_read)
+        yield from findings(*self.trace_read, sentences.money)
         for number, order in enumerate(self.orders, 1):
             yield {order.kind: said(**getattr(self, f"{order.kind}_members")(order), **self.ending(order), lines=[order.first, order.last], order=number, time=self.times.text(order.first))}
         yield from ({"slip": said(**slip)} for slip in Slips(*self.trace_read).found)
 
     def summary(self):
         open_amounts = [order.amount for order in self.orders if order.kind == "payment" and order.outcome[0] == "unclear"]
-        return said(bad=self.bad, booked=len(self.book), currency=min(self.named) if len(self.named) == 1 else None, looks=len(list(self.looks())) + len(findings(*self.trace_read)),
+        return said(bad=self.bad, booked=len(self.book), currency=min(self.named) if len(self.named) == 1 else None, looks=len(list(self.looks())) + len(findings(*self.trace_read, str)),
                     messages=self.messages, net=sum(entry["amount"] for entry in self.book if not entry["reversed"]),
                     others=sum(order.kind == "other" for order in self.orders), unclear=len(open_amounts), unclear_amount=sum(open_amounts),
                     reversals_unclear=sum(entry["doubt"] not in (None, ALREADY_REVERSED) for entry in self.book),

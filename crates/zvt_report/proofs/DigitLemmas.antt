@@ -11,7 +11,7 @@ digits_pass [] d = refl
 digits_pass (byte ∷ bytes) d =
     ap₂ (λ a b. a && b) (is_pair_test byte (All-head IsDigitPair byte bytes d)) (digits_pass bytes (All-tail IsDigitPair byte bytes d))
 
-passing_digits : (bytes : List ℕ) → list_all is_digit_pair bytes ≡ true → AreDigits bytes
+pub passing_digits : (bytes : List ℕ) → list_all is_digit_pair bytes ≡ true → AreDigits bytes
 passing_digits [] e = All-nil IsDigitPair
 passing_digits (byte ∷ bytes) e =
     let tests = and_parts (is_digit_pair byte) (list_all is_digit_pair bytes) e in

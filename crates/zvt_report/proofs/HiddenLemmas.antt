@@ -1,5 +1,5 @@
 -- What no report shows changes nothing in it, and nothing in a dialogue.
-use Rattle.std.proofs.Common.{◌≡◌, ℕ, ◌+◌, Bool, true, false, cond, List, [], ◌∷◌, ◌++◌, Option, Some, None, map, length, refl, sym, ◌∙◌, ap, ap₂, subst}
+use Rattle.std.proofs.Common.{◌≡◌, ℕ, ◌+◌, Bool, true, false, cond, List, [], ◌∷◌, ◌++◌, Option, Some, None, map, length, refl, sym, ◌∙◌, ap, ap₂, subst, suc}
 use Rattle.std.specs.Prelude.{◌==◌, codes, if◌then◌else◌, replicate}
 use Rattle.std.specs.Str.Lines.{lines}
 use Rattle.std.proofs.lemmas.List.{length-replicate}
@@ -30,7 +30,7 @@ use Rattle.zvt_trace.specs.Moments.{times_of}
 use Rattle.zvt_report.specs.Cards.{is_masked}
 use Rattle.zvt_report.specs.Chapters.{Noted, noted}
 use Rattle.zvt_report.specs.Day.{day_of}
-use Rattle.zvt_report.specs.Hidden.{HiddenBytesAreNotShown, HiddenBytesMeanNothing, disclosed, disclosed_at, disclosed_event, disclosed_field, disclosed_fields, disclosed_in, disclosed_number}
+use Rattle.zvt_report.specs.Hidden.{HiddenBytesAreNotShown, HiddenBytesMeanNothing, disclosed, disclosed_at, disclosed_bytes, disclosed_event, disclosed_field, disclosed_fields, disclosed_in, disclosed_number}
 use Rattle.zvt_report.specs.Reported.{beginnings, reported}
 use Rattle.zvt_report.specs.Said.{AreSaidBy, moves_money}
 use Rattle.zvt_report.specs.Settling.{settled}
@@ -43,6 +43,11 @@ use Rattle.zvt_report.proofs.HiddenMessages.{all_said_of, all_said_to, beginning
 use Rattle.zvt_report.proofs.HiddenStatuses.{statements_same}
 
 -- ---- the currency and the terminal
+
+pub as_many : (bytes : List ℕ) → length (disclosed_bytes bytes) ≡ length bytes
+as_many [] = refl
+as_many (high ∷ []) = refl
+as_many (high ∷ low ∷ rest) = ap (λ (n : ℕ). suc (suc n)) (length-replicate (length rest) 0)
 
 pub named_same : (event : TraceEvent) → named_by (disclosed_event event) ≡ named_by event
 named_same (trace_event.message FromTill m) = currency_same m
@@ -184,10 +189,10 @@ item_same agree seen event = by_event event.trace_event
       where
         item_with : Direction → List ℕ → Html
         item_with from text = element Li (attributes_of (side_class from) (event_id seen event.line)) (both (number_part event.line) (element Div ((Class, codes "say") ∷ []) (line_parts (lines (direction_text from ++ 32 ∷ text)))))
-    by_event (trace_event.refused from before byte why) = refl
+    by_event (trace_event.refused from before byte why) = rw (as_many before) refl
     by_event (trace_event.unread from) = refl
     by_event (trace_event.resumed from size) = refl
-    by_event (trace_event.cut_off from bytes) = refl
+    by_event (trace_event.cut_off from bytes) = rw (as_many bytes) refl
     by_event trace_event.lost = refl
 
 pub hidden_bytes_are_not_shown : SafeTextsAgree → HiddenBytesAreNotShown

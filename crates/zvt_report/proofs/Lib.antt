@@ -1,5 +1,6 @@
 mod ChapterLemmas
 mod RowLemmas
+pub mod ApprovalLemmas
 pub mod DayLemmas
 pub mod LawLemmas
 pub mod MarkLemmas

@@ -59,6 +59,7 @@ weight_plain weight.Note = refl
 finding_plain : (f : Finding) → escape (finding_name f) ≡ finding_name f
 unfolding escape_byte
 finding_plain (finding.Swapped orders) = refl
+finding_plain (finding.ApprovalUnreadable line place amount trace) = refl
 finding_plain (finding.Currencies first other line) = refl
 finding_plain (finding.Refused line from head place why goes) = refl
 finding_plain (finding.CutOff line from head have) = refl

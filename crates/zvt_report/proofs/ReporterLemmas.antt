@@ -26,7 +26,7 @@ use Rattle.zvt_audit.proofs.ControlLemmas.{all_seen}
 use Rattle.zvt_audit.proofs.CurrencyLemmas.{after_all, all_agreed, one_more}
 use Rattle.zvt_report.specs.Chapters.{Noted, noted}
 use Rattle.zvt_report.specs.Day.{day_of}
-use Rattle.zvt_report.specs.Findings.{bad_messages, currencies, finding_at, listed, swapped, swapped_if}
+use Rattle.zvt_report.specs.Findings.{AreApprovals, bad_messages, currencies, finding_at, listed, swapped, swapped_if}
 use Rattle.zvt_report.specs.Judging.{DaySoFar, HasJudged}
 use Rattle.zvt_report.specs.Reported.{beginning_in, beginnings, happenings_with, reported, with_event}
 use Rattle.zvt_report.specs.Reports.{AnswersReport, Finds, JudgesAll, Judges, Reports, ReportsBy, SaysMore, StartsIn, both_hear, both_want_memory, hears, hears_and_sees, hears_by}
@@ -153,6 +153,10 @@ signs_seen : (events : List At) (old new : Both Reporter Signs) → HearsAll hea
 signs_seen [] old new same = ap (λ (b : Both Reporter Signs). b.second) same
 signs_seen (event ∷ events) old new (middle, heard, rest) = (middle.second, heard.1, signs_seen events middle new rest)
 
+one_first : (o : Option Finding) (more : List Finding) → cons_option o [] ++ more ≡ cons_option o more
+one_first None more = refl
+one_first (Some f) more = refl
+
 -- what was found so far, and then in these events
 all_found : (scope : Scope) (events : List At) (old new : Both (ByControl (Both Reporter Signs)) Finder) → old.second.scope ≡ scope → HearsAll both_hear old events new
     → new.second.found.items ≡ old.second.found.items ++ bad_messages scope events
@@ -162,20 +166,30 @@ all_found scope (event ∷ events) old new is (middle, heard, rest) =
     ∙ ap (λ (l : List Finding). l ++ bad_messages scope events) (heard.1.1 ∙ ap (λ (s : Scope). old.second.found.items ++ cons_option (finding_at s event) []) is)
     ∙ append_assoc old.second.found.items (cons_option (finding_at scope event) []) (bad_messages scope events)
     ∙ ap (λ (l : List Finding). old.second.found.items ++ l) (one_first (finding_at scope event) (bad_messages scope events))
-  where
-    one_first : (o : Option Finding) (more : List Finding) → cons_option o [] ++ more ≡ cons_option o more
-    one_first None more = refl
-    one_first (Some f) more = refl
+
+-- the approvals so far, and then those of these events
+all_approved : (events : List At) (old new : Both (ByControl (Both Reporter Signs)) Finder) → HearsAll both_hear old events new
+    → (approvals : List Finding) × AreApprovals events approvals × (new.second.approvals.items ≡ old.second.approvals.items ++ approvals)
+all_approved [] old new same =
+    ([], refl, ap (λ (b : Both (ByControl (Both Reporter Signs)) Finder). b.second.approvals.items) same ∙ sym (append-nil old.second.approvals.items))
+all_approved (event ∷ events) old new (middle, heard, rest) =
+    let later = all_approved events middle new rest in
+    let one = heard.1.2 in (
+      cons_option one later.0,
+      (one, later.0, heard.1.3, later.1, refl),
+      later.2 ∙ ap (λ (l : List Finding). l ++ later.0) heard.1.4 ∙ append_assoc old.second.approvals.items (cons_option one []) later.0
+          ∙ ap (λ (l : List Finding). old.second.approvals.items ++ l) (one_first one later.0),
+    )
 
 -- ---- the answer
 
 pub reported_all : (zone : Zone) (moments : Moments) (r : Reading) (scope : Scope) (trace : List ℕ) (tally : Tally) (report : Report) (old new : Both (ByControl (Both Reporter Signs)) Finder) (found : List Finding)
-    → moments.times.items ≡ times_of (lines trace) → moments.bad.items ≡ bad_marks_of (lines trace) → StartsIn scope old.first → old.second.scope ≡ scope → old.second.found.items ≡ []
+    → moments.times.items ≡ times_of (lines trace) → moments.bad.items ≡ bad_marks_of (lines trace) → StartsIn scope old.first → old.second.scope ≡ scope → old.second.found.items ≡ [] → old.second.approvals.items ≡ []
     → AnswersWalk r both_hear both_want_memory scope (lines trace) old new (Ok tally)
-    → found ≡ cons_option (swapped_if new.first.listener.second.till new.first.listener.second.terminal) (cons_option (currencies_by new.first.listener.second.named) (listed new.second.found.items))
+    → found ≡ cons_option (swapped_if new.first.listener.second.till new.first.listener.second.terminal) (new.second.approvals.items ++ cons_option (currencies_by new.first.listener.second.named) (listed new.second.found.items))
     → Finds new.first.listener.first tally new.first.passed zone moments found report
     → AnswersReport zone r scope trace (Ok report)
-reported_all zone moments r scope trace tally report old new found times bad starts begun none_found walked few finds =
+reported_all zone moments r scope trace tally report old new found times bad starts begun none_found none_approved walked few finds =
     let events = seen scope walked.0 in
     let all = all_seen hears_and_sees scope walked.0 old.first new.first starts.2 (first_heard walked.0 old new walked.2) in
     let before = old.first.listener.first in
@@ -185,7 +199,9 @@ reported_all zone moments r scope trace tally report old new found times bad sta
     let saw = signs_seen events old.first.listener new.first.listener all.0 in
     let none : AreSaidBy [] before.messages.items = subst (λ (l : List OrderMessage). AreSaidBy [] l) (sym starts.0.2) tt in
     let statements = all_stated events before after heard ∙ starts_stated before.hearing events starts.0.3 starts.0.4 in
-    let bad_ones = all_found scope walked.0 old new begun walked.2 ∙ ap (λ (l : List Finding). l ++ bad_messages scope walked.0) none_found in (
+    let bad_ones = all_found scope walked.0 old new begun walked.2 ∙ ap (λ (l : List Finding). l ++ bad_messages scope walked.0) none_found in
+    let approved = all_approved walked.0 old new walked.2 in
+    let approvals = approved.2 ∙ ap (λ (l : List Finding). l ++ approved.0) none_approved in (
       walked.0,
       walked.1,
       subst (λ (t : Tally). Tallies t walked.0) (sym finds.tally) walked.3,
@@ -199,9 +215,13 @@ reported_all zone moments r scope trace tally report old new found times bad sta
         messages = subst (λ (l : List OrderMessage). AreSaidBy (beginnings events) l) (sym finds.messages) (all_said events before after [] none heard);
       },
       finds.passed ∙ all.1 ∙ ap (λ (n : ℕ). passed_after scope n walked.0) starts.3,
-      finds.findings ∙ few
-          ∙ ap₂ (λ (a b : Option Finding). cons_option a (cons_option b (listed new.second.found.items))) (swapped_seen events old.first.listener.second signs starts.1 saw) (currencies_seen events old.first.listener.second signs starts.1 saw)
-          ∙ ap (λ (bad : List Finding). cons_option (swapped events) (cons_option (currencies events) (listed bad))) bad_ones,
+      (
+        approved.0,
+        approved.1,
+        finds.findings ∙ few
+            ∙ ap₂ (λ (a b : Option Finding). cons_option a (new.second.approvals.items ++ cons_option b (listed new.second.found.items))) (swapped_seen events old.first.listener.second signs starts.1 saw) (currencies_seen events old.first.listener.second signs starts.1 saw)
+            ∙ ap₂ (λ (these bad : List Finding). cons_option (swapped events) (these ++ cons_option (currencies events) (listed bad))) approvals bad_ones,
+      ),
     )
 
 -- neither writes, so no write fails

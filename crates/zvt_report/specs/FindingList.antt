@@ -16,6 +16,7 @@ use Rattle.zvt_till.specs.declared.entries.Entry.{Entry}
 use Rattle.zvt_report.specs.declared.cases.Look.{Look}
 use Rattle.zvt_report.specs.declared.closings.Closing.{Closing}
 use Rattle.zvt_report.specs.declared.currencies.Decimals.{Decimals}
+use Rattle.zvt_report.specs.declared.currencies.Decimals.TheVariants as decimals_of
 use Rattle.zvt_report.specs.declared.rows.OrderMessage.{OrderMessage}
 use Rattle.zvt_report.specs.declared.rows.OrderRow.{OrderRow}
 use Rattle.zvt_report.specs.declared.findings.Finding.{Finding}
@@ -30,13 +31,13 @@ line_part (Some line) = codes " (line " ++ decimal line ++ codes ")\n"
 unfoldable pub finding_head : (number : ℕ) → Finding → List ℕ
 finding_head number finding = 10 ∷ right_aligned 2 (decimal number) ++ codes ". " ++ weight_text (weight_of finding) ++ finding_title finding ++ line_part (line_of finding)
 
-unfoldable pub finding_lines : (number : ℕ) → Finding → List ℕ
-finding_lines number finding = finding_head number finding ++ account_lines (finding_text finding) ++ advice_lines (finding_advice finding)
+unfoldable pub finding_lines : Decimals → (number : ℕ) → Finding → List ℕ
+finding_lines decimals number finding = finding_head number finding ++ account_lines (finding_text decimals finding) ++ advice_lines (finding_advice finding)
 
 -- their numbers follow the number of those listed before
-abbrev pub findings_text : (listed : ℕ) → List Finding → List ℕ
-findings_text listed [] = []
-findings_text listed (finding ∷ findings) = finding_lines (listed + 1) finding ++ findings_text (listed + 1) findings
+abbrev pub findings_text : Decimals → (listed : ℕ) → List Finding → List ℕ
+findings_text decimals listed [] = []
+findings_text decimals listed (finding ∷ findings) = finding_lines decimals (listed + 1) finding ++ findings_text decimals (listed + 1) findings
 
 -- neither an order nor a finding
 abbrev pub is_nothing : List Look → List Finding → Bool
@@ -47,11 +48,11 @@ is_nothing (look ∷ looks) findings = false
 -- the findings after the orders
 abbrev pub looks_text : Decimals → List Entry → List (Option Closing) → List OrderMessage → List OrderRow → List Look → List Finding → List ℕ
 looks_text decimals book closings messages rows looks findings =
-    cond (is_nothing looks findings) (codes "Look at these: nothing\n") (listed_looks decimals book closings messages rows looks ++ findings_text (length looks) findings)
+    cond (is_nothing looks findings) (codes "Look at these: nothing\n") (listed_looks decimals book closings messages rows looks ++ findings_text decimals (length looks) findings)
 
 -- ---- a row worked by hand
 
-two_findings : findings_text 8 (Refused 4 FromTerminal (Two 0x04 0x0F) 37 UnknownField true ∷ MoreRefused 3 ∷ [])
+two_findings : findings_text decimals_of.Two 8 (Refused 4 FromTerminal (Two 0x04 0x0F) 37 UnknownField true ∷ MoreRefused 3 ∷ [])
     ≡ codes "\n 9. NOTE   The terminal's message 040F (status information) cannot be read (line 4)\n"
     ++ codes "    Its byte 37, counted from 0, is refused: no known field begins with it\n"
     ++ codes "    (UnknownField). The report goes on after the message.\n"

@@ -34,7 +34,7 @@ use Rattle.zvt_report.specs.declared.times.Times.{Times}
 -- the summary, then the looks, then the findings, then the orders, then the slips, which are written already
 abbrev pub report_json : Tally → (currency : Option ℕ) → (terminal : Option (List ℕ)) → Times → DayValue → List OrderMessage → List (Option Closing) → List Look → List Finding → (slips : List ℕ) → List ℕ
 report_json tally currency terminal times books messages closings looks findings slips =
-    summary_line tally currency terminal times books messages looks findings ++ looks_json (decimals_of (money_of currency)) books.book closings messages books.orders looks ++ findings_json findings ++ rows_json books messages closings no_counts books.orders ++ slips
+    summary_line tally currency terminal times books messages looks findings ++ looks_json (decimals_of (money_of currency)) books.book closings messages books.orders looks ++ findings_json (decimals_of (money_of currency)) findings ++ rows_json books messages closings no_counts books.orders ++ slips
 
 -- ---- rows worked by hand
 

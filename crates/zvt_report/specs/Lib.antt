@@ -37,6 +37,7 @@ pub mod Amounts
 pub mod Columns
 pub mod Currencies
 pub mod Apart
+pub mod Approvals
 pub mod Facts
 pub mod Differences
 pub mod Phrases

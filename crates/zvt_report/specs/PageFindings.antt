@@ -12,6 +12,8 @@ use Rattle.zvt_report.specs.FindingTexts.{finding_advice, finding_text, finding_
 use Rattle.zvt_report.specs.Findings.{line_of, weight_of}
 use Rattle.zvt_report.specs.PageEvents.{line_id, line_link, lines_at}
 use Rattle.zvt_report.specs.PageWeights.{weight_class, weight_word}
+use Rattle.zvt_report.specs.declared.currencies.Decimals.{Decimals}
+use Rattle.zvt_report.specs.declared.currencies.Decimals.TheVariants as decimals_of
 use Rattle.zvt_report.specs.declared.findings.Finding.{Finding}
 use Rattle.zvt_report.specs.declared.findings.Finding.TheVariants.{Refused}
 
@@ -20,22 +22,22 @@ abbrev pub line_part : (shown : List ℕ) → Option ℕ → Html
 line_part shown None = nothing
 line_part shown (Some line) = lines_at shown line (codes "line " ++ decimal line)
 
-unfoldable pub sentences_part : Finding → Html
-sentences_part finding = both (leaf P (codes "why") (finding_text finding)) (leaf P (codes "do") (finding_advice finding))
+unfoldable pub sentences_part : Decimals → Finding → Html
+sentences_part decimals finding = both (leaf P (codes "why") (finding_text decimals finding)) (leaf P (codes "do") (finding_advice finding))
 
 -- its weight, a title, its line, what was found and what to do
-unfoldable pub finding_item : (shown : List ℕ) → Finding → Html
-finding_item shown finding =
+unfoldable pub finding_item : (shown : List ℕ) → Decimals → Finding → Html
+finding_item shown decimals finding =
     element Li (class_of (weight_class (weight_of finding)))
-    (all (leaf Span (codes "sev") (weight_word (weight_of finding)) ∷ leaf H3 [] (finding_title finding) ∷ line_part shown (line_of finding) ∷ sentences_part finding ∷ []))
+    (all (leaf Span (codes "sev") (weight_word (weight_of finding)) ∷ leaf H3 [] (finding_title finding) ∷ line_part shown (line_of finding) ∷ sentences_part decimals finding ∷ []))
 
-abbrev pub finding_items : (shown : List ℕ) → List Finding → Html
-finding_items shown [] = nothing
-finding_items shown (finding ∷ findings) = both (finding_item shown finding) (finding_items shown findings)
+abbrev pub finding_items : (shown : List ℕ) → Decimals → List Finding → Html
+finding_items shown decimals [] = nothing
+finding_items shown decimals (finding ∷ findings) = both (finding_item shown decimals finding) (finding_items shown decimals findings)
 
 -- ---- a row worked by hand
 
-a_finding : render (finding_item (4 ∷ []) (Refused 4 FromTerminal (Two 0x04 0x0F) 37 UnknownField true))
+a_finding : render (finding_item (4 ∷ []) decimals_of.Two (Refused 4 FromTerminal (Two 0x04 0x0F) 37 UnknownField true))
     ≡ codes "<li class=\"note\"><span class=\"sev\">Note</span><h3>The terminal&#39;s message 040F (status information) cannot be read</h3><a class=\"at\" href=\"#l4\">line 4</a>"
     ++ codes "<p class=\"why\">Its byte 37, counted from 0, is refused: no known field begins with it (UnknownField). The report goes on after the message.</p>"
     ++ codes "<p class=\"do\">Send this report to the maker of the terminal.</p></li>"

@@ -71,7 +71,7 @@ items shown decimals book closings messages rows urgent (look ∷ looks) = both 
 unfoldable pub listed_items : (shown : List ℕ) → Decimals → List Entry → List (Option Closing) → List OrderMessage → List OrderRow → List Look → List Finding → Html
 listed_items shown decimals book closings messages rows looks findings =
     element Ol ((Class, codes "look") ∷ [])
-    (both (items shown decimals book closings messages rows true looks) (both (items shown decimals book closings messages rows false looks) (finding_items shown findings)))
+    (both (items shown decimals book closings messages rows true looks) (both (items shown decimals book closings messages rows false looks) (finding_items shown decimals findings)))
 
 abbrev pub items_or_none : (shown : List ℕ) → Decimals → List Entry → List (Option Closing) → List OrderMessage → List OrderRow → List Look → List Finding → Html
 items_or_none shown decimals book closings messages rows looks findings =

@@ -24,7 +24,7 @@ use Rattle.zvt_audit.specs.declared.currencies.NamedCurrency.TheVariants.{Absent
 use Rattle.zvt_report.specs.Chapters.{Noted, noted}
 use Rattle.zvt_report.specs.Closings.{closings}
 use Rattle.zvt_report.specs.Day.{day_of}
-use Rattle.zvt_report.specs.Findings.{finds, findings, wants_memory as find_memory}
+use Rattle.zvt_report.specs.Findings.{AreFindings, finds, wants_memory as find_memory}
 use Rattle.zvt_report.specs.Judging.{DaySoFar, HasJudged}
 use Rattle.zvt_report.specs.Reported.{beginning_in, beginnings, reported, with_event}
 use Rattle.zvt_report.specs.Said.{AreSaidBy}
@@ -134,7 +134,7 @@ pub record IsReportOf (zone : Zone) (trace : List (List ℕ)) (events : List At)
 abbrev pub AnswersReport : Zone → Reading → Scope → (trace : List ℕ) → Result Report TraceFault → Type 0
 AnswersReport zone r scope trace (Ok report) =
     (events : List At) × WholeTrace r scope (lines trace) events × Tallies report.tally events × IsReportOf zone (lines trace) (seen scope events) report
-    × (report.passed ≡ passed_after scope 0 events) × (report.findings.items ≡ findings scope events)
+    × (report.passed ≡ passed_after scope 0 events) × AreFindings scope events report.findings.items
 AnswersReport zone r scope trace (Err (Trace number what)) = (events : List At) × BrokenTrace r scope (lines trace) number what events
 AnswersReport zone r scope trace (Err Memory) = Unit {0}
 AnswersReport zone r scope trace (Err Write) = ⊥

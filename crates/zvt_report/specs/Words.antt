@@ -43,6 +43,7 @@ is_act Note = false
 
 abbrev pub finding_name : Finding → List ℕ
 finding_name (finding.Swapped orders) = codes "Swapped"
+finding_name (finding.ApprovalUnreadable line place amount trace) = codes "ApprovalUnreadable"
 finding_name (finding.Currencies first other line) = codes "Currencies"
 finding_name (finding.Refused line from head place why goes) = codes "Refused"
 finding_name (finding.CutOff line from head have) = codes "CutOff"

@@ -47,14 +47,15 @@ fn finding_head(text: &mut Text, number: u128, finding: &Finding) -> Result<(), 
 fn finding_lines(
     text: &mut Text,
     note: &mut Text,
+    decimals: Decimals,
     number: u128,
     finding: &Finding,
 ) -> Result<(), AllocError>
-    ensures { OnOk result (text.new ≡ text.old ++ finding_lines number finding.now) }
+    ensures { OnOk result (text.new ≡ text.old ++ finding_lines decimals number finding.now) }
 {
     finding_head(text, number, finding)?;
     note.clear();
-    finding_text(note, finding)?;
+    finding_text(note, decimals, finding)?;
     account_lines(text, note.bytes())?;
     note.clear();
     finding_advice(note, finding)?;
@@ -65,17 +66,18 @@ fn finding_lines(
 pub(crate) fn findings_text(
     text: &mut Text,
     note: &mut Text,
+    decimals: Decimals,
     before: u128,
     findings: &[Finding],
 ) -> Result<(), AllocError>
     requires { before ≤ 2 ^ 64 }
-    ensures { OnOk result (text.new ≡ text.old ++ findings_text before findings.now) }
+    ensures { OnOk result (text.new ≡ text.old ++ findings_text decimals before findings.now) }
 {
     let mut listed = before;
     let mut rest = findings;
     'findings: while let [finding, later @ ..] = rest {
         listed += 1;
-        finding_lines(text, note, listed, finding)?;
+        finding_lines(text, note, decimals, listed, finding)?;
         rest = later;
     }
     Ok(())
@@ -111,5 +113,5 @@ pub(crate) fn looks_text(
         return text.word(b"Look at these: nothing\n");
     }
     listed_looks(text, note, decimals, book, closings, messages, rows, looks)?;
-    findings_text(text, note, looks.len() as u128, findings)
+    findings_text(text, note, decimals, looks.len() as u128, findings)
 }

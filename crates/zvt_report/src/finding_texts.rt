@@ -1,16 +1,20 @@
 //! Writes what the findings about a trace say.
 ghost use Rattle.std.specs.Prelude.{◌≡◌, ◌++◌, OnOk, option_map};
 ghost use Rattle.std.specs.Option.{option_copied};
-ghost use Rattle.zvt_report.specs.FindingTexts.{bracketed, currencies_text, cut_off_text, finding_advice};
+ghost use Rattle.zvt_report.specs.FindingTexts.{amount_part, approval_advice, approval_text, bracketed};
+ghost use Rattle.zvt_report.specs.FindingTexts.{currencies_text, cut_off_text, finding_advice, look_for};
 ghost use Rattle.zvt_report.specs.FindingTexts.{finding_text, finding_title, goes_on, head_part, maker_advice};
 ghost use Rattle.zvt_report.specs.FindingTexts.{message_name, message_part, refused_text, side_name, swapped_text};
 ghost use Rattle.zvt_report.specs.FindingTexts.{why_words};
 
-use crate::amounts::count;
+use crate::amounts::{amount, count};
+use crate::columns::zeros;
+use crate::currencies::Decimals;
 use crate::findings::Finding;
+use crate::phrases::trace_part;
 use std::alloc::AllocError;
 use zvt_apdu::{Kind, kind_at};
-use zvt_bcd::Currency;
+use zvt_bcd::{Amount, Currency, Trace};
 use zvt_grammar::Why;
 use zvt_text::{Text, command_name, currency_digits, hexadecimal};
 use zvt_trace::{Direction, Head};
@@ -177,12 +181,72 @@ fn currencies_text(
     text.word(b". The totals add amounts of both.")
 }
 
+/// Writes an amount after a comma, if there is one.
+fn amount_part(
+    text: &mut Text,
+    decimals: Decimals,
+    given: &Option<Amount>,
+) -> Result<(), AllocError>
+    ensures { OnOk result (text.new ≡ text.old ++ amount_part decimals given.now) }
+{
+    match given {
+        Some(given) => {
+            text.word(b", ")?;
+            amount(text, decimals, u128::from(given.get()))
+        }
+        None => Ok(()),
+    }
+}
+
+/// Writes where an approval could not be read on, and what it says before that.
+#[tactic(auto, unfolding(crate::specs::FindingTexts::approval_text))]
+fn approval_text(
+    text: &mut Text,
+    decimals: Decimals,
+    place: usize,
+    amount: &Option<Amount>,
+    trace: &Option<Trace>,
+) -> Result<(), AllocError>
+    ensures { OnOk result (text.new ≡ text.old ++ approval_text decimals place amount.now trace.now) }
+{
+    text.word(b"The terminal's answer could not be read to its end (byte ")?;
+    text.number(place)?;
+    text.word(b"). What stands before that says: approved")?;
+    amount_part(text, decimals, amount)?;
+    trace_part(text, trace)?;
+    text.word(b".")
+}
+
+/// Writes what to look for in the terminal's journal.
+fn look_for(text: &mut Text, trace: &Option<Trace>) -> Result<(), AllocError>
+    ensures { OnOk result (text.new ≡ text.old ++ look_for trace.now) }
+{
+    match trace {
+        Some(trace) => {
+            text.word(b"Look for trace ")?;
+            zeros(text, 6, u128::from(trace.get()))
+        }
+        None => text.word(b"Look"),
+    }
+}
+
+/// Writes what to do about an approval that could not be read to its end.
+#[tactic(auto, unfolding(crate::specs::FindingTexts::approval_advice))]
+fn approval_advice(text: &mut Text, trace: &Option<Trace>) -> Result<(), AllocError>
+    ensures { OnOk result (text.new ≡ text.old ++ approval_advice trace.now) }
+{
+    text.word(b"If it answers a payment, the customer has probably been charged. ")?;
+    look_for(text, trace)?;
+    text.word(b" in the terminal's journal, and send this report to the maker of the terminal.")
+}
+
 /// Writes the title of a finding.
 pub(crate) fn finding_title(text: &mut Text, finding: &Finding) -> Result<(), AllocError>
     ensures { OnOk result (text.new ≡ text.old ++ finding_title finding.now) }
 {
     match *finding {
         Finding::Swapped(_) => text.word(b"The marks > and < are swapped"),
+        Finding::ApprovalUnreadable { .. } => text.word(b"The terminal's approval cannot be read"),
         Finding::Currencies { .. } => text.word(b"The trace has two currencies"),
         Finding::Refused { from, head, .. } => {
             message_part(text, from, head)?;
@@ -200,11 +264,21 @@ pub(crate) fn finding_title(text: &mut Text, finding: &Finding) -> Result<(), Al
 }
 
 /// Writes what was found.
-pub(crate) fn finding_text(text: &mut Text, finding: &Finding) -> Result<(), AllocError>
-    ensures { OnOk result (text.new ≡ text.old ++ finding_text finding.now) }
+pub(crate) fn finding_text(
+    text: &mut Text,
+    decimals: Decimals,
+    finding: &Finding,
+) -> Result<(), AllocError>
+    ensures { OnOk result (text.new ≡ text.old ++ finding_text decimals finding.now) }
 {
     match *finding {
         Finding::Swapped(orders) => swapped_text(text, orders),
+        Finding::ApprovalUnreadable {
+            place,
+            amount,
+            trace,
+            ..
+        } => approval_text(text, decimals, place, &amount, &trace),
         Finding::Currencies { first, other, line } => currencies_text(text, first, other, line),
         Finding::Refused {
             place,
@@ -227,6 +301,7 @@ pub(crate) fn finding_advice(text: &mut Text, finding: &Finding) -> Result<(), A
         Finding::Swapped(_) => text.word(
             b"Swap the marks of the trace (tr '<>' '><'), and make this report again.",
         ),
+        Finding::ApprovalUnreadable { trace, .. } => approval_advice(text, &trace),
         Finding::Currencies { .. } => text.word(
             b"Split the trace where the currency changes, and make a report of each part.",
         ),

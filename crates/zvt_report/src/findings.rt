@@ -2,11 +2,13 @@
 ghost use Rattle.std.specs.Prelude.{◌≡◌, ◌++◌, [], IfOk, OnOk};
 ghost use Rattle.std.specs.List.{cons_option};
 ghost use Rattle.zvt_trace.specs.TraceEvent.{event_of};
-ghost use Rattle.zvt_report.specs.Findings.{finding_by, listed, reads_on, urgent_findings};
+ghost use Rattle.zvt_report.specs.Findings.{ApprovalBy, ApprovalIn, approval_finding, finding_by, listed};
+ghost use Rattle.zvt_report.specs.Findings.{reads_on, urgent_findings};
 
+use crate::approvals::{UnreadableApproval, approval_in};
 use crate::cases::Weight;
 use std::alloc::{AllocError, Global};
-use zvt_bcd::Currency;
+use zvt_bcd::{Amount, Currency, Trace};
 use zvt_grammar::Why;
 use zvt_trace::{Direction, Head, Listener, ListenerError, Scope, TraceEvent};
 
@@ -18,6 +20,16 @@ const MOST_LISTED: usize = 20;
 pub enum Finding {
     /// The terminal's side sent this many orders, and the till's side none. The number saturates.
     Swapped(usize),
+    /// A status information of the terminal could not be read to its end, and its complete fields state an approval.
+    ApprovalUnreadable {
+        line: u64,
+        /// The number of its bytes before the end.
+        place: usize,
+        /// The amount, if there is exactly one.
+        amount: Option<Amount>,
+        /// The trace number, if there is exactly one.
+        trace: Option<Trace>,
+    },
     /// Registrations name two currencies.
     Currencies {
         /// The first that one names.
@@ -63,6 +75,7 @@ impl Finding {
     {
         match self {
             Finding::Swapped(_) => "Swapped",
+            Finding::ApprovalUnreadable { .. } => "ApprovalUnreadable",
             Finding::Currencies { .. } => "Currencies",
             Finding::Refused { .. } => "Refused",
             Finding::CutOff { .. } => "CutOff",
@@ -75,7 +88,7 @@ impl Finding {
         ensures { result ≡ weight_of self }
     {
         match self {
-            Finding::Swapped(_) => Weight::Act,
+            Finding::Swapped(_) | Finding::ApprovalUnreadable { .. } => Weight::Act,
             Finding::Currencies { .. } => Weight::Check,
             Finding::Refused { .. } | Finding::CutOff { .. } | Finding::MoreRefused(_) => {
                 Weight::Note
@@ -89,6 +102,7 @@ impl Finding {
     {
         match self {
             Finding::Refused { head, .. } | Finding::CutOff { head, .. } => head,
+            Finding::ApprovalUnreadable { .. } => Head::Two(0x04, 0x0F),
             Finding::Swapped(_) | Finding::Currencies { .. } | Finding::MoreRefused(_) => {
                 Head::Empty
             }
@@ -100,7 +114,8 @@ impl Finding {
         ensures { result ≡ line_of self }
     {
         match self {
-            Finding::Currencies { line, .. }
+            Finding::ApprovalUnreadable { line, .. }
+            | Finding::Currencies { line, .. }
             | Finding::Refused { line, .. }
             | Finding::CutOff { line, .. } => Some(line),
             Finding::Swapped(_) | Finding::MoreRefused(_) => None,
@@ -111,9 +126,12 @@ impl Finding {
 /// Finds the messages that are refused or cut off.
 #[derive(Drop)]
 pub(crate) struct Finder {
+    alloc: Global,
     scope: Scope,
     /// In the order of the trace.
     pub(crate) found: Vec<Finding>,
+    /// The approvals among them, in the order of the trace.
+    pub(crate) approvals: Vec<Finding>,
 }
 
 impl Finder {
@@ -121,20 +139,42 @@ impl Finder {
     pub(crate) fn new(alloc: Global, scope: Scope) -> Finder
         ensures scope { result.scope ≡ scope }
         ensures found { result.found.items ≡ [] }
+        ensures approvals { result.approvals.items ≡ [] }
     {
         Finder {
+            alloc,
             scope,
             found: Vec::new(alloc),
+            approvals: Vec::new(alloc),
         }
     }
 
     /// Adds a finding, if there is one.
     fn take(&mut self, finding: Option<Finding>) -> Result<(), AllocError>
         ensures { OnOk result ((self.new.scope ≡ self.old.scope)
-            × (self.new.found.items ≡ self.old.found.items ++ cons_option finding [])) }
+            × (self.new.found.items ≡ self.old.found.items ++ cons_option finding [])
+            × (self.new.approvals.items ≡ self.old.approvals.items)) }
     {
+        // Names the types in a finding, which the proof asks for.
+        let _amount: Option<Amount> = None;
+        let _trace: Option<Trace> = None;
         if let Some(finding) = finding {
             self.found.push(finding)?;
+        }
+        Ok(())
+    }
+
+    /// Adds the finding of an approval, if there is one.
+    fn take_approval(&mut self, approval: Option<Finding>) -> Result<(), AllocError>
+        ensures { OnOk result ((self.new.scope ≡ self.old.scope)
+            × (self.new.found.items ≡ self.old.found.items)
+            × (self.new.approvals.items ≡ self.old.approvals.items ++ cons_option approval [])) }
+    {
+        // Names the types in a finding, which the proof asks for.
+        let _amount: Option<Amount> = None;
+        let _trace: Option<Trace> = None;
+        if let Some(approval) = approval {
+            self.approvals.push(approval)?;
         }
         Ok(())
     }
@@ -150,7 +190,11 @@ impl Listener for Finder {
     ghost fails = { λ _ _ failure _. failure ≡ Memory };
 
     fn hear(&mut self, line: u64, trace_event: &TraceEvent<'_>) -> Result<(), ListenerError> {
+        // Names the types in a finding, which the proof asks for.
+        let _amount: Option<Amount> = None;
+        let _trace: Option<Trace> = None;
         self.take(finding_by(self.scope, line, trace_event))?;
+        self.take_approval(approval_by(self.alloc, line, trace_event)?)?;
         Ok(())
     }
 }
@@ -191,6 +235,56 @@ fn finding_by(scope: Scope, line: u64, trace_event: &TraceEvent<'_>) -> Option<F
     }
 }
 
+/// Returns the finding about what these bytes of a message state, if they state an approval.
+fn approval_finding(line: u64, place: usize, said: Option<UnreadableApproval>) -> Option<Finding>
+    ensures { result ≡ approval_finding line place said }
+{
+    let said = said?;
+    Some(Finding::ApprovalUnreadable {
+        line,
+        place,
+        amount: said.amount,
+        trace: said.trace,
+    })
+}
+
+/// Returns the finding about an approval in a message that could not be read to its end. The bytes are the message from
+/// its first byte on, as far as it could be read.
+fn approval_at(
+    alloc: Global,
+    line: u64,
+    from: Direction,
+    bytes: &[u8],
+) -> Result<Option<Finding>, AllocError>
+    ensures { IfOk result (ApprovalIn line from bytes.now) }
+{
+    match from {
+        Direction::FromTill => Ok(None),
+        Direction::FromTerminal => {
+            let said = approval_in(alloc, bytes)?;
+            Ok(approval_finding(line, bytes.len(), said))
+        }
+    }
+}
+
+/// Returns the finding about an approval in a message that is refused or cut off, if this event is one.
+fn approval_by(
+    alloc: Global,
+    line: u64,
+    trace_event: &TraceEvent<'_>,
+) -> Result<Option<Finding>, AllocError>
+    ensures { IfOk result (ApprovalBy line (event_of trace_event.now)) }
+{
+    match trace_event {
+        TraceEvent::Refused { from, refusal } => approval_at(alloc, line, *from, refusal.before),
+        TraceEvent::CutOff { from, bytes } => approval_at(alloc, line, *from, bytes),
+        TraceEvent::Message { .. }
+        | TraceEvent::Unread { .. }
+        | TraceEvent::Resumed { .. }
+        | TraceEvent::Lost => Ok(None),
+    }
+}
+
 /// Returns how many of these findings someone must act on.
 pub(crate) fn urgent_findings(findings: &[Finding]) -> usize
     ensures { result ≡ urgent_findings findings.now }
@@ -205,6 +299,9 @@ pub(crate) fn urgent_findings(findings: &[Finding]) -> usize
 pub(crate) fn listed(mut found: Vec<Finding>) -> Result<Vec<Finding>, AllocError>
     ensures { IfOk result (λ few. few.items ≡ listed found.items) }
 {
+    // Names the types in a finding, which the proof asks for.
+    let _amount: Option<Amount> = None;
+    let _trace: Option<Trace> = None;
     let more = found.len().saturating_sub(MOST_LISTED);
     found.truncate(MOST_LISTED);
     if more > 0 {

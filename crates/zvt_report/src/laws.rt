@@ -1,7 +1,8 @@
 //! Laws of every day and of every report, each stated as the contract of an empty function.
+ghost use Rattle.zvt_report.specs.Approvals.{ApprovalsAreOne};
 ghost use Rattle.zvt_report.specs.CardTotals.{ListedGroupsAddUp};
 ghost use Rattle.zvt_report.specs.FindingObjects.{FindingsReadBack};
-ghost use Rattle.zvt_report.specs.Findings.{EachBadMessageIsFound, SwappedAsInAudit};
+ghost use Rattle.zvt_report.specs.Findings.{EachBadMessageIsFound, FindingsAreOne, SwappedAsInAudit};
 ghost use Rattle.zvt_report.specs.Hidden.{HiddenBytesAreNotFound, HiddenBytesAreNotShown, HiddenBytesMeanNothing};
 ghost use Rattle.zvt_report.specs.Laws.{DoubtsAreLeftOpen, EachOrderHasARow, SameBooks, SameMarks, SumsMakeBooked};
 ghost use Rattle.zvt_report.specs.LookLaws.{EachOtherIsLookedAt, EachPaymentIsLookedAt, EachReversalIsLookedAt};
@@ -149,3 +150,9 @@ pub fn hidden_bytes_are_not_shown()
 {
     zvt_text::laws::safe_texts_agree();
 }
+
+/// The bytes of an unreadable status information state one approval, or none, and a trace has one list of findings.
+pub fn approvals_are_one()
+    ensures bytes { ApprovalsAreOne }
+    ensures findings { FindingsAreOne }
+{}

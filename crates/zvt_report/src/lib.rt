@@ -5,6 +5,7 @@ mod advices;
 mod alike;
 mod amounts;
 mod apart;
+mod approvals;
 mod books;
 mod card_texts;
 mod card_totals;

@@ -55,7 +55,7 @@ pub(crate) fn write(
         text, tally, *currency, terminal, times, books, messages, looks, findings,
     )?;
     look_lines(text, note, *currency, books, messages, closings, looks)?;
-    finding_rows(text, note, findings)?;
+    finding_rows(text, note, decimals_of(&money_of(*currency)), findings)?;
     order_rows(text, books, messages, closings)?;
     text.word(slips)
 }

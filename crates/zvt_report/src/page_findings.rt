@@ -6,6 +6,7 @@ ghost use Rattle.zvt_report.specs.FindingTexts as texts;
 ghost use Rattle.zvt_report.specs.PageEvents.{lines_at};
 ghost use Rattle.zvt_report.specs.PageFindings.{finding_item, finding_items, line_part, sentences_part};
 
+use crate::currencies::Decimals;
 use crate::finding_texts::{finding_advice, finding_text, finding_title};
 use crate::findings::Finding;
 use crate::page_events::{has_line, link_start};
@@ -55,11 +56,16 @@ fn line_part(
 
 /// Writes what was found and what to do about it.
 #[tactic(auto, unfolding(crate::specs::PageFindings::sentences_part))]
-fn sentences_part(page: &mut Text, note: &mut Text, finding: &Finding) -> Result<(), AllocError>
-    ensures { OnOk result (page.new ≡ page.old ++ render (sentences_part finding.now)) }
+fn sentences_part(
+    page: &mut Text,
+    note: &mut Text,
+    decimals: Decimals,
+    finding: &Finding,
+) -> Result<(), AllocError>
+    ensures { OnOk result (page.new ≡ page.old ++ render (sentences_part decimals finding.now)) }
 {
     note.clear();
-    finding_text(note, finding)?;
+    finding_text(note, decimals, finding)?;
     leaf(page, Element::P, b"why", note.bytes())?;
     note.clear();
     finding_advice(note, finding)?;
@@ -72,9 +78,10 @@ fn finding_item(
     page: &mut Text,
     note: &mut Text,
     shown: &[u64],
+    decimals: Decimals,
     finding: &Finding,
 ) -> Result<(), AllocError>
-    ensures { OnOk result (page.new ≡ page.old ++ render (finding_item shown.now finding.now)) }
+    ensures { OnOk result (page.new ≡ page.old ++ render (finding_item shown.now decimals finding.now)) }
 {
     let weight = finding.weight();
     start(page, Element::Li, weight_class(weight), None)?;
@@ -83,7 +90,7 @@ fn finding_item(
     finding_title(note, finding)?;
     leaf(page, Element::H3, b"", note.bytes())?;
     line_part(page, note, shown, finding.line())?;
-    sentences_part(page, note, finding)?;
+    sentences_part(page, note, decimals, finding)?;
     end(page, Element::Li)
 }
 
@@ -93,13 +100,14 @@ pub(crate) fn finding_items(
     page: &mut Text,
     note: &mut Text,
     shown: &[u64],
+    decimals: Decimals,
     findings: &[Finding],
 ) -> Result<(), AllocError>
-    ensures { OnOk result (page.new ≡ page.old ++ render (finding_items shown.now findings.now)) }
+    ensures { OnOk result (page.new ≡ page.old ++ render (finding_items shown.now decimals findings.now)) }
 {
     let mut rest = findings;
     'findings: while let [finding, later @ ..] = rest {
-        finding_item(page, note, shown, finding)?;
+        finding_item(page, note, shown, decimals, finding)?;
         rest = later;
     }
     Ok(())

@@ -234,7 +234,7 @@ fn listed_items(
     items(
         page, note, shown, decimals, book, closings, messages, rows, false, looks,
     )?;
-    finding_items(page, note, shown, findings)?;
+    finding_items(page, note, shown, decimals, findings)?;
     end(page, Element::Ol)
 }
 

@@ -71,7 +71,7 @@ pub(crate) fn phrase(
 }
 
 /// Writes a trace number after a comma, if there is one.
-fn trace_part(text: &mut Text, trace: &Option<Trace>) -> Result<(), AllocError>
+pub(crate) fn trace_part(text: &mut Text, trace: &Option<Trace>) -> Result<(), AllocError>
     ensures { OnOk result (text.new ≡ text.old ++ trace_part trace.now) }
 {
     match trace {

@@ -68,11 +68,12 @@ pub fn report_trace(
     };
     let tally = walk(&mut listeners, alloc, scope, lengths, trace)?;
     let moments = moments_of(alloc, trace)?;
+    let approvals = listeners.second.approvals;
     let bad = listeners.second.found;
     let by = listeners.first;
     let both = by.listener;
     let signs = both.second;
-    let findings = signs.findings(alloc, bad)?;
+    let findings = signs.findings(alloc, approvals.as_slice(), bad)?;
     let report = both
         .first
         .finish(tally, by.passed, zone, &moments, findings)?;

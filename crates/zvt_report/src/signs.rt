@@ -3,7 +3,7 @@ use crate::findings::{Finding, listed};
 use std::alloc::{AllocError, Global};
 use zvt_apdu::ApduView;
 use zvt_audit::is_order;
-use zvt_bcd::Currency;
+use zvt_bcd::{Amount, Currency, Trace};
 use zvt_trace::{Direction, Listener, ListenerError, TraceEvent};
 
 /// The currencies that the registrations of a till name.
@@ -82,7 +82,7 @@ impl Listener for Signs {
 }
 
 impl Signs {
-    ghost use Rattle.std.specs.Prelude.{◌≡◌, ℕ, IfOk};
+    ghost use Rattle.std.specs.Prelude.{◌≡◌, ◌++◌, ℕ, IfOk};
     ghost use Rattle.std.specs.List.{cons_option};
     ghost use Rattle.zvt_report.specs.Findings.{listed, swapped_if};
     ghost use Rattle.zvt_report.specs.Signs.{currencies_by, no_signs, sees};
@@ -145,20 +145,25 @@ impl Signs {
         }
     }
 
-    /// Returns the findings of these signs, then the first of the messages that are refused or cut off, and the number
-    /// of the others.
+    /// Returns the findings of these signs and the approvals, then the first of the messages that are refused or cut
+    /// off, and the number of the others.
     pub(crate) fn findings(
         &self,
         alloc: Global,
+        approvals: &[Finding],
         bad: Vec<Finding>,
     ) -> Result<Vec<Finding>, AllocError>
         ensures { IfOk result (λ found. found.items ≡ cons_option (swapped_if self.now.till self.now.terminal)
-            (cons_option (currencies_by self.now.named) (listed bad.items))) }
+            (approvals.now ++ cons_option (currencies_by self.now.named) (listed bad.items))) }
     {
+        // Names the types in a finding, which the proof asks for.
+        let _amount: Option<Amount> = None;
+        let _trace: Option<Trace> = None;
         let mut found = Vec::new(alloc);
         if let Some(swapped) = self.swapped() {
             found.push(swapped)?;
         }
+        found.extend_from_slice(approvals)?;
         if let Some(currencies) = self.currencies() {
             found.push(currencies)?;
         }

@@ -10,5 +10,5 @@ returns-in_err-tally c =
 pub returns : goal.returns
 returns c =
     reported_all c.args.zone c.in_ok-moments.moments _ c.args.scope c.args.trace.now c.in_ok-tally.tally c.in_ok-report.report _ _ c.in_ok-findings.findings.items
-    c.in_ok-moments.ensures.times c.in_ok-moments.ensures.bad c.in_ok-connected.ensures c.new.ensures.scope c.new.ensures.found
-    c.in_ok-tally.ensures c.in_ok-findings.ensures c.in_ok-report.ensures
+    c.in_ok-moments.ensures.times c.in_ok-moments.ensures.bad c.in_ok-connected.ensures c.new.ensures.scope c.new.ensures.found c.new.ensures.approvals
+    c.in_ok-tally.ensures (rw c.as_slice.ensures.value at c.in_ok-findings.ensures) c.in_ok-report.ensures
