@@ -1,18 +1,10 @@
 /* Payments and reversals whose connection breaks, and what the answer to an ask says about them. With each allocation failing,
  * at each cutting of the terminal's bytes, and from the records of a journal. Linked with malloc, realloc and free wrapped:
  * c/check does it. */
+#include "wrapped.h"
 #include "zvt.h"
-#include <stdio.h>
-#include <stdlib.h>
 #include <string.h>
-static long left = -1, live = 0, failed = 0;
-void *__real_malloc(size_t n); void *__real_realloc(void *p, size_t n); void __real_free(void *p);
-static int fails(void) { if (left < 0) return 0; if (left == 0) return failed++, 1; left--; return 0; }
-void *__wrap_malloc(size_t n) { if (fails()) return 0; live++; return __real_malloc(n); }
-void *__wrap_realloc(void *p, size_t n) { if (fails()) return 0; if (!p) live++; return __real_realloc(p, n); }
-void __wrap_free(void *p) { if (p) live--; __real_free(p); }
 
-#define CHECK(holds) do { if (!(holds)) { printf("asks: line %d: this does not hold: %s\n", __LINE__, #holds); exit(1); } } while (0)
 #define ACK 0x80, 0, 0
 #define DONE 6, 0x0F, 0
 #define APPROVAL(hundreds, number) 4, 0x0F, 16, 0x27, 0, 4, 0, 0, 0, 0, hundreds, 0, 0x0B, 0, 0, number, 0x87, 0, number
@@ -114,7 +106,7 @@ static int is_pending(zvt_till *till, uint32_t kind, uint64_t place, uint32_t la
     return zvt_till_pending(till, &pending) == ZVT_OK && pending.kind == kind && pending.place == place && pending.last_known == last_known;
 }
 
-/* Whether so many settlements are there, the last of which is this one. */
+/* Whether there are this many settlements, and the last one is this. */
 static int has_settled(zvt_till *till, uint64_t count, zvt_settlement wanted) {
     zvt_state state;
     zvt_settlement settlement, none;

@@ -1,18 +1,9 @@
 /* The lines that a terminal wants printed, in print lines and text blocks, in each code page; and the card of an order. At each
  * cutting of the terminal's bytes, with each allocation failing, and with too little room. Linked with malloc, realloc and free
  * wrapped: c/check does it. */
+#include "wrapped.h"
 #include "zvt.h"
-#include <stdio.h>
-#include <stdlib.h>
 #include <string.h>
-static long left = -1, live = 0, failed = 0;
-void *__real_malloc(size_t n); void *__real_realloc(void *p, size_t n); void __real_free(void *p);
-static int fails(void) { if (left < 0) return 0; if (left == 0) return failed++, 1; left--; return 0; }
-void *__wrap_malloc(size_t n) { if (fails()) return 0; live++; return __real_malloc(n); }
-void *__wrap_realloc(void *p, size_t n) { if (fails()) return 0; if (!p) live++; return __real_realloc(p, n); }
-void __wrap_free(void *p) { if (p) live--; __real_free(p); }
-
-#define CHECK(holds) do { if (!(holds)) { printf("receipts: line %d: this does not hold: %s\n", __LINE__, #holds); exit(1); } } while (0)
 
 static const uint8_t registered[] = {0x80, 0, 0, 6, 0x0F, 0};
 /* A print line, two text blocks, an empty one, a status with a card, and the end. */

@@ -7,7 +7,7 @@ PROGRAM is the one that `rt ci` built, unless another is named. A book's objects
 of the journals of sixteen dialogues, whole and cut after each record. Of a run and of vectors the text is read by a parser of
 its own, and says what the objects have to be: over examples/vectors.txt with answers changed, over random lists of steps, and
 over TCP with terminals that approve, decline, abort, repeat a status when they are asked, and break the line. Exit statuses and
-standard error are those of the text. The objects of docs/JSON.md are among those that are seen. Each line is held against
+standard error are those of the text. Every object of docs/JSON.md occurs. Each line is held against
 docs/zvt.schema.json where python3 has jsonschema. The status is 1 where anything differs. It takes seconds.
 """
 import contextlib

@@ -167,7 +167,7 @@ all_found scope (event ∷ events) old new is (middle, heard, rest) =
     ∙ append_assoc old.second.found.items (cons_option (finding_at scope event) []) (bad_messages scope events)
     ∙ ap (λ (l : List Finding). old.second.found.items ++ l) (one_first (finding_at scope event) (bad_messages scope events))
 
--- the approvals so far, and then those of these events
+-- the approvals so far, and then the approvals in these events
 all_approved : (events : List At) (old new : Both (ByControl (Both Reporter Signs)) Finder) → HearsAll both_hear old events new
     → (approvals : List Finding) × AreApprovals events approvals × (new.second.approvals.items ≡ old.second.approvals.items ++ approvals)
 all_approved [] old new same =

@@ -29,8 +29,8 @@ fn first(bytes: &[u8], size: usize) -> &[u8]
     &bytes[..size.min(bytes.len())]
 }
 
-/// Returns the data that has come of a status information, at most 65,533 bytes. For another message, and if the
-/// length has not come, there is none.
+/// Returns the data that has come of a status information, at most 65,533 bytes, or `None` for another message or if
+/// the length has not come.
 fn status_data(bytes: &[u8]) -> Option<&[u8]>
     ensures data { option_copied result ≡ status_data bytes.now }
     ensures few { IfSome result (λ content. length content.now + 2 < 2 ^ 16) }
