@@ -13,7 +13,7 @@ use zvt_audit::Sum;
 use zvt_bcd::Currency;
 use zvt_io::Over;
 use zvt_journal::{FileDevice, FileFailure, JournalFileError, Opened, open_file, read_book};
-use zvt_kept::{KeptTill, Recovered, RecoveryError, recover};
+use zvt_kept::{KeptTill, Recovered, RecoveryError, Reopened, recover};
 use zvt_runs::{EndFault, write_book, write_records};
 use zvt_settle::SettlingTill;
 use zvt_text::Form;
@@ -277,9 +277,9 @@ pub fn open(
         return begun(rt, path, settings, opened.device);
     }
     match KeptTill::open(rt.alloc(), settings, opened.device, text.as_slice()) {
-        Ok(kept) => {
-            report_book(rt, path, kept.till())?;
-            Ok(kept)
+        Ok(Reopened { till, .. }) => {
+            report_book(rt, path, till.till())?;
+            Ok(till)
         }
         Err(RecoveryError::Opening) => {
             report_on(rt, path, other_book(settings, text.as_slice()))?;

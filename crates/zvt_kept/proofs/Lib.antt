@@ -1,4 +1,4 @@
-mod AskLemmas
+pub mod AskLemmas
 mod AsksOutlived
 mod Begun
 mod Bytes
@@ -15,6 +15,8 @@ mod Numbers
 mod Opened
 mod Outlived
 mod Ordered
+pub mod PastOrderLemmas
+pub mod PastOrdersStay
 mod ReadLines
 pub mod Recovering
 pub mod Relived

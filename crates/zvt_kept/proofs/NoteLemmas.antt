@@ -16,7 +16,7 @@ use Rattle.zvt_kept.specs.Notes.{NoteRows, ends_so, fits_if_some, is_moment, is_
 use Rattle.zvt_kept.specs.Records.{ends_word, word_size}
 
 rows : NoteRows
-rows = (refl, refl, refl, refl, refl, refl, refl, refl, refl, refl, refl, refl, refl, refl, refl)
+rows = (refl, refl, refl, refl, refl, refl, refl, refl, refl, refl, refl, refl, refl, refl, refl, refl, refl, refl)
 
 pub both : (a b : Bool) → (a && b) ≡ true → (a ≡ true) × (b ≡ true)
 both true b is = (refl, is)

@@ -26,7 +26,7 @@ use Rattle.zvt_journal.specs.Device.{LeavesOnly}
 use Rattle.zvt_journal.specs.Files.{IsRepairable}
 use Rattle.zvt_journal.specs.declared.device.DeviceError.{DeviceError}
 use Rattle.zvt_journal.specs.declared.device.DeviceError.TheVariants.{Memory, Failed, Full}
-use Rattle.zvt_kept.specs.Records.{Kept, IsRecordOf, ask_record, kept_in, order_record}
+use Rattle.zvt_kept.specs.Records.{Kept, IsRecordOf, ask_record, asked, heard, kept_in, lost, order_record, ordered}
 use Rattle.zvt_kept.specs.Logs.{MeanAll, StandsFor, on_line, opening_of}
 
 -- a till and what it settles, and the device and the gate of its journal
@@ -162,6 +162,14 @@ module _ {D : Type 0} (seen : D → List ℕ) (may_leave : D → List ℕ → Ty
   abbrev pub line_changed : Settings → List Happening
   line_changed settings = Lost ∷ Connected ∷ []
 
+  -- A record was to be made durable by one step of the till.
+  abbrev pub Writes : Kept → (old new : Standing D) → Result Unit DeviceError → Type 0
+  Writes one old new result = Recorded one old.device new.device old.gate new.gate result
+
+  -- The record of some message was to be made durable.
+  abbrev pub WritesMessage : (old new : Standing D) → Result Unit DeviceError → Type 0
+  WritesMessage old new result = (bytes : List ℕ) × Writes (heard bytes) old new result
+
   -- An order was accepted, and its record is durable.
   pub record Ordered (order : Order) (outgoing : Outgoing) (old new : Standing D) : Type 0 where
     pub taken : refusal (facts_of old.till.state) order ≡ None
@@ -209,10 +217,10 @@ module _ {D : Type 0} (seen : D → List ℕ) (may_leave : D → List ℕ → Ty
 
   -- The result of an order, and why the journal failed before and after it, if it did.
   abbrev pub Orders : Order → (note : List ℕ) → (old new : Standing D) → (was is : Option DeviceError) → Result Outgoing Untaken → Type 0
-  Orders order note old new was is (Ok outgoing) = Ordered order outgoing old new × (is ≡ was) × HasNoted seen order note old.device new.device
+  Orders order note old new was is (Ok outgoing) = Ordered order outgoing old new × (is ≡ was) × HasNoted seen order note old.device new.device × Writes (ordered order note) old new (Ok tt)
   Orders order note old new was is (Err (Refused why)) = IsOrderRefusal old.settling.asking (facts_of old.till.state) old.till.spare order why × (new ≡ old) × (is ≡ was)
   Orders order note old new was is (Err (Unkept NoSpace)) = FindsNoSpace order old new × (is ≡ was)
-  Orders order note old new was is (Err (Unkept BookFailed)) = (why : DeviceError) × (is ≡ Some why) × OrderLost order why old new
+  Orders order note old new was is (Err (Unkept BookFailed)) = (why : DeviceError) × (is ≡ Some why) × OrderLost order why old new × Writes (ordered order note) old new (Err why)
 
   -- An ask was accepted, and its record is durable. It is no event of the log.
   pub record AskKept (bytes note : List ℕ) (old new : Standing D) : Type 0 where
@@ -238,10 +246,10 @@ module _ {D : Type 0} (seen : D → List ℕ) (may_leave : D → List ℕ → Ty
 
   -- The result of an ask, and why the journal failed before and after it, if it did.
   abbrev pub Asks : (note : List ℕ) → (old new : Standing D) → (was is : Option DeviceError) → Result (List ℕ) Untaken → Type 0
-  Asks note old new was is (Ok bytes) = AskKept bytes note old new × (is ≡ was)
+  Asks note old new was is (Ok bytes) = AskKept bytes note old new × (is ≡ was) × Writes (asked note) old new (Ok tt)
   Asks note old new was is (Err (Refused why)) = IsAskRefusedAs (facts_of old.till.state) old.settling.asking why × (new ≡ old) × (is ≡ was)
   Asks note old new was is (Err (Unkept NoSpace)) = AskFindsNoSpace old new × (is ≡ was)
-  Asks note old new was is (Err (Unkept BookFailed)) = (why : DeviceError) × (is ≡ Some why) × AskLost why old new
+  Asks note old new was is (Err (Unkept BookFailed)) = (why : DeviceError) × (is ≡ Some why) × AskLost why old new × Writes (asked note) old new (Err why)
 
   -- A till whose line is up processed a message, and its record is durable.
   pub record HeardKept (message : Message) (answered : Answered) (old new : Standing D) : Type 0 where
@@ -251,6 +259,7 @@ module _ {D : Type 0} (seen : D → List ℕ) (may_leave : D → List ℕ → Ty
     pub logs : Logs (message_heard message) old new
     pub outlives : Outlives (message_heard message) old new
     pub later : faults old.device ≤ faults new.device
+    pub recorded : WritesMessage old new (Ok tt)
 
   -- The journal failed as a message came. The till is told as of a lost line.
   pub record MessageLost (message : Message) (why : DeviceError) (old new : Standing D) : Type 0 where
@@ -260,6 +269,7 @@ module _ {D : Type 0} (seen : D → List ℕ) (may_leave : D → List ℕ → Ty
     pub lost : till_loses old.till new.till
     pub both : both_in new ≡ take (both_in old) (Line Lost)
     pub outlives : Outlives (message_heard message) old new
+    pub recorded : WritesMessage old new (Err why)
 
   abbrev pub Takes : Message → (old new : Standing D) → Result Answered DeviceError → Type 0
   Takes message old new (Ok answered) = HeardKept message answered old new
@@ -290,6 +300,7 @@ module _ {D : Type 0} (seen : D → List ℕ) (may_leave : D → List ℕ → Ty
     pub logs : Logs line_changed old new
     pub outlives : Outlives line_changed old new
     pub later : faults old.device ≤ faults new.device
+    pub recorded : Writes lost old new (Ok tt)
 
   -- Whether a line is up, and that an earlier one was lost is durable. Once the journal failed nothing changes.
   abbrev pub Connects : (old new : KeptValue D) → Result Unit DeviceError → Type 0
@@ -297,4 +308,4 @@ module _ {D : Type 0} (seen : D → List ℕ) (may_leave : D → List ℕ → Ty
   Connects old new (Err why) =
       ((has_failed old ≡ true) × (why ≡ Failed) × (new ≡ old))
       ⊎ ((has_failed old ≡ false) × (new.failure ≡ Some why) × (new.standing.till ≡ old.standing.till) × (new.standing.settling ≡ old.standing.settling) × FailsOnlyBy why old.standing new.standing
-      × (new.standing.gate ≡ old.standing.gate) × Outlives line_changed old.standing new.standing)
+      × (new.standing.gate ≡ old.standing.gate) × Outlives line_changed old.standing new.standing × Writes lost old.standing new.standing (Err why))

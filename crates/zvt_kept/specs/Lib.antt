@@ -4,6 +4,7 @@ pub mod Logs
 pub mod Masking
 pub mod Notes
 pub mod Outliving
+pub mod PastOrders
 pub mod Reading
 pub mod Records
 pub mod Recovery

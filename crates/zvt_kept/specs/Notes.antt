@@ -2,6 +2,7 @@
 use Rattle.std.specs.Prelude.{◌≡◌, ◌&&◌, true, Bool, false, ℕ, if◌then◌else◌, List, [], ◌∷◌, ◌++◌, codes, length, take, drop, Option, Some, None, option_map}
 use Rattle.std.specs.Char.{is_ascii_graphic}
 use Rattle.std.specs.List.{list_all}
+use Rattle.std.specs.Str.{bytes_eq}
 use Rattle.zvt_text.specs.Words.{fits, is_count, trailing}
 
 -- a time to the second, in UTC; no calendar is checked
@@ -66,6 +67,10 @@ behind_time note (Some rest) = drop 20 rest
 abbrev pub reference_in : (note : List ℕ) → Option (List ℕ)
 reference_in note = trailing (codes " ref ") (behind_time note (trailing (codes " at ") note))
 
+-- a note has this reference
+abbrev pub is_noted_by : (reference note : List ℕ) → Bool
+is_noted_by reference note = elim (reference_in note) [ None ↦ false | Some found ↦ bytes_eq found reference ]
+
 -- ---- worked rows
 
 abbrev pub NoteRows : Type 0
@@ -84,4 +89,7 @@ NoteRows =
     (at_in (codes " at 2026-11-28T09:14:03Z ref A-1009") ≡ Some (codes "2026-11-28T09:14:03Z")) ×
     (reference_in (codes " at 2026-11-28T09:14:03Z ref A-1009") ≡ Some (codes "A-1009")) ×
     (at_in (codes " ref A-1009") ≡ None) ×
-    (reference_in (codes " at 2026-11-28T09:14:03Z") ≡ None)
+    (reference_in (codes " at 2026-11-28T09:14:03Z") ≡ None) ×
+    (is_noted_by (codes "A-1009") (codes " at 2026-11-28T09:14:03Z ref A-1009") ≡ true) ×
+    (is_noted_by (codes "A-100") (codes " ref A-1009") ≡ false) ×
+    (is_noted_by [] (codes " at 2026-11-28T09:14:03Z") ≡ false)

@@ -3,6 +3,7 @@ ghost use Rattle.std.specs.Prelude.{◌≡◌};
 
 use crate::keeping::{keep_lost, keep_opening, take_ask, take_message, take_order};
 use crate::note::Note;
+use crate::past_orders::PastOrders;
 use crate::recovery::{Recovered, RecoveryError, recover};
 use std::alloc::{AllocError, Global};
 use std::fmt;
@@ -23,6 +24,14 @@ pub struct KeptTill<D: Device> {
     failure: Option<DeviceError>,
     /// The note of the next order or ask.
     note: Note,
+}
+
+/// A till that was restored from its journal.
+#[derive(Drop)]
+pub struct Reopened<D: Device> {
+    pub till: KeptTill<D>,
+    /// The orders of the journal, and how each ended. An order that was running ended with the line.
+    pub orders: PastOrders,
 }
 
 /// Why no journal was begun. Hands back the device.
@@ -60,6 +69,7 @@ impl<D: Device + Drop> KeptTill<D> {
     ghost use Rattle.std.specs.Prelude.{◌∷◌, [], Err, List, None, length, IfErr, IfOk, MatchResult};
     ghost use Rattle.zvt_journal.specs.Text.{recovered};
     ghost use Rattle.zvt_kept.specs.Logs.{StandsFor};
+    ghost use Rattle.zvt_kept.specs.PastOrders.{HasOrders};
     ghost use Rattle.zvt_kept.specs.Recovery.{IsRecovered, Recovers};
     ghost use Rattle.zvt_till.specs.declared.happenings.Happening.{Happening};
     ghost use Rattle.zvt_journal.specs.Text.{IsSettled};
@@ -122,32 +132,34 @@ impl<D: Device + Drop> KeptTill<D> {
         settings: &TillSettings,
         device: D,
         text: &[u8],
-    ) -> Result<KeptTill<D>, RecoveryError>
+    ) -> Result<Reopened<D>, RecoveryError>
         requires text { recovered (D.seen device) ≡ text.now }
         requires settled { IsSettled (D.seen device) (D.may_leave device) (length text.now) }
-        ensures till { MatchResult result (λ kept. IsRecovered (settings_of settings.now) text.now
-            kept.standing.till.state) (λ why. Recovers (settings_of settings.now) text.now (Err why)) }
-        ensures settling { IfOk result (λ kept. HasSettled (settings_of settings.now) text.now
-            (both_in kept.standing)) }
-        ensures device { IfOk result (λ kept. (kept.standing.device ≡ device)
-            × (kept.standing.gate ≡ length text.now)) }
-        ensures whole { IfOk result (λ kept. kept.failure ≡ None) }
-        ensures log { IfOk result (λ kept. (log : List Happening) → StandsFor (settings_of settings.now) text.now log
+        ensures till { MatchResult result (λ reopened. IsRecovered (settings_of settings.now) text.now
+            reopened.till.standing.till.state) (λ why. Recovers (settings_of settings.now) text.now (Err why)) }
+        ensures settling { IfOk result (λ reopened. HasSettled (settings_of settings.now) text.now
+            (both_in reopened.till.standing)) }
+        ensures device { IfOk result (λ reopened. (reopened.till.standing.device ≡ device)
+            × (reopened.till.standing.gate ≡ length text.now)) }
+        ensures whole { IfOk result (λ reopened. reopened.till.failure ≡ None) }
+        ensures log { IfOk result (λ reopened. (log : List Happening) → StandsFor (settings_of settings.now) text.now log
             → Keeps (settings_of settings.now) log (D.seen device) (D.may_leave device) (length text.now)
-            (both_in kept.standing)) }
+            (both_in reopened.till.standing)) }
+        ensures orders { IfOk result (λ reopened. HasOrders (settings_of settings.now) text.now reopened.orders) }
     {
-        let Recovered { till, .. } = recover(alloc, settings, text)?;
+        let Recovered { till, orders, .. } = recover(alloc, settings, text)?;
         let journal = Journal {
             alloc,
             device,
             gate: text.len(),
         };
-        Ok(KeptTill {
+        let till = KeptTill {
             till,
             journal,
             failure: None,
             note: Note::none(),
-        })
+        };
+        Ok(Reopened { till, orders })
     }
 }
 

@@ -4,6 +4,7 @@ ghost use Rattle.zvt_kept.specs.Logs.{LogsAreOne, OpeningsAreOne};
 ghost use Rattle.zvt_kept.specs.Outliving.{CallsOutlive, HearingsOutlive, LogsAreRecovered, RunsOutlive};
 ghost use Rattle.zvt_kept.specs.Outliving.{SettlingIsRecovered, TillsAreRecovered};
 ghost use Rattle.zvt_kept.specs.Records.{OpeningIsTaken, RecordsAreKept, RecordsAreTaken, RecordsAreWhole};
+ghost use Rattle.zvt_kept.specs.PastOrders.{PastOrdersStay};
 ghost use Rattle.zvt_kept.specs.Remarks.{RemarksMeanNothing};
 
 use zvt_journal::Device;
@@ -69,4 +70,9 @@ pub fn tills_are_recovered<D: Device>()
 /// running has ended with the line.
 pub fn settling_is_recovered<D: Device>()
     ensures { SettlingIsRecovered D.seen D.may_leave D.moment D.left_since D.faults }
+{}
+
+/// How an order ended does not change, whatever records follow.
+pub fn past_orders_stay()
+    ensures { PastOrdersStay }
 {}

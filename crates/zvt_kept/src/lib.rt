@@ -12,18 +12,21 @@ mod kept_till;
 mod laws;
 mod lines;
 mod note;
+mod past_orders;
 mod records;
 mod recovery;
 mod row_notes;
 mod words;
 
 pub use keeping::answers_to;
-pub use kept_till::{KeptTill, Unbegun};
+pub use kept_till::{KeptTill, Reopened, Unbegun};
 pub use laws::{
     calls_outlive, hearings_outlive, logs_are_one, logs_are_recovered, opening_is_taken,
-    openings_are_one, records_are_kept, remarks_mean_nothing, runs_outlive, tills_are_recovered,
+    openings_are_one, past_orders_stay, records_are_kept, remarks_mean_nothing, runs_outlive,
+    tills_are_recovered,
 };
 pub use lines::{RecordError, read_records};
 pub use note::{MAX_REFERENCE_LEN, Note, is_reference};
+pub use past_orders::{PastOrder, PastOrders};
 pub use records::{Entry, put_ask, put_heard, put_lost, put_opening, put_order};
 pub use recovery::{Recovered, RecoveryError, recover};

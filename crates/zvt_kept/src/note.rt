@@ -34,7 +34,7 @@ impl Model for Note {
 
 impl Note {
     ghost use Rattle.std.specs.Prelude.{[], IfSome, None, Some};
-    ghost use Rattle.zvt_kept.specs.Notes.{at_in, note_of, reference_in};
+    ghost use Rattle.zvt_kept.specs.Notes.{at_in, is_noted_by, note_of, reference_in};
 
     /// Creates an empty note.
     pub fn none() -> Note
@@ -105,6 +105,16 @@ impl Note {
         match trailing(b" at ", self.words()) {
             Some(rest) => trailing(b" ref ", &rest[MOMENT_LEN..]),
             None => trailing(b" ref ", self.words()),
+        }
+    }
+
+    /// Returns whether the note has this reference.
+    pub fn has_reference(&self, reference: &[u8]) -> bool
+        ensures { result ≡ is_noted_by reference.now self.now }
+    {
+        match self.reference() {
+            Some(found) => found == reference,
+            None => false,
         }
     }
 

@@ -4,6 +4,7 @@ ghost use Rattle.zvt_kept.specs.Reading.{kept_of};
 ghost use Rattle.zvt_kept.specs.Logs.{HasOpening};
 ghost use Rattle.zvt_kept.specs.Records.{asked, heard, ordered};
 ghost use Rattle.zvt_kept.specs.Recovery.{HasSettled, Recovers, Replays};
+ghost use Rattle.zvt_kept.specs.PastOrders.{HasOrders};
 ghost use Rattle.zvt_kept.specs.RowNotes.{HasNotes};
 ghost use Rattle.zvt_kept.specs.declared.recovery.RecoveryError.TheVariants.{Memory};
 ghost use Rattle.zvt_settle.specs.Inside.{both_of, till_inside};
@@ -11,6 +12,7 @@ ghost use Rattle.zvt_till.specs.Settings.{settings_of};
 
 use crate::lines::{RecordError, read_records};
 use crate::note::Note;
+use crate::past_orders::PastOrders;
 use crate::records::{Entry, put_opening};
 use crate::row_notes::RowNotes;
 use std::alloc::{AllocError, Global};
@@ -60,6 +62,8 @@ pub struct Recovered {
     pub booked: Vec<Note>,
     /// The note of each unclear payment, in the order of [`Till::unclear`].
     pub unclear: Vec<Note>,
+    /// The orders of the journal, and how each ended. An order that was running ended with the line.
+    pub orders: PastOrders,
 }
 
 /// Rebuilds a till from its journal by replaying the records and then losing the connection.
@@ -82,6 +86,7 @@ pub fn recover(
     ensures notes { IfOk result (λ recovered. HasNotes (settings_of settings.now) text.now
         (till_inside recovered.till).state
         recovered.booked.items recovered.unclear.items) }
+    ensures orders { IfOk result (λ recovered. HasOrders (settings_of settings.now) text.now recovered.orders) }
 {
     if !has_opening(alloc, text, settings)? {
         return Err(RecoveryError::Opening);
@@ -95,19 +100,24 @@ pub fn recover(
     let mut till = SettlingTill::new(alloc, Till::with_settings(alloc, settings));
     till.connected();
     let mut notes = RowNotes::new(alloc);
+    let mut orders = PastOrders::new(alloc);
     for (at, entry) in entries.iter().enumerate() {
         notes.hold(entry);
+        orders.hold(entry)?;
         if !relive(alloc, &mut till, entry)? {
             return Err(RecoveryError::Record { number: at + 1 });
         }
         notes.follow(till.till())?;
+        orders.follow(till.till());
     }
     let _ = till.lost();
     notes.follow(till.till())?;
+    orders.follow(till.till());
     Ok(Recovered {
         till,
         booked: notes.booked,
         unclear: notes.unclear,
+        orders,
     })
 }
 

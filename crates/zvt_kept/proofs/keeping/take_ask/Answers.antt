@@ -68,6 +68,7 @@ returns-in-Ok-keep_ask g c =
         noted = ask_noted_after V.seen old.device c.reserve.new.self.device new.device c.args.note.now c.reserve.ensures.seen c.in-Ok-keep_ask.ensures.noted;
       },
       refl,
+      kept,
     )
 
 pub returns-in-Err-keep_ask : goal.returns-in-Err-keep_ask
@@ -96,4 +97,5 @@ returns-in-Err-keep_ask g c =
             };
         outlives = outlives records_are_kept V.seen V.may_leave V.moment V.left_since V.faults old new (asked c.args.note.now) kept.added (no_event V.seen V.may_leave V.moment V.left_since V.faults) kept.is (λ settings. refl) can kept.adds.leaves;
       },
+      kept,
     )

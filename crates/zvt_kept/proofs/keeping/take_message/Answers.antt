@@ -34,6 +34,7 @@ returns-in-Ok g c =
       logs = logs_one V.seen V.may_leave V.moment V.left_since V.faults old new (heard kept.0) kept.2.added (λ settings. hears m) c.requires.up (λ settings. refl) (heard_follows state c.requires.up) (λ settings. both) kept.2.is (λ settings. (m, kept.1, refl)) (λ settings. (hears m ∷ [], (m, kept.1, refl), refl)) (λ settings log has. heard_can settings (recovered (V.seen old.device)) log m kept.0 kept.1 has.recorded) kept.2.adds.durable.0 kept.2.adds.durable.1;
       outlives = outlives records_are_kept V.seen V.may_leave V.moment V.left_since V.faults old new (heard kept.0) kept.2.added (message_heard V.seen V.may_leave V.moment V.left_since V.faults m) kept.2.is (λ settings. (m, kept.1, refl)) (λ settings log has. heard_can settings (recovered (V.seen old.device)) log m kept.0 kept.1 has.recorded) kept.2.adds.leaves;
       later = kept.2.adds.later;
+      recorded = (kept.0, kept.2);
     }
 
 pub returns-in-Err : goal.returns-in-Err
@@ -50,4 +51,5 @@ returns-in-Err g c =
       lost = c.lost.ensures.inside;
       both = c.lost.ensures.both;
       outlives = outlives records_are_kept V.seen V.may_leave V.moment V.left_since V.faults old new (heard kept.0) kept.2.added (message_heard V.seen V.may_leave V.moment V.left_since V.faults m) kept.2.is (λ settings. (m, kept.1, refl)) (λ settings log has. heard_can settings (recovered (V.seen old.device)) log m kept.0 kept.1 has.recorded) kept.2.adds.leaves;
+      recorded = (kept.0, kept.2);
     }

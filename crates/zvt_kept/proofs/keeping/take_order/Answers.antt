@@ -77,6 +77,7 @@ returns-in-Ok-keep_order g c =
       },
       refl,
       noted,
+      kept,
     )
 
 pub returns-in-Err-keep_order : goal.returns-in-Err-keep_order
@@ -109,4 +110,5 @@ returns-in-Err-keep_order g c =
         heard = ordered-keeps order c.args.till.now.till c.begin.new.self.till c.lost.new.self.till runs heard gone.3;
         outlives = outlives records_are_kept V.seen V.may_leave V.moment V.left_since V.faults old new (ordered order c.args.note.now) kept.added (order_sent V.seen V.may_leave V.moment V.left_since V.faults order) kept.is (λ settings. refl) can kept.adds.leaves;
       },
+      kept,
     )

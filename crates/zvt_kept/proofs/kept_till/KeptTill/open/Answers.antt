@@ -5,8 +5,8 @@ use Rattle.zvt_kept.proofs.Logged.{keeps_some}
 use Rattle.zvt_kept.proofs.Recovering.{opened_keeps}
 use Rattle.zvt_kept.proofs.kept_till.KeptTill.open.Goals as goal
 
-pub invariant_of-result : goal.invariant_of-result
-invariant_of-result g c =
+pub invariant_of-till : goal.invariant_of-till
+invariant_of-till g c =
     let V = g.D.Device in
     let settings = settings_of c.args.settings.now in
     let r = c.in_ok-till.ensures.till in

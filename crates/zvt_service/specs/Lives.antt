@@ -1,0 +1,93 @@
+-- The lives of a service: its calls, the ends of its process during a call and between calls, and what was sent.
+use Rattle.std.specs.Prelude.{◌≡◌, ℕ, false, true, cond, List, [], ◌∷◌, ◌++◌, All, Option, Some, None, Result, Ok, Err}
+use Rattle.core.specs.List.{IsDistinct}
+use Rattle.std.specs.Str.{bytes_eq}
+use Rattle.zvt_apdu.specs.Message.{Message}
+use Rattle.zvt_stream.specs.Answered.{Answered}
+use Rattle.zvt_till.specs.declared.keeper.BookFault.{BookFault}
+use Rattle.zvt_till.specs.declared.keeper.Untaken.{Untaken}
+use Rattle.zvt_till.specs.declared.orders.Order.{Order}
+use Rattle.zvt_till.specs.declared.orders.Outgoing.{Outgoing}
+use Rattle.zvt_till.specs.Sending.{Settings}
+use Rattle.zvt_journal.specs.Text.{recovered}
+use Rattle.zvt_kept.specs.declared.past_orders.PastOrder.{PastOrder}
+use Rattle.zvt_kept.specs.KeptTill.{IsKept, both_in, has_failed}
+use Rattle.zvt_kept.specs.Notes.{reference_in}
+use Rattle.zvt_kept.specs.PastOrders.{first_noted, runs}
+use Rattle.zvt_service.specs.declared.service.Ungiven.{Ungiven}
+use Rattle.zvt_service.specs.Service.{Asks, Connects, Gives, HasPast, Hears, IsServed, Loses, ServiceValue, state_of}
+
+-- A call of a service. An order and an ask have a note.
+pub data Call : Type 0 where
+  gives : (order : Order) → (note : List ℕ) → Call
+  asks : (note : List ℕ) → Call
+  hears : Call
+  loses : Call
+  connects : Call
+
+abbrev pub one_or_none : Option (List ℕ) → List (List ℕ)
+one_or_none None = []
+one_or_none (Some key) = key ∷ []
+
+-- the key in a note, if it has one
+abbrev pub keys_in : (note : List ℕ) → List (List ℕ)
+keys_in note = one_or_none (reference_in note)
+
+-- The key of an order whose message was returned. The caller sends a message only if it was returned. A request to break
+-- off the running order is sent for no key.
+abbrev pub keys_of : Order → (note : List ℕ) → Result Outgoing Ungiven → List (List ℕ)
+keys_of order note (Ok outgoing) = cond (runs order) (keys_in note) []
+keys_of order note (Err why) = []
+
+-- an order of the book has this key
+abbrev pub IsKnown : (key : List ℕ) → List PastOrder → Type 0
+IsKnown key past = (one : PastOrder) × (first_noted key past ≡ Some one)
+
+-- What happens: a call returns, or the process ends during a call, or between calls. After its end a new process opens
+-- the book that the old one left.
+pub data Move : Type 0 where
+  returns : (call : Call) → Move
+  ends_in : (call : Call) → Move
+  ends : Move
+
+module _ {D : Type 0} (seen : D → List ℕ) (may_leave : D → List ℕ → Type 0) (moment : D → ℕ) (left_since : D → ℕ → List ℕ → Type 0) (faults : D → ℕ) where
+  -- a call returned, with the keys of the orders that it hands out
+  abbrev pub Returns : Call → (old new : ServiceValue D) → (sent : List (List ℕ)) → Type 0
+  Returns (gives order note) old new sent = (result : Result Outgoing Ungiven) × Gives seen may_leave moment left_since faults order note old result new × (sent ≡ keys_of order note result)
+  Returns (asks note) old new sent = (result : Result (List ℕ) Untaken) × Asks seen may_leave moment left_since faults note old result new × (sent ≡ [])
+  Returns hears old new sent = (message : Message) × (answered : Answered) × Hears seen may_leave moment left_since faults old message answered new × (sent ≡ [])
+  Returns loses old new sent = Loses seen may_leave moment left_since faults old new × (sent ≡ [])
+  Returns connects old new sent = (result : Result Unit BookFault) × Connects seen may_leave moment left_since faults old result new × (sent ≡ [])
+
+  -- a service whose journal has not failed: it is kept, and its orders are those of the journal
+  pub record IsWhole (service : ServiceValue D) : Type 0 where
+    pub whole : has_failed service.kept ≡ false
+    pub kept : IsKept false (seen service.kept.standing.device) (may_leave service.kept.standing.device) service.kept.standing.gate (both_in service.kept.standing)
+    pub served : IsServed seen service.kept service.past
+
+  -- The process ended at a moment since the first of these devices, and by the last of them. A new one opened the file
+  -- that this left.
+  pub record Reopens (since by : D) (new : ServiceValue D) : Type 0 where
+    pub file : List ℕ
+    pub left : left_since by (moment since) file
+    pub found : recovered (seen new.kept.standing.device) ≡ recovered file
+    pub is_whole : IsWhole new
+
+  abbrev pub Moves : Move → (old new : ServiceValue D) → (sent : List (List ℕ)) → Type 0
+  Moves (returns call) old new sent = Returns call old new sent × IsWhole new
+  Moves (ends_in call) old new sent = (last : ServiceValue D) × (unsent : List (List ℕ)) × Returns call old last unsent × Reopens old.kept.standing.device last.kept.standing.device new × (sent ≡ [])
+  Moves ends old new sent = Reopens old.kept.standing.device old.kept.standing.device new × (sent ≡ [])
+
+  -- one move after another
+  abbrev pub Lives : List Move → (old new : ServiceValue D) → (sent : List (List ℕ)) → Type 0
+  Lives [] old new sent = (old ≡ new) × (sent ≡ [])
+  Lives (move ∷ more) old new sent =
+      (middle : ServiceValue D) × (first rest : List (List ℕ)) × Moves move old middle first × Lives more middle new rest × (sent ≡ first ++ rest)
+
+  -- Whatever clients ask, however often, and whenever the process ends: no order is sent twice for a key, and none for
+  -- a key that the book knew before. Each key that was sent is in the book.
+  abbrev pub SentOnce : Type 0
+  SentOnce =
+      (moves : List Move) (old new : ServiceValue D) (sent : List (List ℕ))
+      → IsWhole old → Lives moves old new sent
+      → IsDistinct bytes_eq sent × All (λ key. IsKnown key new.past) sent × All (λ key. IsKnown key old.past → ⊥) sent

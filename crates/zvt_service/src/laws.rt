@@ -1,0 +1,10 @@
+//! Laws about the lives of a service. Each is stated as the contract of an empty function.
+ghost use Rattle.zvt_service.specs.Lives.{SentOnce};
+
+use zvt_journal::Device;
+
+/// Over any calls, and any ends of the process during a call and between calls, no key is sent twice, and each key that
+/// was sent is in the book.
+pub fn sent_once<D: Device>()
+    ensures { SentOnce D.seen D.may_leave D.moment D.left_since D.faults }
+{}

@@ -1,0 +1,11 @@
+//! A till whose orders have keys: however often a client asks, the order of a key is sent at most once.
+//!
+//! The key of an order is the reference in the note of its record. The record is durable before the order is sent, so
+//! a service that is opened again after any crash still knows each key that was sent, and how its order ended.
+#![tactic(auto)]
+
+mod laws;
+mod service;
+
+pub use laws::sent_once;
+pub use service::{Service, Ungiven};
