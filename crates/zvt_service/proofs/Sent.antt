@@ -1,7 +1,7 @@
 -- No key is sent twice.
 use Rattle.std.specs.Prelude.{Ok, Err, IsSomeAnd}
 use Rattle.std.proofs.Common.{◌≡◌, ◌⊎◌, ⊎_elim, inl, inr, ℕ, suc, zero, Bool, true, false, cond, ◌||◌, ◌-◌, List, [], ◌∷◌, ◌++◌, All, append-nil, length, map, Option, Some, None, Result, slice_get, slice_set, refl, sym, ap, subst, ◌∙◌, append_assoc, true≢false}
-use Rattle.core.specs.List.{AllByRecursion, IsDistinct, list_any}
+use Rattle.std.specs.List.{AllByRecursion, IsDistinct, list_any}
 use Rattle.std.specs.List.{find}
 use Rattle.std.specs.Str.{bytes_eq}
 use Rattle.std.proofs.lemmas.List.Elements.{All-cons, All-nil}
@@ -32,6 +32,7 @@ use Rattle.zvt_kept.proofs.PastOrderLemmas.{map_set, starting_one}
 use Rattle.zvt_service.specs.declared.service.Ungiven.{Ungiven}
 use Rattle.zvt_service.specs.declared.service.Ungiven.TheVariants.{Known, Memory, Till as TillRefused}
 use Rattle.zvt_service.specs.Service.{Asks, Gives, HasPast, Loses, ServiceValue, holder, holder_of, state_of, unless_failed, unless_lost}
+use Rattle.zvt_service.proofs.Living.{starting_while}
 use Rattle.zvt_service.specs.Lives.{Call, gives, asks, hears, loses, connects, Move, returns, ends_in, ends, IsKnown, IsWhole, Lives, Moves, Reopens, Returns, SentOnce, keys_in, keys_of, one_or_none}
 
 -- ---- keys of records
@@ -281,12 +282,8 @@ module _ {D : Type 0} (seen : D → List ℕ) (may_leave : D → List ℕ → Ty
 
     -- ---- a service that was opened again
 
-    listed_up : (kept : List Kept) (up : Bool) → starting (kept ++ unless_lost up) ≡ starting kept
-    listed_up kept true = ap starting (append-nil kept)
-    listed_up kept false = starting_one kept lost false refl ∙ append-nil (starting kept)
-
     records_of : (service : ServiceValue D) (is : IsWhole seen may_leave moment left_since faults service) → records service ≡ starting (is.served is.whole).kept
-    records_of service is = let p = is.served is.whole in p.are.listed ∙ listed_up p.kept (state_of service.kept).line_up
+    records_of service is = let p = is.served is.whole in p.are.listed ∙ starting_while p.kept (state_of service.kept).line_up
 
     one_text : (a b : List ℕ) (x y : List Kept) → kept_in a ≡ Some x → kept_in b ≡ Some y → a ≡ b → x ≡ y
     one_text a b x y is_x is_y same = let both : Some x ≡ Some y = sym is_x ∙ ap kept_in same ∙ is_y in cc both

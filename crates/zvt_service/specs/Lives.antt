@@ -1,6 +1,6 @@
 -- The lives of a service: its calls, the ends of its process during a call and between calls, and what was sent.
 use Rattle.std.specs.Prelude.{◌≡◌, ℕ, false, true, cond, List, [], ◌∷◌, ◌++◌, All, Option, Some, None, Result, Ok, Err}
-use Rattle.core.specs.List.{IsDistinct}
+use Rattle.std.specs.List.{IsDistinct}
 use Rattle.std.specs.Str.{bytes_eq}
 use Rattle.zvt_apdu.specs.Message.{Message}
 use Rattle.zvt_stream.specs.Answered.{Answered}

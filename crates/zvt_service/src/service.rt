@@ -25,6 +25,16 @@ pub enum Ungiven {
     Memory,
 }
 
+impl From<AllocError> for Ungiven {
+    ghost use Rattle.zvt_service.specs.declared.service.Ungiven.TheVariants.{Memory};
+
+    ghost from_gives = { λ _ error. error ≡ Memory };
+
+    fn from(_refused: AllocError) -> Ungiven {
+        Ungiven::Memory
+    }
+}
+
 /// A till with a book that knows each order of the book, and how it ended.
 #[derive(Drop)]
 pub struct Service<D: Device> {
@@ -145,9 +155,7 @@ impl<D: Device> Service<D> {
             return Err(Ungiven::Known);
         }
         let count = self.orders.len();
-        if self.orders.start(*order, note).is_err() {
-            return Err(Ungiven::Memory);
-        }
+        self.orders.start(*order, note)?;
         self.kept.note_next(note.copied());
         match self.kept.order(alloc, *order) {
             Ok(outgoing) => {
@@ -182,10 +190,14 @@ impl<D: Device> Service<D> {
         Ok(message)
     }
 
-    /// Notifies the till that a line is up. By then the book contains the record that an earlier line was lost.
+    /// Notifies the till that a line is up. By then the book contains the record that an earlier line was lost. Nothing
+    /// changes if the line was up.
     pub fn connect(&mut self, alloc: Global) -> Result<(), BookFault>
         ensures { Connects D.seen D.may_leave D.moment D.left_since D.faults self.old result self.new }
     {
+        if self.kept.till().line_up() {
+            return Ok(());
+        }
         self.kept.connect(alloc)
     }
 
