@@ -1,2 +1,3 @@
 pub mod Living
 mod Sent
+mod Stays

@@ -29,6 +29,7 @@ use Rattle.zvt_kept.specs.Records.{Kept, IsRecordOf, ordered, asked, heard, lost
 use Rattle.zvt_kept.proofs.Logged.{whole_text}
 use Rattle.zvt_kept.proofs.Made.{records_are_kept}
 use Rattle.zvt_kept.proofs.PastOrderLemmas.{map_set, starting_one}
+use Rattle.zvt_kept.proofs.Steps.{asked_up, taken_up}
 use Rattle.zvt_service.specs.declared.service.Ungiven.{Ungiven}
 use Rattle.zvt_service.specs.declared.service.Ungiven.TheVariants.{Known, Memory, Till as TillRefused}
 use Rattle.zvt_service.specs.Service.{Asks, Gives, HasPast, Loses, ServiceValue, holder, holder_of, state_of, unless_failed, unless_lost}
@@ -38,17 +39,17 @@ use Rattle.zvt_service.specs.Lives.{Call, gives, asks, hears, loses, connects, M
 -- ---- keys of records
 
 -- a record has this key
-abbrev has_key : (key : List ℕ) → Kept → Bool
+abbrev pub has_key : (key : List ℕ) → Kept → Bool
 has_key key (ordered order note) = is_noted_by key note
 has_key key (asked note) = false
 has_key key (heard message) = false
 has_key key lost = false
 
-abbrev any_has : (key : List ℕ) → List Kept → Bool
+abbrev pub any_has : (key : List ℕ) → List Kept → Bool
 any_has key kept = list_any (has_key key) kept
 
 -- the records of a service's orders
-abbrev records : {D : Type 0} → ServiceValue D → List Kept
+abbrev pub records : {D : Type 0} → ServiceValue D → List Kept
 records s = map record_of s.past
 
 or-right : (a : Bool) → (a || true) ≡ true
@@ -122,10 +123,10 @@ held_records past order note = by_run (runs order)
 
 -- The records after a move are those before it and some more. At most one key was sent: no record had it before, and
 -- one of the new ones has it.
-record Adds {D : Type 0} (old new : ServiceValue D) (sent : List (List ℕ)) : Type 0 where
-  more : List Kept
-  is : records new ≡ records old ++ more
-  none_or_one : (sent ≡ []) ⊎ ((key : List ℕ) × (sent ≡ key ∷ []) × (any_has key (records old) ≡ false) × (any_has key more ≡ true))
+pub record Adds {D : Type 0} (old new : ServiceValue D) (sent : List (List ℕ)) : Type 0 where
+  pub more : List Kept
+  pub is : records new ≡ records old ++ more
+  pub none_or_one : (sent ≡ []) ⊎ ((key : List ℕ) × (sent ≡ key ∷ []) × (any_has key (records old) ≡ false) × (any_has key more ≡ true))
 
 adds_none : {D : Type 0} (old new : ServiceValue D) (sent : List (List ℕ)) → records new ≡ records old → sent ≡ [] → Adds old new sent
 adds_none old new sent same none = record { more = []; is = same ∙ sym (append-nil (records old)); none_or_one = inl none }
@@ -192,82 +193,89 @@ module _ {D : Type 0} (seen : D → List ℕ) (may_leave : D → List ℕ → Ty
 
   -- ---- what a crash leaves
 
-  -- the file has the records of the device, or one more
-  abbrev Leaves : (old : D) (file : List ℕ) → Type 0
-  Leaves old file = (recovered file ≡ recovered (seen old)) ⊎ ((one : Kept) × (added : List ℕ) × IsRecordOf one added × (recovered file ≡ recovered (seen old) ++ added))
+  -- The file has the records of a till's journal, or one more. While the line is down, that is the record of its loss.
+  abbrev pub Leaves : (old : Standing D) (file : List ℕ) → Type 0
+  Leaves old file =
+      (recovered file ≡ recovered (seen old.device))
+      ⊎ ((one : Kept) × (added : List ℕ) × IsRecordOf one added × (recovered file ≡ recovered (seen old.device) ++ added) × (old.till.state.line_up ≡ false → one ≡ lost))
 
-  with_or_without : (one : Kept) (old new : Standing D) (result : Result Unit DeviceError) (file : List ℕ) → Writes seen may_leave moment left_since faults one old new result → left_since new.device (moment old.device) file → Leaves old.device file
-  with_or_without one old new result file w left = ⊎_elim (λ same. inl same) (λ more. inr (one, w.added, w.is, more)) (w.adds.leaves.here file left)
+  with_or_without : (one : Kept) (old new : Standing D) (result : Result Unit DeviceError) (file : List ℕ) → Writes seen may_leave moment left_since faults one old new result → (old.till.state.line_up ≡ false → one ≡ lost)
+      → left_since new.device (moment old.device) file → Leaves old file
+  with_or_without one old new result file w down left = ⊎_elim (λ same. inl same) (λ more. inr (one, w.added, w.is, more, down)) (w.adds.leaves.here file left)
+
+  -- a line that is up is not down
+  not_down : (up : Bool) (one : Kept) → up ≡ true → up ≡ false → one ≡ lost
+  not_down up one is down = absurd (true≢false (sym is ∙ down))
 
   module _ (only_now : (device : D) (file : List ℕ) → left_since device (moment device) file → may_leave device file) where
     settled_in : (service : ServiceValue D) → IsWhole seen may_leave moment left_since faults service → IsSettled (seen service.kept.standing.device) (may_leave service.kept.standing.device) service.kept.standing.gate
     settled_in service is = is.kept.1.settled
 
     -- nothing was written
-    at_rest : (service : ServiceValue D) (device : D) (file : List ℕ) → IsWhole seen may_leave moment left_since faults service → device ≡ service.kept.standing.device
-        → left_since device (moment service.kept.standing.device) file → Leaves service.kept.standing.device file
+    pub at_rest : (service : ServiceValue D) (device : D) (file : List ℕ) → IsWhole seen may_leave moment left_since faults service → device ≡ service.kept.standing.device
+        → left_since device (moment service.kept.standing.device) file → Leaves service.kept.standing file
     at_rest service device file is same left =
         let here = service.kept.standing.device in
         inl (ap recovered ((settled_in service is).durable file (only_now here file (subst (λ d. left_since d (moment here) file) same left))))
 
     order_leaves : (order : Order) (note : List ℕ) (old last : ServiceValue D) (result : Result Outgoing Untaken) (file : List ℕ) → IsWhole seen may_leave moment left_since faults old
-        → kept_orders seen may_leave moment left_since faults (with_note old.kept note) order result last.kept → left_since last.kept.standing.device (moment old.kept.standing.device) file → Leaves old.kept.standing.device file
-    order_leaves order note old last (Ok outgoing) file is o left = with_or_without (ordered order note) old.kept.standing last.kept.standing (Ok tt) file o.0.3 left
+        → kept_orders seen may_leave moment left_since faults (with_note old.kept note) order result last.kept → left_since last.kept.standing.device (moment old.kept.standing.device) file → Leaves old.kept.standing file
+    order_leaves order note old last (Ok outgoing) file is o left = with_or_without (ordered order note) old.kept.standing last.kept.standing (Ok tt) file o.0.3 (not_down (state_of old.kept).line_up (ordered order note) (taken_up (state_of old.kept) order o.0.0.taken)) left
     order_leaves order note old last (Err (Refused why)) file is o left = at_rest old last.kept.standing.device file is (ap (λ (k : KeptValue D). k.standing.device) o.1) left
     order_leaves order note old last (Err (Unkept NoSpace)) file is o left = inl (ap recovered (o.0.full.leaves.here file left))
-    order_leaves order note old last (Err (Unkept BookFailed)) file is o left = with_or_without (ordered order note) old.kept.standing last.kept.standing (Err o.0) file o.3 left
+    order_leaves order note old last (Err (Unkept BookFailed)) file is o left = with_or_without (ordered order note) old.kept.standing last.kept.standing (Err o.0) file o.3 (not_down (state_of old.kept).line_up (ordered order note) (taken_up (state_of old.kept) order o.2.taken)) left
 
     gives_leaves : (order : Order) (note : List ℕ) (old last : ServiceValue D) (result : Result Outgoing Ungiven) (file : List ℕ) → IsWhole seen may_leave moment left_since faults old → Gives seen may_leave moment left_since faults order note old result last
-        → left_since last.kept.standing.device (moment old.kept.standing.device) file → Leaves old.kept.standing.device file
+        → left_since last.kept.standing.device (moment old.kept.standing.device) file → Leaves old.kept.standing file
     gives_leaves order note old last (Ok outgoing) file is g left = order_leaves order note old last (Ok outgoing) file is g.1 left
     gives_leaves order note old last (Err Known) file is g left = by_holder (holder note old.past) g
       where
-        by_holder : (found : Option PastOrder) → IsSomeAnd found (λ past. last ≡ old) → Leaves old.kept.standing.device file
+        by_holder : (found : Option PastOrder) → IsSomeAnd found (λ past. last ≡ old) → Leaves old.kept.standing file
         by_holder None absent = absurd absent
         by_holder (Some one) same = at_rest old last.kept.standing.device file is (ap (λ (s : ServiceValue D). s.kept.standing.device) same) left
     gives_leaves order note old last (Err Memory) file is g left = at_rest old last.kept.standing.device file is (ap (λ (s : ServiceValue D). s.kept.standing.device) g.1) left
     gives_leaves order note old last (Err (TillRefused why)) file is g left = order_leaves order note old last (Err why) file is g.1 left
 
     asks_leaves : (note : List ℕ) (old last : ServiceValue D) (result : Result (List ℕ) Untaken) (file : List ℕ) → IsWhole seen may_leave moment left_since faults old → kept_asks seen may_leave moment left_since faults (with_note old.kept note) result last.kept
-        → left_since last.kept.standing.device (moment old.kept.standing.device) file → Leaves old.kept.standing.device file
-    asks_leaves note old last (Ok bytes) file is a left = with_or_without (asked note) old.kept.standing last.kept.standing (Ok tt) file a.0.2 left
+        → left_since last.kept.standing.device (moment old.kept.standing.device) file → Leaves old.kept.standing file
+    asks_leaves note old last (Ok bytes) file is a left = with_or_without (asked note) old.kept.standing last.kept.standing (Ok tt) file a.0.2 (not_down (state_of old.kept).line_up (asked note) (asked_up (state_of old.kept) old.kept.standing.settling.asking a.0.0.accepts.taken)) left
     asks_leaves note old last (Err (Refused why)) file is a left = at_rest old last.kept.standing.device file is (ap (λ (k : KeptValue D). k.standing.device) a.1) left
     asks_leaves note old last (Err (Unkept NoSpace)) file is a left = inl (ap recovered (a.0.full.leaves.here file left))
-    asks_leaves note old last (Err (Unkept BookFailed)) file is a left = with_or_without (asked note) old.kept.standing last.kept.standing (Err a.0) file a.3 left
+    asks_leaves note old last (Err (Unkept BookFailed)) file is a left = with_or_without (asked note) old.kept.standing last.kept.standing (Err a.0) file a.3 (not_down (state_of old.kept).line_up (asked note) (asked_up (state_of old.kept) old.kept.standing.settling.asking a.2.loses.taken)) left
 
     hears_leaves : (old last : ServiceValue D) (message : Message) (answered : Answered) (file : List ℕ) → IsWhole seen may_leave moment left_since faults old → KeptHears seen may_leave moment left_since faults old.kept message answered last.kept
-        → left_since last.kept.standing.device (moment old.kept.standing.device) file → Leaves old.kept.standing.device file
+        → left_since last.kept.standing.device (moment old.kept.standing.device) file → Leaves old.kept.standing file
     hears_leaves old last message answered file is h left = ⊎_elim
         (λ still. at_rest old last.kept.standing.device file is (ap (λ (k : KeptValue D). k.standing.device) still.1) left)
         (λ more. ⊎_elim
-        (λ kept. with_or_without (heard kept.1.recorded.0) old.kept.standing last.kept.standing (Ok tt) file kept.1.recorded.1 left)
-        (λ broke. with_or_without (heard broke.3.recorded.0) old.kept.standing last.kept.standing (Err broke.0) file broke.3.recorded.1 left)
+        (λ kept. with_or_without (heard kept.1.recorded.0) old.kept.standing last.kept.standing (Ok tt) file kept.1.recorded.1 (not_down (state_of old.kept).line_up (heard kept.1.recorded.0) kept.1.up) left)
+        (λ broke. with_or_without (heard broke.3.recorded.0) old.kept.standing last.kept.standing (Err broke.0) file broke.3.recorded.1 (not_down (state_of old.kept).line_up (heard broke.3.recorded.0) broke.3.up) left)
         more)
         h
 
     line_leaves : (old last : ServiceValue D) (result : Result Unit DeviceError) (file : List ℕ) → IsWhole seen may_leave moment left_since faults old → KeptConnects seen may_leave moment left_since faults old.kept last.kept result
-        → left_since last.kept.standing.device (moment old.kept.standing.device) file → Leaves old.kept.standing.device file
+        → left_since last.kept.standing.device (moment old.kept.standing.device) file → Leaves old.kept.standing file
     line_leaves old last (Ok up) file is k left = ⊎_elim
         (λ still. at_rest old last.kept.standing.device file is (ap (λ (k : KeptValue D). k.standing.device) still.1) left)
-        (λ more. with_or_without lost old.kept.standing last.kept.standing (Ok tt) file more.2.recorded left)
+        (λ more. with_or_without lost old.kept.standing last.kept.standing (Ok tt) file more.2.recorded (λ down. refl) left)
         k
     line_leaves old last (Err why) file is k left = ⊎_elim
         (λ failed. absurd (true≢false (sym failed.0 ∙ is.whole)))
-        (λ more. with_or_without lost old.kept.standing last.kept.standing (Err why) file more.7 left)
+        (λ more. with_or_without lost old.kept.standing last.kept.standing (Err why) file more.7 (λ down. refl) left)
         k
 
     connects_leaves : (old last : ServiceValue D) (result : Result Unit BookFault) (file : List ℕ) → IsWhole seen may_leave moment left_since faults old → kept_connects seen may_leave moment left_since faults old.kept result last.kept
-        → left_since last.kept.standing.device (moment old.kept.standing.device) file → Leaves old.kept.standing.device file
+        → left_since last.kept.standing.device (moment old.kept.standing.device) file → Leaves old.kept.standing file
     connects_leaves old last (Ok up) file is k left = line_leaves old last (Ok up) file is k left
     connects_leaves old last (Err NoSpace) file is k left = absurd k
     connects_leaves old last (Err BookFailed) file is k left = line_leaves old last (Err k.0) file is k.1 left
 
-    returned_leaves : (call : Call) (old last : ServiceValue D) (sent : List (List ℕ)) (file : List ℕ) → IsWhole seen may_leave moment left_since faults old → Returns seen may_leave moment left_since faults call old last sent
-        → left_since last.kept.standing.device (moment old.kept.standing.device) file → Leaves old.kept.standing.device file
+    pub returned_leaves : (call : Call) (old last : ServiceValue D) (sent : List (List ℕ)) (file : List ℕ) → IsWhole seen may_leave moment left_since faults old → Returns seen may_leave moment left_since faults call old last sent
+        → left_since last.kept.standing.device (moment old.kept.standing.device) file → Leaves old.kept.standing file
     returned_leaves (gives order note) old last sent file is r left = gives_leaves order note old last r.0 file is r.1 left
     returned_leaves (asks note) old last sent file is r left = asks_so r.0 r.1
       where
-        asks_so : (result : Result (List ℕ) Untaken) → Asks seen may_leave moment left_since faults note old result last → Leaves old.kept.standing.device file
+        asks_so : (result : Result (List ℕ) Untaken) → Asks seen may_leave moment left_since faults note old result last → Leaves old.kept.standing file
         asks_so (Ok bytes) a = asks_leaves note old last (Ok bytes) file is a.0 left
         asks_so (Err why) a = asks_leaves note old last (Err why) file is a.0 left
     returned_leaves hears old last sent file is r left = ⊎_elim
@@ -285,12 +293,12 @@ module _ {D : Type 0} (seen : D → List ℕ) (may_leave : D → List ℕ → Ty
     records_of : (service : ServiceValue D) (is : IsWhole seen may_leave moment left_since faults service) → records service ≡ starting (is.served is.whole).kept
     records_of service is = let p = is.served is.whole in p.are.listed ∙ starting_while p.kept (state_of service.kept).line_up
 
-    one_text : (a b : List ℕ) (x y : List Kept) → kept_in a ≡ Some x → kept_in b ≡ Some y → a ≡ b → x ≡ y
+    pub one_text : (a b : List ℕ) (x y : List Kept) → kept_in a ≡ Some x → kept_in b ≡ Some y → a ≡ b → x ≡ y
     one_text a b x y is_x is_y same = let both : Some x ≡ Some y = sym is_x ∙ ap kept_in same ∙ is_y in cc both
 
-    reopened_adds : (old new : ServiceValue D) (by : D) (sent : List (List ℕ)) → IsWhole seen may_leave moment left_since faults old → (r : Reopens seen may_leave moment left_since faults old.kept.standing.device by new)
-        → Leaves old.kept.standing.device r.file → sent ≡ [] → Adds old new sent
-    reopened_adds old new by sent is r leaves none = ⊎_elim same one_more leaves
+    reopened_adds : (old by new : ServiceValue D) (sent : List (List ℕ)) → IsWhole seen may_leave moment left_since faults old → (r : Reopens seen may_leave moment left_since faults old by new)
+        → Leaves old.kept.standing r.file → sent ≡ [] → Adds old new sent
+    reopened_adds old by new sent is r leaves none = ⊎_elim same one_more leaves
       where
         text_old : List ℕ
         text_old = recovered (seen old.kept.standing.device)
@@ -309,7 +317,7 @@ module _ {D : Type 0} (seen : D → List ℕ) (may_leave : D → List ℕ → Ty
             let kept : after ≡ before = one_text text_new text_old after before (r.is_whole.served r.is_whole.whole).read (is.served is.whole).read (r.found ∙ as_before) in
             adds_none old new sent (records_of new r.is_whole ∙ ap starting kept ∙ sym (records_of old is)) none
 
-        one_more : (one : Kept) × (added : List ℕ) × IsRecordOf one added × (recovered r.file ≡ text_old ++ added) → Adds old new sent
+        one_more : (one : Kept) × (added : List ℕ) × IsRecordOf one added × (recovered r.file ≡ text_old ++ added) × ((state_of old.kept).line_up ≡ false → one ≡ lost) → Adds old new sent
         one_more found =
             let read : kept_in (text_old ++ found.1) ≡ Some (before ++ found.0 ∷ []) = records_are_kept text_old before found.0 found.1 (whole_text (seen old.kept.standing.device)) (is.served is.whole).read found.2 in
             let kept : after ≡ before ++ found.0 ∷ [] = one_text text_new (text_old ++ found.1) after (before ++ found.0 ∷ []) (r.is_whole.served r.is_whole.whole).read read (r.found ∙ found.3) in
@@ -319,12 +327,12 @@ module _ {D : Type 0} (seen : D → List ℕ) (may_leave : D → List ℕ → Ty
               none_or_one = inl none;
             }
 
-    moved : (move : Move) (old new : ServiceValue D) (sent : List (List ℕ)) → IsWhole seen may_leave moment left_since faults old → Moves seen may_leave moment left_since faults move old new sent
+    pub moved : (move : Move) (old new : ServiceValue D) (sent : List (List ℕ)) → IsWhole seen may_leave moment left_since faults old → Moves seen may_leave moment left_since faults move old new sent
         → Adds old new sent × IsWhole seen may_leave moment left_since faults new
     moved (returns call) old new sent is m = (returned_adds call old new sent m.0, m.1)
     moved (ends_in call) old new sent is m =
-        (reopened_adds old new m.0.kept.standing.device sent is m.3 (returned_leaves call old m.0 m.1 m.3.file is m.2 m.3.left) m.4, m.3.is_whole)
-    moved ends old new sent is m = (reopened_adds old new old.kept.standing.device sent is m.0 (at_rest old old.kept.standing.device m.0.file is refl m.0.left) m.1, m.0.is_whole)
+        (reopened_adds old m.0 new sent is m.3 (returned_leaves call old m.0 m.1 m.3.file is m.2 m.3.left) m.4, m.3.is_whole)
+    moved ends old new sent is m = (reopened_adds old old new sent is m.0 (at_rest old old.kept.standing.device m.0.file is refl m.0.left) m.1, m.0.is_whole)
 
     -- ---- all moves
 

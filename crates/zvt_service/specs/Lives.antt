@@ -13,7 +13,7 @@ use Rattle.zvt_journal.specs.Text.{recovered}
 use Rattle.zvt_kept.specs.declared.past_orders.PastOrder.{PastOrder}
 use Rattle.zvt_kept.specs.KeptTill.{IsKept, both_in, has_failed}
 use Rattle.zvt_kept.specs.Notes.{reference_in}
-use Rattle.zvt_kept.specs.PastOrders.{first_noted, runs}
+use Rattle.zvt_kept.specs.PastOrders.{StaysAs, first_noted, runs}
 use Rattle.zvt_service.specs.declared.service.Ungiven.{Ungiven}
 use Rattle.zvt_service.specs.Service.{Asks, Connects, Gives, HasPast, Hears, IsServed, Loses, ServiceValue, state_of}
 
@@ -65,18 +65,20 @@ module _ {D : Type 0} (seen : D → List ℕ) (may_leave : D → List ℕ → Ty
     pub kept : IsKept false (seen service.kept.standing.device) (may_leave service.kept.standing.device) service.kept.standing.gate (both_in service.kept.standing)
     pub served : IsServed seen service.kept service.past
 
-  -- The process ended at a moment since the first of these devices, and by the last of them. A new one opened the file
-  -- that this left.
-  pub record Reopens (since by : D) (new : ServiceValue D) : Type 0 where
+  -- The process ended at a moment since the first of these services, and by the last of them. A new one, with the same
+  -- settings, opened the file that this left.
+  pub record Reopens (since by new : ServiceValue D) : Type 0 where
     pub file : List ℕ
-    pub left : left_since by (moment since) file
+    pub left : left_since by.kept.standing.device (moment since.kept.standing.device) file
     pub found : recovered (seen new.kept.standing.device) ≡ recovered file
+    pub settings : (state_of new.kept).settings ≡ (state_of since.kept).settings
+    pub down : (state_of new.kept).line_up ≡ false
     pub is_whole : IsWhole new
 
   abbrev pub Moves : Move → (old new : ServiceValue D) → (sent : List (List ℕ)) → Type 0
   Moves (returns call) old new sent = Returns call old new sent × IsWhole new
-  Moves (ends_in call) old new sent = (last : ServiceValue D) × (unsent : List (List ℕ)) × Returns call old last unsent × Reopens old.kept.standing.device last.kept.standing.device new × (sent ≡ [])
-  Moves ends old new sent = Reopens old.kept.standing.device old.kept.standing.device new × (sent ≡ [])
+  Moves (ends_in call) old new sent = (last : ServiceValue D) × (unsent : List (List ℕ)) × Returns call old last unsent × Reopens old last new × (sent ≡ [])
+  Moves ends old new sent = Reopens old old new × (sent ≡ [])
 
   -- one move after another
   abbrev pub Lives : List Move → (old new : ServiceValue D) → (sent : List (List ℕ)) → Type 0
@@ -91,3 +93,10 @@ module _ {D : Type 0} (seen : D → List ℕ) (may_leave : D → List ℕ → Ty
       (moves : List Move) (old new : ServiceValue D) (sent : List (List ℕ))
       → IsWhole old → Lives moves old new sent
       → IsDistinct bytes_eq sent × All (λ key. IsKnown key new.past) sent × All (λ key. IsKnown key old.past → ⊥) sent
+
+  -- How an order ended stays: whatever happens later, a client that asks again with the same key gets the same answer.
+  abbrev pub AnswersStay : Type 0
+  AnswersStay =
+      (moves : List Move) (old new : ServiceValue D) (sent : List (List ℕ)) (key : List ℕ) (one : PastOrder)
+      → IsWhole old → Lives moves old new sent → first_noted key old.past ≡ Some one
+      → (later : PastOrder) × (first_noted key new.past ≡ Some later) × StaysAs one later

@@ -1,5 +1,5 @@
 //! Laws about the lives of a service. Each is stated as the contract of an empty function.
-ghost use Rattle.zvt_service.specs.Lives.{SentOnce};
+ghost use Rattle.zvt_service.specs.Lives.{AnswersStay, SentOnce};
 
 use zvt_journal::Device;
 
@@ -7,4 +7,10 @@ use zvt_journal::Device;
 /// was sent is in the book.
 pub fn sent_once<D: Device>()
     ensures { SentOnce D.seen D.may_leave D.moment D.left_since D.faults }
+{}
+
+/// How an order ended stays, over any calls and any ends of the process: a client that asks again with its key gets the
+/// same answer.
+pub fn answers_stay<D: Device>()
+    ensures { AnswersStay D.seen D.may_leave D.moment D.left_since D.faults }
 {}
