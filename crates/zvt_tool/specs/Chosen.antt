@@ -8,12 +8,13 @@ use Rattle.zvt_show.specs.declared.render.Style.TheVariants as style
 use Rattle.zvt_tool.specs.Commands.{zvt_app}
 use Rattle.zvt_tool.specs.Given.{IsFlagOf, IsTextOf, words_of}
 use Rattle.zvt_tool.specs.PlayOptions.{AreCheckOptionsOf, ArePlayOptionsOf}
+use Rattle.zvt_tool.specs.ServeOptions.{AreServeOptionsOf}
 use Rattle.zvt_tool.specs.TapOptions.{AreTapOptionsOf}
 use Rattle.zvt_tool.specs.TerminalOptions.{AreTerminalOptionsOf}
 use Rattle.zvt_tool.specs.TillOptions.{AreTillOptionsOf}
 use Rattle.zvt_tool.specs.TraceCommands.{IsAudit, IsReceipts, IsReport, IsShow, IsTraceCommandOf, IsVectors}
 use Rattle.zvt_tool.specs.declared.choices.Choice.{Choice}
-use Rattle.zvt_tool.specs.declared.choices.Choice.TheVariants.{Audit, Book, CheckTerminal, CheckTill, Join, Loop, Normalise, Play, Receipts, Report, Show, Tap, Terminal, Till, Vectors}
+use Rattle.zvt_tool.specs.declared.choices.Choice.TheVariants.{Audit, Book, CheckTerminal, CheckTill, Join, Loop, Normalise, Play, Receipts, Report, Serve, Show, Tap, Terminal, Till, Vectors}
 use Rattle.zvt_tool.specs.declared.choices.ChoiceFault.{ChoiceFault}
 use Rattle.zvt_tool.specs.declared.choices.ChoiceFault.TheVariants.{Memory, Words}
 use Rattle.zvt_tool.specs.declared.trace_command.TraceWork.TheVariants.{Render}
@@ -49,6 +50,7 @@ IsCommandOf name rows (Loop trace no_times book check json steps) =
 IsCommandOf name rows (Till options) = (name ≡ codes "till") × AreTillOptionsOf rows options
 IsCommandOf name rows (Terminal options) = (name ≡ codes "terminal") × AreTerminalOptionsOf rows options
 IsCommandOf name rows (Tap options) = (name ≡ codes "tap") × AreTapOptionsOf rows options
+IsCommandOf name rows (Serve options) = (name ≡ codes "serve") × AreServeOptionsOf rows options
 IsCommandOf name rows (Play options) = (name ≡ codes "play") × ArePlayOptionsOf rows options
 IsCommandOf name rows (CheckTill options) = (name ≡ codes "check-till") × AreCheckOptionsOf (codes "listen") rows options
 IsCommandOf name rows (CheckTerminal options) = (name ≡ codes "check-terminal") × AreCheckOptionsOf (codes "port") rows options
@@ -58,7 +60,7 @@ abbrev pub PlaysAtMost : Text → Type 0
 PlaysAtMost name =
     (name ≢ codes "show") × (name ≢ codes "join") × (name ≢ codes "normalise") × (name ≢ codes "audit")
     × (name ≢ codes "report") × (name ≢ codes "receipts") × (name ≢ codes "vectors") × (name ≢ codes "book") × (name ≢ codes "loop")
-    × (name ≢ codes "till") × (name ≢ codes "terminal") × (name ≢ codes "tap") × (name ≢ codes "play")
+    × (name ≢ codes "till") × (name ≢ codes "terminal") × (name ≢ codes "tap") × (name ≢ codes "serve") × (name ≢ codes "play")
 
 -- without a command, the choice is `show`
 abbrev pub IsChoiceOf : Option (Text × List Row) → Choice → Type 0

@@ -4,6 +4,7 @@ use Rattle.clap.specs.Simple.{on_top}
 use Rattle.clap.specs.Words.{App, new_app, with_subcommand}
 use Rattle.zvt_tool.specs.BookOptions.{book_app, loop_app}
 use Rattle.zvt_tool.specs.PlayOptions.{check_app, play_app}
+use Rattle.zvt_tool.specs.ServeOptions.{serve_app}
 use Rattle.zvt_tool.specs.TapOptions.{tap_app}
 use Rattle.zvt_tool.specs.TerminalOptions.{terminal_app}
 use Rattle.zvt_tool.specs.TillOptions.{till_app}
@@ -37,6 +38,7 @@ all_commands =
     till_app ∷
     terminal_app ∷
     tap_app ∷
+    serve_app ∷
     play_app ∷
     check_app (codes "check-till") (codes "listen") ∷
     check_app (codes "check-terminal") (codes "port") ∷

@@ -5,6 +5,7 @@ pub mod BookOptions
 pub mod TillOptions
 pub mod TerminalOptions
 pub mod TapOptions
+pub mod ServeOptions
 pub mod PlayOptions
 pub mod Commands
 pub mod Chosen

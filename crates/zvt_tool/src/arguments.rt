@@ -8,6 +8,7 @@ use crate::book_options::{read_book, read_loop};
 use crate::choices::{Choice, ChoiceFault};
 use crate::commands;
 use crate::play_options::{read_check_terminal, read_check_till, read_play};
+use crate::serve_options::read_serve;
 use crate::tap_options::read_tap;
 use crate::terminal_options::read_terminal;
 use crate::till_options::read_till;
@@ -107,6 +108,7 @@ fn chosen<'a>(
         "till" => read_till(alloc, inner)?,
         "terminal" => read_terminal(inner),
         "tap" => read_tap(inner),
+        "serve" => read_serve(inner),
         "play" => read_play(inner),
         _ => check(alloc, name, inner)?,
     })

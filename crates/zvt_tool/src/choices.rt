@@ -3,6 +3,7 @@ ghost use Rattle.std.specs.Prelude.{◌≡◌};
 ghost use Rattle.zvt_tool.specs.declared.choices.ChoiceFault.TheVariants.{Memory};
 
 use crate::play_options::{CheckOptions, PlayOptions};
+use crate::serve_options::ServeOptions;
 use crate::tap_options::TapOptions;
 use crate::terminal_options::TerminalOptions;
 use crate::till_options::TillOptions;
@@ -48,6 +49,7 @@ pub enum Choice<'a> {
     Till(TillOptions<'a>),
     Terminal(TerminalOptions<'a>),
     Tap(TapOptions<'a>),
+    Serve(ServeOptions<'a>),
     Play(PlayOptions<'a>),
     CheckTill(CheckOptions<'a>),
     CheckTerminal(CheckOptions<'a>),

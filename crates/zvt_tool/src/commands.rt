@@ -9,6 +9,7 @@ use crate::book_options::{book_row, loop_row};
 use crate::help;
 use crate::options::CommandRow;
 use crate::play_options::{check_terminal_row, check_till_row, play_row};
+use crate::serve_options::serve_row;
 use crate::tap_options::tap_row;
 use crate::terminal_options::terminal_row;
 use crate::till_options::till_row;
@@ -37,6 +38,7 @@ pub fn zvt<'a>(alloc: Global) -> Result<Command<'a>, AllocError>
         till_row(),
         terminal_row(),
         tap_row(),
+        serve_row(),
         play_row(),
         check_till_row(),
         check_terminal_row(),
