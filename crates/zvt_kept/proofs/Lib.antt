@@ -17,6 +17,7 @@ mod Outlived
 mod Ordered
 pub mod PastOrderLemmas
 pub mod PastOrdersStay
+pub mod PaidOrders
 mod ReadLines
 pub mod Recovering
 pub mod Relived

@@ -105,7 +105,7 @@ quiet_steps currency (one ∷ quiet) happened s outcome q all e =
 
 -- ---- a till that has lived through more records
 
-each_split : {X : Type 0} (R : Kept → List X → Type 0) (a b : List Kept) (xs : List X) → EachOf R (a ++ b) xs → (first rest : List X) × EachOf R a first × EachOf R b rest × (xs ≡ first ++ rest)
+pub each_split : {X : Type 0} (R : Kept → List X → Type 0) (a b : List Kept) (xs : List X) → EachOf R (a ++ b) xs → (first rest : List X) × EachOf R a first × EachOf R b rest × (xs ≡ first ++ rest)
 each_split R [] b xs all = ([], xs, refl, all, refl)
 each_split R (one ∷ a) b xs all =
     let more = each_split R a b all.1 all.3 in
@@ -118,7 +118,7 @@ still_ended settings kept quiet old new outcome was is q e =
     let same : split.0 ≡ was.happened = each_once (Happens settings.currency) (happens_once settings.currency) kept split.0 was.happened split.2 was.happens in
     let all : is.happened ≡ was.happened ++ split.1 = split.4 ∙ ap (λ l. l ++ split.1) same in
     let then : new ≡ fold step old split.1 =
-        is.stands.1 ∙ ap (λ l. state_after settings (Connected ∷ l)) all ∙ fold-append step (new_till settings) (Connected ∷ was.happened) split.1 ∙ ap (λ s. fold step s split.1) (sym was.stands.1) in
+    is.stands.1 ∙ ap (λ l. state_after settings (Connected ∷ l)) all ∙ fold-append step (new_till settings) (Connected ∷ was.happened) split.1 ∙ ap (λ s. fold step s split.1) (sym was.stands.1) in
     ap ended then ∙ quiet_steps settings.currency quiet split.1 old outcome q split.3 e
 
 -- ---- one order in both lists
@@ -133,12 +133,12 @@ one_stays : (settings : Settings) (kept more : List Kept) (index : ℕ) (old new
 one_stays settings kept more index old new p q =
     let first = ordered old.order old.note in
     let all : p.before ++ first ∷ (p.during ++ (p.after ++ more)) ≡ q.before ++ ordered new.order new.note ∷ (q.during ++ q.after) =
-        sym (ap (λ l. l ++ more) p.is ∙ append_assoc p.before (first ∷ (p.during ++ p.after)) more ∙ ap (λ l. p.before ++ first ∷ l) (append_assoc p.during p.after more)) ∙ q.is in
+    sym (ap (λ l. l ++ more) p.is ∙ append_assoc p.before (first ∷ (p.during ++ p.after)) more ∙ ap (λ l. p.before ++ first ∷ l) (append_assoc p.during p.after more)) ∙ q.is in
     let one = one_split p.before q.before first (ordered new.order new.note) (p.during ++ (p.after ++ more)) (q.during ++ q.after) all p.runs q.runs (p.number ∙ sym q.number) in
     let extra = quiet_more p.during (p.after ++ more) q.during q.after p.quiet q.quiet q.next one.after in
     let through : q.before ++ ordered new.order new.note ∷ q.during ≡ (p.before ++ first ∷ p.during) ++ extra.0 =
-        ap (λ l. l ++ ordered new.order new.note ∷ q.during) (sym one.before) ∙ ap (λ k. p.before ++ k ∷ q.during) (sym one.here) ∙ ap (λ l. p.before ++ first ∷ l) extra.1
-        ∙ sym (append_assoc p.before (first ∷ p.during) extra.0) in
+    ap (λ l. l ++ ordered new.order new.note ∷ q.during) (sym one.before) ∙ ap (λ k. p.before ++ k ∷ q.during) (sym one.here) ∙ ap (λ l. p.before ++ first ∷ l) extra.1
+    ∙ sym (append_assoc p.before (first ∷ p.during) extra.0) in
     record {
       order = sym (same_order old.order new.order old.note new.note one.here);
       note = sym (same_note old.order new.order old.note new.note one.here);

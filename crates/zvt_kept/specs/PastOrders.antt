@@ -4,6 +4,9 @@ use Rattle.std.specs.List.{find}
 use Rattle.zvt_till.specs.declared.orders.Order.{Order}
 use Rattle.zvt_till.specs.declared.orders.Order.TheVariants.{Register, Pay, Reverse, CloseDay, Cancel}
 use Rattle.zvt_till.specs.declared.outcomes.Outcome.{Outcome}
+use Rattle.zvt_till.specs.declared.outcomes.Outcome.TheVariants.{Paid}
+use Rattle.zvt_till.specs.Books.{Booked, booked_as}
+use Rattle.zvt_till.specs.Laws.{row_of}
 use Rattle.zvt_till.specs.Sending.{Settings}
 use Rattle.zvt_till.specs.Till.{TillState}
 use Rattle.zvt_kept.specs.declared.past_orders.PastOrder.{PastOrder}
@@ -118,3 +121,11 @@ abbrev pub PastOrdersStay : Type 0
 PastOrdersStay =
     (settings : Settings) (kept more : List Kept) (old new : List PastOrder) → ArePast settings kept old → ArePast settings (kept ++ more) new
     → (index : ℕ) (one : PastOrder) → slice_get old index ≡ Some one → (later : PastOrder) × (slice_get new index ≡ Some later) × StaysAs one later
+
+-- A payment that ended as paid has a row of its own in the till's book, with its amount and its numbers.
+abbrev pub PaidAreBooked : Type 0
+PaidAreBooked =
+    (settings : Settings) (kept : List Kept) (state : TillState) (past : List PastOrder) → LivedThrough settings kept state → ArePast settings kept past
+    → (index : ℕ) (one : PastOrder) → slice_get past index ≡ Some one → (amount trace : ℕ) (receipt : Option (List ℕ))
+    → one.order ≡ Pay amount → one.outcome ≡ Some (Paid trace receipt)
+    → (before after : List Booked) × (map row_of state.book ≡ before ++ booked_as amount trace receipt ∷ after)

@@ -4,7 +4,7 @@ ghost use Rattle.zvt_kept.specs.Logs.{LogsAreOne, OpeningsAreOne};
 ghost use Rattle.zvt_kept.specs.Outliving.{CallsOutlive, HearingsOutlive, LogsAreRecovered, RunsOutlive};
 ghost use Rattle.zvt_kept.specs.Outliving.{SettlingIsRecovered, TillsAreRecovered};
 ghost use Rattle.zvt_kept.specs.Records.{OpeningIsTaken, RecordsAreKept, RecordsAreTaken, RecordsAreWhole};
-ghost use Rattle.zvt_kept.specs.PastOrders.{PastOrdersStay};
+ghost use Rattle.zvt_kept.specs.PastOrders.{PaidAreBooked, PastOrdersStay};
 ghost use Rattle.zvt_kept.specs.Remarks.{RemarksMeanNothing};
 
 use zvt_journal::Device;
@@ -70,6 +70,11 @@ pub fn tills_are_recovered<D: Device>()
 /// running has ended with the line.
 pub fn settling_is_recovered<D: Device>()
     ensures { SettlingIsRecovered D.seen D.may_leave D.moment D.left_since D.faults }
+{}
+
+/// A payment that ended as paid has a row in the till's book, with its amount and its numbers, whatever followed.
+pub fn paid_orders_are_booked()
+    ensures { PaidAreBooked }
 {}
 
 /// How an order ended does not change, whatever records follow.

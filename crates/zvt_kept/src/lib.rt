@@ -22,8 +22,8 @@ pub use keeping::answers_to;
 pub use kept_till::{KeptTill, Reopened, Unbegun};
 pub use laws::{
     calls_outlive, hearings_outlive, logs_are_one, logs_are_recovered, opening_is_taken,
-    openings_are_one, past_orders_stay, records_are_kept, remarks_mean_nothing, runs_outlive,
-    tills_are_recovered,
+    openings_are_one, paid_orders_are_booked, past_orders_stay, records_are_kept,
+    remarks_mean_nothing, runs_outlive, tills_are_recovered,
 };
 pub use lines::{RecordError, read_records};
 pub use note::{MAX_REFERENCE_LEN, Note, is_reference};

@@ -1,3 +1,4 @@
 pub mod Living
+mod Paid
 mod Sent
 mod Stays

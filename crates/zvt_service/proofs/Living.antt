@@ -50,7 +50,7 @@ lived_up settings log text kept state read s up stands =
     })
 
 -- a till whose line was lost lives on when another one is up
-lived_down : (settings : Settings) (log : List Happening) (text : List ℕ) (kept : List Kept) (state : TillState) → kept_in text ≡ Some kept → StandsFor settings text log → Stands settings (log ++ Lost ∷ []) state
+pub lived_down : (settings : Settings) (log : List Happening) (text : List ℕ) (kept : List Kept) (state : TillState) → kept_in text ≡ Some kept → StandsFor settings text log → Stands settings (log ++ Lost ∷ []) state
     → LivedThrough settings (kept ++ lost ∷ []) (step state Connected)
 lived_down settings log text kept state read s stands =
     let same : s.kept ≡ kept = same_kept s.kept kept (sym s.read ∙ read) in

@@ -1,5 +1,5 @@
 -- The lives of a service: its calls, the ends of its process during a call and between calls, and what was sent.
-use Rattle.std.specs.Prelude.{◌≡◌, ℕ, false, true, cond, List, [], ◌∷◌, ◌++◌, All, Option, Some, None, Result, Ok, Err}
+use Rattle.std.specs.Prelude.{◌≡◌, ℕ, false, true, cond, List, [], ◌∷◌, ◌++◌, All, map, Option, Some, None, Result, Ok, Err}
 use Rattle.std.specs.List.{IsDistinct}
 use Rattle.std.specs.Str.{bytes_eq}
 use Rattle.zvt_apdu.specs.Message.{Message}
@@ -7,6 +7,10 @@ use Rattle.zvt_stream.specs.Answered.{Answered}
 use Rattle.zvt_till.specs.declared.keeper.BookFault.{BookFault}
 use Rattle.zvt_till.specs.declared.keeper.Untaken.{Untaken}
 use Rattle.zvt_till.specs.declared.orders.Order.{Order}
+use Rattle.zvt_till.specs.declared.orders.Order.TheVariants.{Pay}
+use Rattle.zvt_till.specs.declared.outcomes.Outcome.TheVariants.{Paid}
+use Rattle.zvt_till.specs.Books.{Booked, booked_as}
+use Rattle.zvt_till.specs.Laws.{row_of}
 use Rattle.zvt_till.specs.declared.orders.Outgoing.{Outgoing}
 use Rattle.zvt_till.specs.Sending.{Settings}
 use Rattle.zvt_journal.specs.Text.{recovered}
@@ -93,6 +97,13 @@ module _ {D : Type 0} (seen : D → List ℕ) (may_leave : D → List ℕ → Ty
       (moves : List Move) (old new : ServiceValue D) (sent : List (List ℕ))
       → IsWhole old → Lives moves old new sent
       → IsDistinct bytes_eq sent × All (λ key. IsKnown key new.past) sent × All (λ key. IsKnown key old.past → ⊥) sent
+
+  -- A key whose payment was answered as paid has a row of its own in the till's book, with that amount and those numbers.
+  abbrev pub PaidIsBooked : Type 0
+  PaidIsBooked =
+      (service : ServiceValue D) (key : List ℕ) (one : PastOrder) (amount trace : ℕ) (receipt : Option (List ℕ))
+      → IsWhole service → first_noted key service.past ≡ Some one → one.order ≡ Pay amount → one.outcome ≡ Some (Paid trace receipt)
+      → (before after : List Booked) × (map row_of (state_of service.kept).book ≡ before ++ booked_as amount trace receipt ∷ after)
 
   -- How an order ended stays: whatever happens later, a client that asks again with the same key gets the same answer.
   abbrev pub AnswersStay : Type 0

@@ -1,5 +1,5 @@
 //! Laws about the lives of a service. Each is stated as the contract of an empty function.
-ghost use Rattle.zvt_service.specs.Lives.{AnswersStay, SentOnce};
+ghost use Rattle.zvt_service.specs.Lives.{AnswersStay, PaidIsBooked, SentOnce};
 
 use zvt_journal::Device;
 
@@ -7,6 +7,11 @@ use zvt_journal::Device;
 /// was sent is in the book.
 pub fn sent_once<D: Device>()
     ensures { SentOnce D.seen D.may_leave D.moment D.left_since D.faults }
+{}
+
+/// A key whose payment was answered as paid has a row in the till's book, with that amount and those numbers.
+pub fn paid_is_booked<D: Device>()
+    ensures { PaidIsBooked D.seen D.may_leave D.moment D.left_since D.faults }
 {}
 
 /// How an order ended stays, over any calls and any ends of the process: a client that asks again with its key gets the

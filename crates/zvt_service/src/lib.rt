@@ -7,5 +7,5 @@
 mod laws;
 mod service;
 
-pub use laws::{answers_stay, sent_once};
+pub use laws::{answers_stay, paid_is_booked, sent_once};
 pub use service::{Service, Ungiven};

@@ -1,0 +1,143 @@
+#!/usr/bin/env python3
+"""Sends `zvt serve` the requests that shops send: repeats, two at once, the wrong key, no terminal, a broken line, slow clients.
+
+serve_cases.py [PROGRAM]: the program of `rt ci` without a word. The status is 1 where an answer is not as expected.
+"""
+import pathlib
+import socket
+import sys
+import tempfile
+import threading
+import time
+
+from common import Checks, program
+from serving import Service, Terminal
+
+ZVT = program(sys.argv[1:])
+KEY = "sale-2026-{:06d}".format
+check = Checks()
+
+
+def together(*calls):
+    """What these calls give, made at once."""
+    found = [None] * len(calls)
+
+    def one(at, call):
+        found[at] = call()
+
+    threads = [threading.Thread(target=one, args=(at, call)) for at, call in enumerate(calls)]
+    for it in threads:
+        it.start()
+    for it in threads:
+        it.join()
+    return found
+
+
+def summary(answer):
+    return answer and (answer.status, (answer.json or {}).get("outcome") or (answer.json or {}).get("error"))
+
+
+def without_a_terminal(folder):
+    with socket.create_server(("127.0.0.1", 0)) as free:
+        port = free.getsockname()[1]
+    service = Service(ZVT, folder, port)
+    answer = service.pay(KEY(1), 500)
+    check("without a terminal nothing is sent", (answer.status, answer.json["error"], answer.json["sent"], "Retry-After" in answer.headers), (503, "no_terminal", False, True))
+    check("and the key is free", service.call("GET", f"/payments/{KEY(1)}").status, 404)
+    return service, port
+
+
+def with_a_terminal(service, port):
+    terminal = Terminal(delay=1.0, port=port)
+    answer = service.until((200,), KEY(1), 500)
+    check("the same request pays once there is a terminal", summary(answer), (200, "paid"))
+    check("its members", sorted(answer.json), ["amount", "key", "order", "outcome", "receipt", "reversed", "trace"])
+    check("it is the first answer", answer.headers.get("Idempotent-Replayed"), None)
+    again = service.pay(KEY(1), 500)
+    check("a repeat has the same answer", (again.status, again.text, again.headers.get("Idempotent-Replayed")), (200, answer.text, "true"))
+    check("another amount under the key", summary(service.pay(KEY(1), 501)), (422, "key_reused"))
+    pay = lambda: service.pay(KEY(2), 700)
+    look = lambda: (time.sleep(0.4), service.call("GET", f"/payments/{KEY(2)}"))[1]
+    other = lambda: (time.sleep(0.5), service.pay(KEY(3), 800))[1]
+    one, two, looked, busy = together(pay, pay, look, other)
+    check("two requests with one key at once", (summary(one), summary(two), one.text == two.text), ((200, "paid"), (200, "paid"), True))
+    check("looked at while it runs", summary(looked), (202, "running"))
+    check("another key meanwhile", (summary(busy), busy.headers.get("Retry-After")), ((409, "busy"), "1"))
+    check("and nothing was recorded for it", service.call("GET", f"/payments/{KEY(3)}").status, 404)
+    answer = service.call("POST", "/payments", KEY(4), {"amount": 900}, Prefer="respond-async")
+    check("an answer that does not wait", (answer.status, answer.headers.get("Location")), (202, f"/payments/{KEY(4)}"))
+    service.pay(KEY(4), 900)
+    check("orders at the terminal", len(terminal.orders), 3)
+    gone = service.pay(KEY(5), 1000, seconds=0.3)
+    check("a client that goes away has no answer", gone, None)
+    check("and its order goes on", summary(service.until((200,), KEY(5), 1000)), (200, "paid"))
+    check("once", len(terminal.orders), 4)
+    terminal.stop()
+    terminal = Terminal(delay=0.3, breaks=True, port=port)
+    broken = service.until((424,), KEY(6), 1100)
+    check("a line that breaks", (summary(broken), broken.json.get("cause"), "advice" in broken.json), ((424, "unclear"), "Line", True))
+    check("is never tried again", (summary(service.pay(KEY(6), 1100)), len(terminal.orders)), ((424, "unclear"), 1))
+    terminal.stop()
+
+
+def refused(service):
+    for name, wanted, how in [
+        ("no token", (401, "token"), dict(Authorization=None)),
+        ("another token", (401, "token"), dict(Authorization="Bearer " + "0" * 64)),
+        ("a prefix of the token", (401, "token"), dict(Authorization=f"Bearer {service.token[:-1]}")),
+        ("another host", (421, "host"), dict(Host="evil.example")),
+        ("another origin", (403, "origin"), dict(Origin="http://evil.example")),
+    ]:
+        check(name, summary(service.pay(KEY(9), 100, **how)), wanted)
+    for name, wanted, key, body in [
+        ("no key", (400, "bad_key"), None, {"amount": 1}),
+        ("a short key", (400, "bad_key"), "sale-1", {"amount": 1}),
+        ("no JSON", (400, "bad_body"), KEY(9), b"{"),
+        ("no amount", (400, "bad_body"), KEY(9), {}),
+        ("an amount of 0", (422, "bad_amount"), KEY(9), {"amount": 0}),
+        ("a long body", (413, "too_long"), KEY(9), b" " * 5000),
+        ("another currency", (422, "other_currency"), KEY(9), {"amount": 1, "currency": "0756"}),
+    ]:
+        check(name, summary(service.call("POST", "/payments", key, body)), wanted)
+    check("an unknown path", summary(service.call("GET", "/payment")), (404, "not_found"))
+    check("another method", (service.call("DELETE", "/payments").status, service.call("DELETE", "/payments").headers.get("Allow")), (405, "POST"))
+    check("a key that nobody used", service.call("GET", f"/payments/{KEY(99)}").status, 404)
+
+
+def slow_clients(service, port):
+    terminal = Terminal(port=port)
+    slow = []
+    for _ in range(200):
+        line = socket.socket()
+        line.settimeout(1)
+        try:
+            line.connect(("127.0.0.1", service.port))
+            line.sendall(b"G")
+        except OSError:
+            pass
+        slow.append(line)
+    began = time.monotonic()
+    while True:
+        answer = service.call("GET", "/book", seconds=1)
+        if answer and answer.status == 200 or time.monotonic() - began > 20:
+            break
+    check("200 slow clients delay an honest one by less than a second", time.monotonic() - began < 1, True)
+    for line in slow:
+        line.close()
+    terminal.stop()
+
+
+def main():
+    with tempfile.TemporaryDirectory() as folder:
+        service, port = without_a_terminal(pathlib.Path(folder))
+        with_a_terminal(service, port)
+        refused(service)
+        slow_clients(service, port)
+        answer = service.call("POST", "/stop")
+        check("it stops", (answer and answer.status, service.ended()), (202, 0))
+    print(f"{check.verdict}: {check.count} answers of zvt serve")
+    return check.status
+
+
+if __name__ == "__main__":
+    sys.exit(main())
