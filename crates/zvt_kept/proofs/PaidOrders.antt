@@ -21,9 +21,8 @@ use Rattle.zvt_till.specs.Sending.{Settings}
 use Rattle.zvt_till.specs.Till.{TillState, accept, book_after, finish, meet, meet_running, new_till, state_after, step}
 use Rattle.zvt_till.proofs.BookStepLemmas.{entries_stay}
 use Rattle.zvt_till.proofs.Runs.{step-order}
-use Rattle.zvt_kept.specs.declared.past_orders.PastOrder.{PastOrder}
 use Rattle.zvt_kept.specs.Logs.{Happens, HappenAll}
-use Rattle.zvt_kept.specs.PastOrders.{ArePast, IsPastOrder, PaidAreBooked, ended, starts}
+use Rattle.zvt_kept.specs.PastOrders.{PaidAreBooked, ended, starts}
 use Rattle.zvt_kept.specs.Records.{Kept, ordered, asked, heard, lost}
 use Rattle.zvt_kept.specs.RowNotes.{LivedThrough}
 use Rattle.zvt_kept.proofs.AskLemmas.{each_once, happens_once}

@@ -1,5 +1,5 @@
 -- How an order ended stays, whatever records follow.
-use Rattle.std.proofs.Common.{◌≡◌, ◌⊎◌, ⊎_elim, inl, inr, ℕ, ◌+◌, ◌<◌, Bool, true, false, cond, List, [], ◌∷◌, ◌++◌, All, append-nil, length, Option, Some, None, slice_get, get_or, refl, sym, ap, subst, ◌∙◌, append_assoc, arith, true≢false}
+use Rattle.std.proofs.Common.{◌≡◌, ℕ, ◌+◌, Bool, true, false, cond, List, [], ◌∷◌, ◌++◌, All, Option, Some, None, slice_get, get_or, refl, sym, ap, subst, ◌∙◌, append_assoc, arith, true≢false}
 use Rattle.std.specs.Prelude.{fold}
 use Rattle.std.proofs.lemmas.List.Elements.{All-head, All-tail}
 use Rattle.std.proofs.lemmas.List.Sums.{fold-append}
@@ -12,11 +12,11 @@ use Rattle.zvt_till.specs.declared.outcomes.Outcome.{Outcome}
 use Rattle.zvt_till.specs.declared.statuses.Running.{Running}
 use Rattle.zvt_till.specs.Hearing.{heard_as}
 use Rattle.zvt_till.specs.Sending.{Settings}
-use Rattle.zvt_till.specs.Till.{TillState, heard_step, meet, new_till, state_after, step}
+use Rattle.zvt_till.specs.Till.{TillState, meet, new_till, state_after, step}
 use Rattle.zvt_till.proofs.Runs.{step-order}
 use Rattle.zvt_kept.specs.declared.past_orders.PastOrder.{PastOrder}
 use Rattle.zvt_kept.specs.Logs.{EachOf, Happens, HappenAll}
-use Rattle.zvt_kept.specs.PastOrders.{ArePast, IsPastOrder, PastOrdersStay, StaysAs, count_starts, ended, starts, starts_at_once}
+use Rattle.zvt_kept.specs.PastOrders.{IsPastOrder, PastOrdersStay, StaysAs, count_starts, ended, starts, starts_at_once}
 use Rattle.zvt_kept.specs.Records.{Kept, ordered, asked, heard, lost}
 use Rattle.zvt_kept.specs.RowNotes.{LivedThrough}
 use Rattle.zvt_kept.proofs.AskLemmas.{each_once, happens_once}

@@ -4,7 +4,6 @@ use Rattle.zvt_apdu.specs.Message.{Message}
 use Rattle.zvt_stream.specs.Answered.{Answered}
 use Rattle.zvt_stream.specs.Hearing.{Hears as HearsAll}
 use Rattle.zvt_stream.specs.LineRun.{Reported}
-use Rattle.zvt_stream.specs.StreamState.{StreamState}
 use Rattle.zvt_stream.specs.declared.line.LineFault.{LineFault}
 use Rattle.zvt_stream.specs.declared.line.LineFault.TheVariants.{Read, Write, Ended, Turns, Malformed, Memory, Stopped}
 use Rattle.zvt_till.specs.declared.happenings.Happening.{Happening}

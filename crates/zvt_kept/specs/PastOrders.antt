@@ -10,7 +10,7 @@ use Rattle.zvt_till.specs.Laws.{row_of}
 use Rattle.zvt_till.specs.Sending.{Settings}
 use Rattle.zvt_till.specs.Till.{TillState}
 use Rattle.zvt_kept.specs.declared.past_orders.PastOrder.{PastOrder}
-use Rattle.zvt_kept.specs.Notes.{is_noted_by, reference_in}
+use Rattle.zvt_kept.specs.Notes.{is_noted_by}
 use Rattle.zvt_kept.specs.Records.{Kept, ordered, asked, heard, lost, kept_in}
 use Rattle.zvt_kept.specs.RowNotes.{LivedThrough}
 

@@ -1,6 +1,6 @@
 -- The orders of a service after each of its calls.
 use Rattle.std.specs.Prelude.{Ok, Err}
-use Rattle.std.proofs.Common.{◌≡◌, ◌⊎◌, ⊎_elim, inl, inr, ℕ, ◌+◌, Bool, true, false, cond, List, [], ◌∷◌, ◌++◌, append-nil, length, take, Option, Some, None, is_some, Result, true≢false, refl, sym, ap, subst, ◌∙◌, append_assoc, length-append, arith}
+use Rattle.std.proofs.Common.{◌≡◌, ⊎_elim, ℕ, ◌+◌, Bool, true, false, cond, List, [], ◌∷◌, ◌++◌, append-nil, Option, Some, is_some, Result, true≢false, refl, sym, ap, subst, ◌∙◌, append_assoc}
 use Rattle.zvt_till.proofs.Segments.{fold-snoc}
 use Rattle.zvt_apdu.specs.Message.{Message}
 use Rattle.zvt_stream.specs.Answered.{Answered}
@@ -8,10 +8,9 @@ use Rattle.zvt_journal.specs.declared.device.DeviceError.{DeviceError}
 use Rattle.zvt_till.specs.Events.{hears}
 use Rattle.zvt_till.specs.declared.happenings.Happening.{Happening}
 use Rattle.zvt_till.specs.declared.happenings.Happening.TheVariants.{Connected, Heard as HeardIn, Lost}
-use Rattle.zvt_till.specs.declared.orders.Order.{Order}
 use Rattle.zvt_till.specs.Sending.{Settings}
 use Rattle.zvt_till.specs.Hearing.{heard_as}
-use Rattle.zvt_till.specs.Till.{TillState, meet, new_till, state_after, step}
+use Rattle.zvt_till.specs.Till.{TillState, meet, new_till, step}
 use Rattle.zvt_till.specs.TillHistory.{Stands}
 use Rattle.zvt_till.proofs.BookStepLemmas.{settings-by-running, settings-kept}
 use Rattle.zvt_till.proofs.TillHistoryLemmas.{stands-more}

@@ -1,8 +1,6 @@
 -- A payment that was answered as paid is in the book.
-use Rattle.std.proofs.Common.{◌≡◌, ℕ, suc, zero, Bool, true, false, cond, List, [], ◌∷◌, ◌++◌, append-nil, map, Option, Some, None, slice_get, refl, sym, ap, subst, ◌∙◌}
+use Rattle.std.proofs.Common.{◌≡◌, ℕ, suc, Bool, true, false, cond, List, [], ◌∷◌, ◌++◌, append-nil, map, Some, slice_get, refl, ap, subst, ◌∙◌}
 use Rattle.zvt_till.specs.declared.happenings.Happening.TheVariants.{Connected, Lost}
-use Rattle.zvt_till.specs.declared.orders.Order.TheVariants.{Pay}
-use Rattle.zvt_till.specs.declared.outcomes.Outcome.TheVariants.{Paid}
 use Rattle.zvt_till.specs.Books.{Booked, booked_as}
 use Rattle.zvt_till.specs.Laws.{row_of}
 use Rattle.zvt_till.specs.Till.{TillState, step}
@@ -12,11 +10,10 @@ use Rattle.zvt_kept.specs.declared.past_orders.PastOrder.{PastOrder}
 use Rattle.zvt_kept.specs.KeptTill.{unless_up}
 use Rattle.zvt_kept.specs.Notes.{is_noted_by}
 use Rattle.zvt_kept.specs.PastOrders.{ArePast, first_noted}
-use Rattle.zvt_kept.specs.Records.{Kept, lost}
-use Rattle.zvt_kept.specs.RowNotes.{LivedThrough}
+use Rattle.zvt_kept.specs.Records.{lost}
 use Rattle.zvt_kept.proofs.PaidOrders.{paid_are_booked}
-use Rattle.zvt_service.specs.Service.{HasPast, ServiceValue, state_of, unless_lost}
-use Rattle.zvt_service.specs.Lives.{IsWhole, PaidIsBooked}
+use Rattle.zvt_service.specs.Service.{HasPast, state_of, unless_lost}
+use Rattle.zvt_service.specs.Lives.{PaidIsBooked}
 use Rattle.zvt_service.proofs.Living.{lived_down, lived_up}
 
 -- an order that is found has a place

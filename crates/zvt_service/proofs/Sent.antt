@@ -1,8 +1,7 @@
 -- No key is sent twice.
 use Rattle.std.specs.Prelude.{Ok, Err, IsSomeAnd}
-use Rattle.std.proofs.Common.{◌≡◌, ◌⊎◌, ⊎_elim, inl, inr, ℕ, suc, zero, Bool, true, false, cond, ◌||◌, ◌-◌, List, [], ◌∷◌, ◌++◌, All, append-nil, length, map, Option, Some, None, Result, slice_get, slice_set, refl, sym, ap, subst, ◌∙◌, append_assoc, true≢false}
+use Rattle.std.proofs.Common.{◌≡◌, ◌⊎◌, ⊎_elim, inl, inr, ℕ, Bool, true, false, cond, ◌||◌, ◌-◌, List, [], ◌∷◌, ◌++◌, All, append-nil, length, map, Option, Some, None, Result, slice_get, slice_set, refl, sym, ap, subst, ◌∙◌, append_assoc, true≢false}
 use Rattle.std.specs.List.{AllByRecursion, IsDistinct, list_any}
-use Rattle.std.specs.List.{find}
 use Rattle.std.specs.Str.{bytes_eq}
 use Rattle.std.proofs.lemmas.List.Elements.{All-cons, All-nil}
 use Rattle.std.proofs.lemmas.List.Folds.{list_any-append}
@@ -21,10 +20,10 @@ use Rattle.zvt_till.specs.declared.keeper.BookFault.{BookFault}
 use Rattle.zvt_journal.specs.declared.device.DeviceError.{DeviceError}
 use Rattle.zvt_journal.specs.Text.{recovered, IsSettled}
 use Rattle.zvt_kept.specs.declared.past_orders.PastOrder.{PastOrder}
-use Rattle.zvt_kept.specs.KeptTill.{Connects as KeptConnects, Hears as KeptHears, IsKept, KeptValue, Standing, Writes, both_in, has_failed, with_note}
+use Rattle.zvt_kept.specs.KeptTill.{Connects as KeptConnects, Hears as KeptHears, KeptValue, Standing, Writes, has_failed, with_note}
 use Rattle.zvt_kept.specs.Keeping.{kept_asks, kept_connects, kept_orders}
 use Rattle.zvt_kept.specs.Notes.{is_noted_by, reference_in}
-use Rattle.zvt_kept.specs.PastOrders.{ended, first_noted, followed, held, is_noted_as, record_of, runs, starting, starts}
+use Rattle.zvt_kept.specs.PastOrders.{ended, first_noted, followed, held, record_of, runs, starting, starts}
 use Rattle.zvt_kept.specs.Records.{Kept, IsRecordOf, ordered, asked, heard, lost, kept_in}
 use Rattle.zvt_kept.proofs.Logged.{whole_text}
 use Rattle.zvt_kept.proofs.Made.{records_are_kept}
@@ -32,7 +31,7 @@ use Rattle.zvt_kept.proofs.PastOrderLemmas.{map_set, starting_one}
 use Rattle.zvt_kept.proofs.Steps.{asked_up, taken_up}
 use Rattle.zvt_service.specs.declared.service.Ungiven.{Ungiven}
 use Rattle.zvt_service.specs.declared.service.Ungiven.TheVariants.{Known, Memory, Till as TillRefused}
-use Rattle.zvt_service.specs.Service.{Asks, Gives, HasPast, Loses, ServiceValue, holder, holder_of, state_of, unless_failed, unless_lost}
+use Rattle.zvt_service.specs.Service.{Asks, Gives, ServiceValue, holder, holder_of, state_of, unless_failed}
 use Rattle.zvt_service.proofs.Living.{starting_while}
 use Rattle.zvt_service.specs.Lives.{Call, gives, asks, hears, loses, connects, Move, returns, ends_in, ends, IsKnown, IsWhole, Lives, Moves, Reopens, Returns, SentOnce, keys_in, keys_of, one_or_none}
 

@@ -1,6 +1,6 @@
 -- How an order ended stays.
 use Rattle.std.specs.Prelude.{Ok, Err, IsSomeAnd}
-use Rattle.std.proofs.Common.{◌≡◌, ◌⊎◌, ⊎_elim, inl, inr, ℕ, suc, zero, Bool, true, false, cond, is_some, List, [], ◌∷◌, ◌++◌, append-nil, Option, Some, None, Result, slice_get, refl, sym, ap, subst, ◌∙◌, append_assoc, true≢false}
+use Rattle.std.proofs.Common.{◌≡◌, ◌⊎◌, ⊎_elim, inl, inr, ℕ, suc, Bool, true, false, cond, is_some, List, [], ◌∷◌, ◌++◌, append-nil, Option, Some, None, Result, slice_get, refl, sym, ap, subst, ◌∙◌, append_assoc, true≢false}
 use Rattle.zvt_till.specs.declared.happenings.Happening.TheVariants.{Lost}
 use Rattle.zvt_till.specs.declared.keeper.BookFault.{BookFault}
 use Rattle.zvt_till.specs.declared.keeper.BookFault.TheVariants.{NoSpace, Failed as BookFailed}
@@ -8,9 +8,7 @@ use Rattle.zvt_till.specs.declared.keeper.Untaken.{Untaken}
 use Rattle.zvt_till.specs.declared.keeper.Untaken.TheVariants.{Order as Refused, Book as Unkept}
 use Rattle.zvt_till.specs.declared.orders.Order.{Order}
 use Rattle.zvt_till.specs.declared.orders.Outgoing.{Outgoing}
-use Rattle.zvt_till.specs.declared.outcomes.Outcome.{Outcome}
 use Rattle.zvt_till.specs.Events.{hears as heard_as}
-use Rattle.zvt_till.specs.Sending.{Settings}
 use Rattle.zvt_till.specs.Till.{TillState}
 use Rattle.zvt_till.specs.View.{TillValue}
 use Rattle.zvt_till.proofs.BookStepLemmas.{settings-accepted, settings-by-running}
@@ -30,10 +28,10 @@ use Rattle.zvt_kept.proofs.PastOrdersStay.{past_orders_stay}
 use Rattle.zvt_kept.proofs.Steps.{asked_up, taken_up}
 use Rattle.zvt_service.specs.declared.service.Ungiven.{Ungiven}
 use Rattle.zvt_service.specs.declared.service.Ungiven.TheVariants.{Known, Memory, Till as TillRefused}
-use Rattle.zvt_service.specs.Service.{Asks, Gives, HasPast, ServiceValue, holder, state_of, unless_lost}
+use Rattle.zvt_service.specs.Service.{Asks, Gives, ServiceValue, holder, state_of, unless_lost}
 use Rattle.zvt_service.proofs.Living.{heard_settings}
 use Rattle.zvt_service.proofs.Sent.{Leaves, at_rest, moved, one_text, returned_leaves}
-use Rattle.zvt_service.specs.Lives.{AnswersStay, Call, gives, asks, hears, loses, connects, Move, returns, ends_in, ends, IsWhole, Lives, Moves, Reopens, Returns}
+use Rattle.zvt_service.specs.Lives.{AnswersStay, Call, gives, asks, hears, loses, connects, Move, returns, ends_in, ends, IsWhole, Moves, Reopens, Returns}
 
 -- ---- the first order with a key
 

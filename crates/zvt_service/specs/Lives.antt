@@ -1,5 +1,5 @@
 -- The lives of a service: its calls, the ends of its process during a call and between calls, and what was sent.
-use Rattle.std.specs.Prelude.{◌≡◌, ℕ, false, true, cond, List, [], ◌∷◌, ◌++◌, All, map, Option, Some, None, Result, Ok, Err}
+use Rattle.std.specs.Prelude.{◌≡◌, ℕ, false, cond, List, [], ◌∷◌, ◌++◌, All, map, Option, Some, None, Result, Ok, Err}
 use Rattle.std.specs.List.{IsDistinct}
 use Rattle.std.specs.Str.{bytes_eq}
 use Rattle.zvt_apdu.specs.Message.{Message}
@@ -12,14 +12,13 @@ use Rattle.zvt_till.specs.declared.outcomes.Outcome.TheVariants.{Paid}
 use Rattle.zvt_till.specs.Books.{Booked, booked_as}
 use Rattle.zvt_till.specs.Laws.{row_of}
 use Rattle.zvt_till.specs.declared.orders.Outgoing.{Outgoing}
-use Rattle.zvt_till.specs.Sending.{Settings}
 use Rattle.zvt_journal.specs.Text.{recovered}
 use Rattle.zvt_kept.specs.declared.past_orders.PastOrder.{PastOrder}
 use Rattle.zvt_kept.specs.KeptTill.{IsKept, both_in, has_failed}
 use Rattle.zvt_kept.specs.Notes.{reference_in}
 use Rattle.zvt_kept.specs.PastOrders.{StaysAs, first_noted, runs}
 use Rattle.zvt_service.specs.declared.service.Ungiven.{Ungiven}
-use Rattle.zvt_service.specs.Service.{Asks, Connects, Gives, HasPast, Hears, IsServed, Loses, ServiceValue, state_of}
+use Rattle.zvt_service.specs.Service.{Asks, Connects, Gives, Hears, IsServed, Loses, ServiceValue, state_of}
 
 -- A call of a service. An order and an ask have a note.
 pub data Call : Type 0 where

@@ -1,4 +1,4 @@
-use Rattle.std.proofs.Common.{◌≡◌, List, [], sym, ap, subst, ◌∙◌}
+use Rattle.std.proofs.Common.{List, [], sym, ap, subst}
 use Rattle.zvt_till.specs.Settings.{settings_of}
 use Rattle.zvt_till.specs.Sending.{Settings}
 use Rattle.zvt_journal.specs.Text.{recovered}

@@ -1,8 +1,8 @@
-use Rattle.std.proofs.Common.{◌≡◌, ⊎_elim, List, Option, false, is_some, sym, ap, subst, ◌∙◌}
+use Rattle.std.proofs.Common.{List, sym, ap, subst, ◌∙◌}
 use Rattle.zvt_till.specs.View.{TillValue}
 use Rattle.zvt_journal.specs.Text.{recovered}
 use Rattle.zvt_kept.specs.declared.past_orders.PastOrder.{PastOrder}
-use Rattle.zvt_kept.specs.KeptTill.{IsKept, both_in, has_failed}
+use Rattle.zvt_kept.specs.KeptTill.{IsKept, both_in}
 use Rattle.zvt_kept.specs.PastOrders.{followed}
 use Rattle.zvt_service.specs.Service.{HasPast, state_of}
 use Rattle.zvt_service.proofs.Living.{heard_on}
