@@ -1,2 +1,4 @@
 pub mod Bits
+pub mod Guarded
 pub mod Lists
+pub mod Routing

@@ -58,3 +58,40 @@ guard g r =
     else (if bytes_eq r.method (codes "OPTIONS") then Some Preflight
     else (if is_open r.method r.path || bears g r.authorization then None
     else Some Token)))
+
+-- ---- worked rows
+
+abbrev pub some_guards : Guards
+some_guards = record { hosts = codes "127.0.0.1:8080" ∷ codes "localhost:8080" ∷ []; digest = sha256 (codes "secret") }
+
+-- a request of some page
+abbrev pub asks : (method path : List ℕ) → (host origin authorization : Option (List ℕ)) → Request
+asks method path host origin authorization = record {
+  method = method;
+  path = path;
+  key = None;
+  authorization = authorization;
+  host = host;
+  origin = origin;
+  prefer = None;
+  last_event = None;
+  body = [];
+}
+
+abbrev pub GuardRows : Type 0
+GuardRows =
+    (authority (codes "localhost") 8080 ≡ codes "localhost:8080") ×
+    (authority (codes "localhost") 80 ≡ codes "localhost") ×
+    (guard some_guards (asks (codes "GET") (codes "/") (Some (codes "LOCALHOST:8080")) None None) ≡ None) ×
+    (guard some_guards (asks (codes "GET") (codes "/") (Some (codes "localhost")) None None) ≡ Some Host) ×
+    (guard some_guards (asks (codes "GET") (codes "/") (Some (codes "localhost:8080.evil.example")) None None) ≡ Some Host) ×
+    (guard some_guards (asks (codes "GET") (codes "/") None None None) ≡ Some Host) ×
+    (guard some_guards (asks (codes "GET") (codes "/book") (Some (codes "evil.example")) None (Some (codes "Bearer secret"))) ≡ Some Host) ×
+    (guard some_guards (asks (codes "GET") (codes "/book") (Some (codes "localhost:8080")) (Some (codes "http://evil.example")) (Some (codes "Bearer secret"))) ≡ Some Origin) ×
+    (guard some_guards (asks (codes "GET") (codes "/book") (Some (codes "localhost:8080")) (Some (codes "https://localhost:8080")) (Some (codes "Bearer secret"))) ≡ Some Origin) ×
+    (guard some_guards (asks (codes "GET") (codes "/book") (Some (codes "localhost:8080")) (Some (codes "null")) (Some (codes "Bearer secret"))) ≡ Some Origin) ×
+    (guard some_guards (asks (codes "GET") (codes "/book") (Some (codes "localhost:8080")) (Some (codes "http://127.0.0.1:8080")) (Some (codes "Bearer secret"))) ≡ Some Origin) ×
+    (guard some_guards (asks (codes "OPTIONS") (codes "/payments") (Some (codes "localhost:8080")) None None) ≡ Some Preflight) ×
+    (guard some_guards (asks (codes "GET") (codes "/book") (Some (codes "localhost:8080")) (Some (codes "http://localhost:8080")) None) ≡ Some Token) ×
+    (guard some_guards (asks (codes "GET") (codes "/book") (Some (codes "localhost:8080")) None (Some (codes "secret"))) ≡ Some Token) ×
+    (guard some_guards (asks (codes "POST") (codes "/") (Some (codes "localhost:8080")) None None) ≡ Some Token)

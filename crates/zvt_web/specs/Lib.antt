@@ -1,6 +1,7 @@
 pub mod Ask
 pub mod Body
 pub mod Guards
+pub mod Laws
 pub mod Refusals
 pub mod Request
 pub mod Routes

@@ -7,6 +7,7 @@
 
 mod body;
 mod guards;
+pub mod laws;
 mod refusals;
 mod request;
 mod routes;
