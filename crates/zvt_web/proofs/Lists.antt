@@ -19,3 +19,7 @@ map-take_more f xs i d within =
 pub completes : {T E : Type 0} (r : Result T E) (old new part whole : List ℕ) → old ++ part ≡ whole → OnOk r (new ≡ old ++ part) → OnOk r (new ≡ whole)
 completes (Ok _) old new part whole same wrote = wrote ∙ same
 completes (Err e) old new part whole same wrote = tt
+
+-- a text that grew by one part more
+pub grown : {X : Type 0} (new old part prefix : List X) → new ≡ old ++ part → old ≡ prefix → new ≡ prefix ++ part
+grown new old part prefix wrote before = wrote ∙ ap (λ xs. xs ++ part) before

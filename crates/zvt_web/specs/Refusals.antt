@@ -1,5 +1,5 @@
 -- Refusals: their statuses, names and advice.
-use Rattle.std.specs.Prelude.{◌≡◌, ◌&&◌, ◌==◌, ℕ, Bool, true, not, nat_le, List, ◌++◌, codes}
+use Rattle.std.specs.Prelude.{◌≡◌, ◌&&◌, ◌==◌, ℕ, Bool, true, not, nat_le, Option, Some, None, List, ◌++◌, codes}
 use Rattle.std.specs.List.{list_all}
 use Rattle.zvt_web.specs.declared.refusals.Refusal.{Refusal}
 use Rattle.zvt_web.specs.declared.refusals.Refusal.TheVariants.{BadAmount, BadBody, BadKey, BadRequest, Busy, Coding, HeadTooLong, Host, Method, NotFound, Origin, Preflight, RepeatedHeader, TargetTooLong, Token, TooLong}
@@ -47,6 +47,25 @@ refusal_name TargetTooLong = codes "target_too_long"
 refusal_name Coding = codes "coding"
 refusal_name BadRequest = codes "bad_request"
 refusal_name Busy = codes "busy"
+
+-- the method for the header `Allow`
+abbrev pub refusal_allow : Refusal → Option Verb
+refusal_allow Host = None
+refusal_allow Origin = None
+refusal_allow Preflight = None
+refusal_allow Token = None
+refusal_allow RepeatedHeader = None
+refusal_allow NotFound = None
+refusal_allow (Method verb) = Some verb
+refusal_allow BadKey = None
+refusal_allow BadBody = None
+refusal_allow BadAmount = None
+refusal_allow TooLong = None
+refusal_allow HeadTooLong = None
+refusal_allow TargetTooLong = None
+refusal_allow Coding = None
+refusal_allow BadRequest = None
+refusal_allow Busy = None
 
 -- what is wrong, and what to do
 abbrev pub refusal_message : Refusal → List ℕ

@@ -1,6 +1,7 @@
 //! Laws of requests, each stated as the contract of an empty function, and rows of the definitions.
 ghost use Rattle.zvt_web.specs.Body.{BodyRows};
 ghost use Rattle.zvt_web.specs.Guards.{GuardRows};
+ghost use Rattle.zvt_web.specs.Heads.{HeadRows};
 ghost use Rattle.zvt_web.specs.Laws.{AsksAreGuarded, PaymentsAreGuarded, RouteRows};
 ghost use Rattle.zvt_web.specs.Refusals.{RefusalsNeedNoEscapes};
 ghost use Rattle.zvt_web.specs.Words.{WordRows};
@@ -26,6 +27,7 @@ pub fn refusals_need_no_escapes()
 pub fn examples()
     ensures words { WordRows }
     ensures guards { GuardRows }
+    ensures heads { HeadRows }
     ensures bodies { BodyRows }
     ensures routes { RouteRows }
 {}

@@ -7,13 +7,16 @@
 
 mod body;
 mod guards;
+mod heads;
 pub mod laws;
 mod refusals;
+mod replies;
 mod request;
 mod routes;
 mod words;
 
 pub use guards::Guards;
 pub use refusals::{Refusal, Verb};
+pub use replies::{Kind, Reply};
 pub use request::Request;
 pub use routes::{Ask, ask_of, is_key};

@@ -64,7 +64,7 @@ pub enum Refusal {
 
 impl Refusal {
     ghost use Rattle.std.specs.Prelude.{◌≡◌, ◌++◌, OnOk};
-    ghost use Rattle.zvt_web.specs.Refusals.{refusal_body, refusal_message, refusal_name, refusal_status};
+    ghost use Rattle.zvt_web.specs.Refusals.{refusal_allow, refusal_body, refusal_message, refusal_name, refusal_status};
 
     /// Returns the status of the answer.
     pub fn status(self) -> u16
@@ -108,6 +108,16 @@ impl Refusal {
             Refusal::Coding => "coding",
             Refusal::BadRequest => "bad_request",
             Refusal::Busy => "busy",
+        }
+    }
+
+    /// Returns the method that the path takes, if that is what was wrong.
+    pub fn allow(self) -> Option<Verb>
+        ensures { result ≡ refusal_allow self }
+    {
+        match self {
+            Refusal::Method(verb) => Some(verb),
+            _ => None,
         }
     }
 
