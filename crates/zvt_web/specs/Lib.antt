@@ -1,5 +1,6 @@
 pub mod Ask
 pub mod Body
+pub mod Connection
 pub mod Guards
 pub mod Heads
 pub mod Laws

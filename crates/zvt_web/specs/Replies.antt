@@ -56,11 +56,14 @@ abbrev pub no_sniffing : List Header
 no_sniffing = (codes "x-content-type-options", codes "nosniff") ∷ []
 
 -- the headers of an answer; http1 adds those that frame its body
-unfoldable pub headers_of : Reply → List Header
+unfoldable pub header_list : Kind → (location retry_after : Option (List ℕ)) → (replayed : Bool) → (allow : Option Verb) → (closes : Bool) → List Header
+header_list kind location retry_after replayed allow closes =
+    kind_headers kind ++ no_store ++ no_sniffing ++ policy_headers kind ++ location_headers location ++ retry_headers retry_after
+    ++ replayed_headers replayed ++ allow_headers allow ++ close_headers closes
+
+abbrev pub headers_of : Reply → List Header
 headers_of r =
-    kind_headers r.kind ++ no_store ++ no_sniffing ++ policy_headers r.kind ++ location_headers (option_map (λ l. l.now) r.location)
-    ++ retry_headers (option_map (λ s. s.now) r.retry_after) ++ replayed_headers r.replayed ++ allow_headers r.allow
-    ++ close_headers r.closes
+    header_list r.kind (option_map (λ l. l.now) r.location) (option_map (λ s. s.now) r.retry_after) r.replayed r.allow r.closes
 
 -- ---- statuses
 

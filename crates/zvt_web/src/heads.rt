@@ -21,13 +21,19 @@ pub(crate) fn head_of(
     requires { IsRequestWithin input.now spans.now head.now }
     ensures { IfOk result (λ request. option_map request_of request
         ≡ head_of (span_bytes input.now head.now.method) (span_bytes input.now head.now.path)
-            (map (header_bytes input.now) (take head.now.headers spans.now))) }
+        (map (header_bytes input.now) (take head.now.headers spans.now))) }
 {
     let headers = &spans[..head.headers];
     if is_doubtful(input, headers) {
         return Ok(None);
     }
-    Ok(Some(started(alloc, input, head.method.of(input), head.path.of(input), headers)?))
+    Ok(Some(started(
+        alloc,
+        input,
+        head.method.of(input),
+        head.path.of(input),
+        headers,
+    )?))
 }
 
 #[tactic(auto, unfolding(crate::specs::Heads::started))]

@@ -6,6 +6,7 @@
 #![tactic(auto)]
 
 mod body;
+mod connection;
 mod guards;
 mod heads;
 pub mod laws;
@@ -15,6 +16,7 @@ mod request;
 mod routes;
 mod words;
 
+pub use connection::{Connection, MAX_BODY, MAX_HEAD, MAX_HEADERS, Read, Step};
 pub use guards::Guards;
 pub use refusals::{Refusal, Verb};
 pub use replies::{Kind, Reply};

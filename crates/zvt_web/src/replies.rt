@@ -104,8 +104,11 @@ impl<'a> Reply<'a> {
 }
 
 /// Returns the headers of an answer, without those that frame its body.
-#[tactic(auto, unfolding(crate::specs::Replies::headers_of))]
-pub(crate) fn headers_of<'a>(alloc: Global, reply: &Reply<'a>) -> Result<Vec<Header<'a>>, AllocError>
+#[tactic(auto, unfolding(crate::specs::Replies::header_list))]
+pub(crate) fn headers_of<'a>(
+    alloc: Global,
+    reply: &Reply<'a>,
+) -> Result<Vec<Header<'a>>, AllocError>
     ensures { IfOk result (λ headers. pairs headers.items ≡ headers_of reply.now) }
 {
     let mut headers = Vec::new(alloc);
@@ -161,7 +164,10 @@ fn add_policy(headers: &mut Vec<Header<'_>>, kind: Kind) -> Result<(), AllocErro
     }
 }
 
-fn add_location<'a>(headers: &mut Vec<Header<'a>>, location: Option<&'a [u8]>) -> Result<(), AllocError>
+fn add_location<'a>(
+    headers: &mut Vec<Header<'a>>,
+    location: Option<&'a [u8]>,
+) -> Result<(), AllocError>
     ensures { OnOk result (pairs headers.new.items
         ≡ pairs headers.old.items ++ location_headers (option_map (λ l. l.now) location.entry)) }
 {
@@ -171,7 +177,10 @@ fn add_location<'a>(headers: &mut Vec<Header<'a>>, location: Option<&'a [u8]>) -
     }
 }
 
-fn add_retry_after<'a>(headers: &mut Vec<Header<'a>>, seconds: Option<&'a [u8]>) -> Result<(), AllocError>
+fn add_retry_after<'a>(
+    headers: &mut Vec<Header<'a>>,
+    seconds: Option<&'a [u8]>,
+) -> Result<(), AllocError>
     ensures { OnOk result (pairs headers.new.items
         ≡ pairs headers.old.items ++ retry_headers (option_map (λ s. s.now) seconds.entry)) }
 {

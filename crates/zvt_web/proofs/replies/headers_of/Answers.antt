@@ -1,11 +1,11 @@
 use Rattle.std.proofs.Common.{ap, ◌∙◌, ◌++◌}
 use Rattle.http1.specs.Head.{pairs}
-use Rattle.zvt_web.specs.Replies.{headers_of, kind_headers}
+use Rattle.zvt_web.specs.Replies.{header_list, kind_headers}
 use Rattle.zvt_web.proofs.Lists.{grown}
 use Rattle.zvt_web.proofs.replies.headers_of.Goals as goal
 
 pub returns : goal.returns
-unfolding headers_of
+unfolding header_list
 returns c =
     grown _ _ _ _ c.in_ok-add_close.ensures
     (grown _ _ _ _ c.in_ok-add_allow.ensures
