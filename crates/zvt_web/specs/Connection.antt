@@ -19,12 +19,14 @@ use Rattle.http1.specs.Server.{ServerReads, ServerRefuses, after_end, after_info
 use Rattle.http1.specs.declared.conn.Limits.{Limits}
 use Rattle.http1.specs.declared.conn.Progress.{Progress}
 use Rattle.http1.specs.declared.error.WriteError.{WriteError}
+use Rattle.http1.specs.declared.error.WriteError.TheVariants.{OutOfMemory}
 use Rattle.zvt_web.specs.Heads.{head_of}
+use Rattle.zvt_web.specs.Refusals.{refusal_allow}
 use Rattle.zvt_web.specs.Replies.{header_list, reason_of}
 use Rattle.zvt_web.specs.Request.{Request, request_of}
 use Rattle.zvt_web.specs.declared.refusals.Refusal.{Refusal}
 use Rattle.zvt_web.specs.declared.refusals.Refusal.TheVariants.{BadRequest, Coding, HeadTooLong, RepeatedHeader, TargetTooLong, TooLong}
-use Rattle.zvt_web.specs.declared.replies.Kind.TheVariants.{Events}
+use Rattle.zvt_web.specs.declared.replies.Kind.TheVariants.{Events, Json}
 use Rattle.zvt_web.specs.declared.connection.Step as code
 use Rattle.zvt_web.specs.declared.connection.Step.TheVariants as code_step
 
@@ -183,6 +185,11 @@ answer_text is_head s status headers body =
 unfoldable pub after_answer : (is_head : Bool) → Server → (status : ℕ) → List Header → (body : List ℕ) → Server
 after_answer is_head s status headers body = after_end (after_body is_head (headed s status headers body) body)
 
+-- the refusal, or memory ran out
+abbrev pub GivesOrMemory : Result Unit WriteError → Option WriteError → Type 0
+GivesOrMemory (Ok _) refusal = refusal ≡ None
+GivesOrMemory (Err e) refusal = (e ≡ OutOfMemory) ⊎ (refusal ≡ Some e)
+
 abbrev pub first_some : Option WriteError → Option WriteError → Option WriteError
 first_some (Some e) later = Some e
 first_some None later = later
@@ -201,6 +208,10 @@ answer_refusal is_head s status headers body =
 -- the connection after an answer
 abbrev pub after_reply : Connection → (status : ℕ) → List Header → (body : List ℕ) → Connection
 after_reply c status headers body = record c { server = after_answer c.is_head c.server status headers body; is_head = false }
+
+-- the headers of the answer to a refused request
+abbrev pub refusal_headers : Refusal → (closes : Bool) → List Header
+refusal_headers r closes = header_list Json None None false (refusal_allow r) closes
 
 -- ---- events
 

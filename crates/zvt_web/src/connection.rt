@@ -8,6 +8,8 @@ ghost use Rattle.zvt_web.specs.Connection.{after_end_of, after_head, after_piece
 ghost use Rattle.zvt_web.specs.Connection.{new_connection, read_refusal, step_of, taken};
 ghost use Rattle.zvt_web.specs.Request.{request_of};
 
+mod answers;
+
 use crate::heads::head_of;
 use crate::refusals::Refusal;
 use crate::request::Request;

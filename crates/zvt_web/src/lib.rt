@@ -14,6 +14,7 @@ mod refusals;
 mod replies;
 mod request;
 mod routes;
+mod sending;
 mod words;
 
 pub use connection::{Connection, MAX_BODY, MAX_HEAD, MAX_HEADERS, Read, Step};
