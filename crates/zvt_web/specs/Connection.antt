@@ -1,5 +1,5 @@
 -- One client's connection: what an event of http1 means, and what is written for an answer.
-use Rattle.std.specs.Prelude.{◌≡◌, ◌⊎◌, ◌&&◌, ◌+◌, ◌≤◌, ◌<◌, ℕ, nat_le, nat_lt, Bool, true, false, if◌then◌else◌, List, [], ◌∷◌, ◌++◌, codes, decimal, length, map, take, flat_map, ◌==◌, Option, Some, None, option_map, Result, Ok, Err}
+use Rattle.std.specs.Prelude.{◌≡◌, ◌⊎◌, ◌&&◌, ◌+◌, ◌≤◌, ◌<◌, ℕ, nat_le, nat_lt, Bool, true, false, if◌then◌else◌, List, [], ◌∷◌, ◌++◌, codes, decimal, length, map, take, flat_map, ◌==◌, Option, Some, None, option_map, is_none, Result, Ok, Err}
 use Rattle.std.specs.Str.{bytes_eq}
 use Rattle.httparse.specs.declared.spans.HeaderSpan.{HeaderSpan}
 use Rattle.httparse.specs.declared.spans.RequestSpans.{RequestSpans}
@@ -15,7 +15,7 @@ use Rattle.http1.specs.Conn.{after_data, data_refusal, data_text, finish_refusal
 use Rattle.http1.specs.Fields.{Header}
 use Rattle.http1.specs.ReadError.{status_of}
 use Rattle.http1.specs.Head.{response_text}
-use Rattle.http1.specs.Server.{ServerReads, ServerRefuses, after_end, after_informational, after_response, failed_server, has_codings, new_server, planned_response, reading, response_refusal, with_writing, writing}
+use Rattle.http1.specs.Server.{ServerReads, ServerRefuses, after_end, after_informational, after_response, expects_continue, failed_server, has_codings, informational_refusal, new_server, planned_response, reading, response_refusal, with_writing, writing}
 use Rattle.http1.specs.declared.conn.Limits.{Limits}
 use Rattle.http1.specs.declared.conn.Progress.{Progress}
 use Rattle.http1.specs.declared.error.WriteError.{WriteError}
@@ -124,40 +124,77 @@ IsEventIn input spans Paused = Unit {0}
 IsEventIn input spans Upgraded = Unit {0}
 IsEventIn input spans Closed = Unit {0}
 
--- http1 read an event, and the step is what that event means
-pub record ReadsEvent (old : Connection) (input : List ℕ) (new : Connection) (consumed : ℕ) (step : Step) : Type 0 where
-  pub spans : List HeaderSpan
-  pub progress : Progress RequestSpans
-  pub server : Server
-  pub reads : ServerReads old.server input spans server progress
-  pub bytes : consumed ≡ progress.consumed
-  pub found : step ≡ (taken (record old { server = server }) input spans progress.event).0
-  pub pending : new.pending ≡ (taken (record old { server = server }) input spans progress.event).1
-  pub is_head : new.is_head ≡ is_head_after old.is_head input progress.event
-
--- http1 cannot read the input, and the step says why
-pub record RefusesInput (old : Connection) (input : List ℕ) (new : Connection) (consumed : ℕ) (step : Step) : Type 0 where
-  pub error : ReadError
-  pub refuses : ServerRefuses old.server input 64 error
-  pub bytes : consumed ≡ 0
-  pub found : step ≡ refused (read_refusal error)
-  pub after : new ≡ record old { server = failed_server old.server error }
-
--- what a call of `read` found
-abbrev pub Reads : (old : Connection) → (input : List ℕ) → (new : Connection) → (consumed : ℕ) → Step → Type 0
-Reads old input new consumed step = ReadsEvent old input new consumed step ⊎ RefusesInput old input new consumed step
+-- ---- `100 Continue`
 
 abbrev pub continue_text : List ℕ
 continue_text = response_text 1 100 (codes "Continue") []
 
--- nothing was written, or the client was told to send the body
-abbrev pub MayContinue : (old new : Server) → (held text : List ℕ) → Type 0
-MayContinue old new held text =
-    ((new ≡ old) × (text ≡ held)) ⊎ ((new ≡ after_informational old 100) × (text ≡ held ++ continue_text))
+-- why http1 would not write it
+abbrev pub continue_refusal : Server → Option WriteError
+continue_refusal s = informational_refusal s 100 (codes "Continue") []
 
--- the same of the output alone
-abbrev pub MayAddContinue : (held text : List ℕ) → Type 0
-MayAddContinue held text = (text ≡ held) ⊎ (text ≡ held ++ continue_text)
+abbrev pub is_memory : WriteError → Bool
+is_memory OutOfMemory = true
+is_memory e = false
+
+-- the client waits to be told to send its body
+abbrev pub is_awaited : Server → Bool
+is_awaited s = expects_continue s && is_none (continue_refusal s)
+
+abbrev pub is_more : Step → Bool
+is_more more = true
+is_more again = false
+is_more (whole request) = false
+is_more (refused refusal) = false
+is_more waits = false
+is_more closed = false
+
+-- once no more bytes are there
+abbrev pub is_told : Step → Server → Bool
+is_told step s = is_more step && is_awaited s
+
+abbrev pub told_text : (told : Bool) → List ℕ
+told_text true = continue_text
+told_text false = []
+
+abbrev pub after_told : (told : Bool) → Server → Server
+after_told true s = after_informational s 100
+after_told false s = s
+
+-- ---- a call of `read`
+
+-- what was held before a call, and what was there after it: the connection, and the output
+pub record Change : Type 0 where
+  pub old : Connection
+  pub new : Connection
+  pub held : List ℕ
+  pub output : List ℕ
+
+-- http1 read an event, and the step is what that event means
+pub record ReadsEvent (ch : Change) (input : List ℕ) (consumed : ℕ) (step : Step) : Type 0 where
+  pub spans : List HeaderSpan
+  pub progress : Progress RequestSpans
+  pub server : Server
+  pub reads : ServerReads ch.old.server input spans server progress
+  pub bytes : consumed ≡ progress.consumed
+  pub found : step ≡ (taken (record ch.old { server = server }) input spans progress.event).0
+  pub pending : ch.new.pending ≡ (taken (record ch.old { server = server }) input spans progress.event).1
+  pub is_head : ch.new.is_head ≡ is_head_after ch.old.is_head input progress.event
+  pub after : ch.new.server ≡ after_told (is_told step server) server
+  pub wrote : ch.output ≡ ch.held ++ told_text (is_told step server)
+
+-- http1 cannot read the input, and the step says why
+pub record RefusesInput (ch : Change) (input : List ℕ) (consumed : ℕ) (step : Step) : Type 0 where
+  pub error : ReadError
+  pub refuses : ServerRefuses ch.old.server input 64 error
+  pub bytes : consumed ≡ 0
+  pub found : step ≡ refused (read_refusal error)
+  pub after : ch.new ≡ record (ch.old) { server = failed_server ch.old.server error }
+  pub wrote : ch.output ≡ ch.held
+
+-- what a call of `read` found
+abbrev pub Reads : Change → (input : List ℕ) → (consumed : ℕ) → Step → Type 0
+Reads ch input consumed step = ReadsEvent ch input consumed step ⊎ RefusesInput ch input consumed step
 
 -- ---- what is written
 

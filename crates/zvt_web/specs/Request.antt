@@ -1,5 +1,7 @@
 -- Requests.
-use Rattle.std.specs.Prelude.{ℕ, List, Option, option_map}
+use Rattle.std.specs.Prelude.{ℕ, Bool, false, List, codes, Option, option_map}
+use Rattle.std.specs.Option.{option_map_or}
+use Rattle.zvt_web.specs.Words.{same_letters}
 use Rattle.zvt_web.specs.declared.request.Request as code
 
 -- a request: a header that was not sent is None
@@ -13,6 +15,10 @@ pub record Request : Type 0 where
   pub prefer : Option (List ℕ)
   pub last_event : Option (List ℕ)
   pub body : List ℕ
+
+-- the client wants an answer at once
+abbrev pub prefers_async : Request → Bool
+prefers_async r = option_map_or (λ preference. same_letters preference (codes "respond-async")) r.prefer false
 
 -- the request of the code
 abbrev pub request_of : code.Request → Request

@@ -1,6 +1,7 @@
 //! Reads the JSON body of a payment, without memory of its own.
 ghost use Rattle.std.specs.Prelude.{◌≡◌, ◌+◌, ◌*◌, ◌<◌, ◌≤◌, option_map, IfSome};
-ghost use Rattle.zvt_web.specs.Body.{HasSmallCurrency, IsSmall, after_blanks, after_first, after_member, after_sign, amount_member};
+ghost use Rattle.zvt_web.specs.Body.{HasSmallCurrency, IsSmall, after_blanks, after_first, after_member};
+ghost use Rattle.zvt_web.specs.Body.{after_sign, amount_member};
 ghost use Rattle.zvt_web.specs.Body.{currency_member, currency_text, four_digits, if_closed, is_blank, is_end};
 ghost use Rattle.zvt_web.specs.Body.{next_member, more_digits, of_one, of_two, one_digit, payment_of, whole_number};
 

@@ -1,10 +1,11 @@
 //! One client's connection: bytes to requests, and answers to bytes.
-ghost use Rattle.std.specs.Prelude.{◌≡◌, ◌≤◌, ◌+◌, codes, length, nat_le, option_map, IfErr, IfOk, OnOk};
+ghost use Rattle.std.specs.Prelude.{◌≡◌, ◌≤◌, ◌+◌, ◌++◌, codes, length, nat_le, option_map, IfErr, IfOk, OnOk};
 ghost use Rattle.std.specs.Str.{bytes_eq};
 ghost use Rattle.httparse.specs.Spans.{IsRequestWithin, span_bytes};
 ghost use Rattle.http1.specs.declared.conn.Event.TheVariants.{Head};
-ghost use Rattle.zvt_web.specs.Connection.{Connection as Connected, IsEventIn, MayAddContinue, MayContinue, Reads};
+ghost use Rattle.zvt_web.specs.Connection.{Connection as Connected, IsEventIn, Reads};
 ghost use Rattle.zvt_web.specs.Connection.{after_end_of, after_head, after_piece, is_announced_long, is_head_after};
+ghost use Rattle.zvt_web.specs.Connection.{is_more};
 ghost use Rattle.zvt_web.specs.Connection.{new_connection, read_refusal, step_of, taken};
 ghost use Rattle.zvt_web.specs.Request.{request_of};
 
@@ -13,6 +14,7 @@ mod answers;
 use crate::heads::head_of;
 use crate::refusals::Refusal;
 use crate::request::Request;
+use crate::sending::put_continue;
 use crate::words::is_text;
 use bytes::BytesMut;
 use http1::{BodySize, Event, Limits, ReadError, Server, WriteError};
@@ -96,8 +98,12 @@ impl Connection {
     /// if an allocation fails.
     pub fn read(&mut self, input: &[u8], out: &mut BytesMut) -> Result<Read, WriteError>
         ensures consumed { IfOk result (λ r. r.consumed ≤ length input.now) }
-        ensures reads { IfOk result (λ r. Reads self.old input.now self.new r.consumed (step_of r.step)) }
-        ensures output { OnOk result (MayAddContinue out.old.items out.new.items) }
+        ensures reads { IfOk result (λ r. Reads (record {
+          old = self.old;
+          new = self.new;
+          held = out.old.items;
+          output = out.new.items;
+        }) input.now r.consumed (step_of r.step)) }
         ensures err { IfErr result (λ e. e ≡ WriteError.OutOfMemory) }
     {
         let mut spans = [EMPTY_HEADER_SPAN; MAX_HEADERS];
@@ -113,8 +119,10 @@ impl Connection {
         let Ok(step) = self.take(read.event, input, &spans) else {
             return Err(WriteError::OutOfMemory);
         };
-        if matches!(step, Step::More) && self.put_continue(out).is_err() {
-            return Err(WriteError::OutOfMemory);
+        if is_more(&step) {
+            if let Err(_error) = put_continue(&mut self.server, out) {
+                return Err(WriteError::OutOfMemory);
+            }
         }
         Ok(Read {
             consumed: read.consumed,
@@ -155,7 +163,8 @@ impl Connection {
         requires { IsRequestWithin input.now spans.now head.now }
         ensures step { IfOk result (λ step. step_of step ≡ (taken self.old input.now spans.now (Head head.now)).0) }
         ensures pending { OnOk result (self.new.pending ≡ (taken self.old input.now spans.now (Head head.now)).1) }
-        ensures is_head { OnOk result (self.new.is_head ≡ bytes_eq (span_bytes input.now head.now.method) (codes "HEAD")) }
+        ensures is_head { OnOk result (self.new.is_head
+            ≡ bytes_eq (span_bytes input.now head.now.method) (codes "HEAD")) }
         ensures server { self.new.server ≡ self.old.server }
     {
         let request = head_of(self.alloc, input, head, spans)?;
@@ -214,21 +223,12 @@ impl Connection {
             None => Step::Waits,
         }
     }
+}
 
-    /// Tells the client to send the body, if it waits for that.
-    fn put_continue(&mut self, out: &mut BytesMut) -> Result<(), WriteError>
-        ensures output { OnOk result (MayContinue self.old.server self.new.server out.old.items out.new.items) }
-        ensures pending { self.new.pending ≡ self.old.pending }
-        ensures is_head { self.new.is_head ≡ self.old.is_head }
-    {
-        if !self.server.expects_continue() {
-            return Ok(());
-        }
-        match self.server.write_informational(out, 100, b"Continue", &[]) {
-            Err(WriteError::OutOfMemory) => Err(WriteError::OutOfMemory),
-            _ => Ok(()),
-        }
-    }
+fn is_more(step: &Step) -> bool
+    ensures { result ≡ is_more (step_of step.now) }
+{
+    matches!(step, Step::More)
 }
 
 /// Whether the body stays short enough with this piece.

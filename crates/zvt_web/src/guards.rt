@@ -3,7 +3,8 @@ ghost use Rattle.std.specs.Prelude.{◌≡◌, ◌++◌, map, codes, decimal, op
 ghost use Rattle.std.specs.List.{list_any};
 ghost use Rattle.std.specs.Str.{bytes_eq};
 ghost use Rattle.sha2.specs.Sha256.{sha256};
-ghost use Rattle.zvt_web.specs.Guards.{Guards as Guarded, authority, bears, guard, is_open, is_our_host, is_our_origin, is_ours, shows};
+ghost use Rattle.zvt_web.specs.Guards.{Guards as Guarded, authority, bears, guard, is_open, is_our_host};
+ghost use Rattle.zvt_web.specs.Guards.{is_our_origin, is_ours, shows};
 ghost use Rattle.zvt_web.specs.Request.{request_of};
 ghost use Rattle.zvt_web.specs.Words.{same_letters};
 

@@ -10,11 +10,14 @@ mod connection;
 mod guards;
 mod heads;
 pub mod laws;
+pub mod page;
 mod refusals;
 mod replies;
 mod request;
 mod routes;
 mod sending;
+#[cfg(test)]
+mod tests;
 mod words;
 
 pub use connection::{Connection, MAX_BODY, MAX_HEAD, MAX_HEADERS, Read, Step};

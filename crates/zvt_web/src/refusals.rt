@@ -64,7 +64,8 @@ pub enum Refusal {
 
 impl Refusal {
     ghost use Rattle.std.specs.Prelude.{◌≡◌, ◌++◌, OnOk};
-    ghost use Rattle.zvt_web.specs.Refusals.{refusal_allow, refusal_body, refusal_message, refusal_name, refusal_status};
+    ghost use Rattle.zvt_web.specs.Refusals.{refusal_allow, refusal_body, refusal_message, refusal_name};
+    ghost use Rattle.zvt_web.specs.Refusals.{refusal_status};
 
     /// Returns the status of the answer.
     pub fn status(self) -> u16

@@ -2,7 +2,8 @@
 ghost use Rattle.std.specs.Prelude.{◌≡◌, ◌++◌, ◌∷◌, [], option_map, IfOk, OnOk};
 ghost use Rattle.http1.specs.Head.{pairs};
 ghost use Rattle.zvt_web.specs.Replies.{allow_headers, close_headers, headers_of, kind_headers, location_headers};
-ghost use Rattle.zvt_web.specs.Replies.{no_sniffing, no_store, policy_headers, reason_of, replayed_headers, retry_headers};
+ghost use Rattle.zvt_web.specs.Replies.{no_sniffing, no_store, policy_headers, reason_of, replayed_headers};
+ghost use Rattle.zvt_web.specs.Replies.{retry_headers};
 
 use crate::refusals::{Refusal, Verb};
 use http1::Header;

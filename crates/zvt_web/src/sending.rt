@@ -2,13 +2,18 @@
 //!
 //! The clauses name the bytes by http1's own definitions: `planned_response` for a head, which adds the framing and
 //! `connection` headers, `data_text` for data and `finish_text` for an end. What these are is http1's promise.
-ghost use Rattle.std.specs.Prelude.{◌≡◌, ◌⊎◌, ◌++◌, [], length, IfErr, OnOk};
+ghost use Rattle.std.specs.Prelude.{◌≡◌, ◌⊎◌, ◌++◌, [], length, IfErr, OnErr, OnOk};
 ghost use Rattle.std.specs.List.{flat_map};
 ghost use Rattle.http1.specs.Conn.{after_data, data_refusal, data_text, finish_refusal, finish_text};
 ghost use Rattle.http1.specs.Head.{pairs};
-ghost use Rattle.http1.specs.Server.{after_end, after_response, planned_response, response_refusal, with_writing, writing};
-ghost use Rattle.zvt_web.specs.Connection.{after_answer, after_body, answer_refusal, answer_text, body_refusal, body_text};
+ghost use Rattle.http1.specs.Server.{after_end, after_informational, after_response, planned_response};
+ghost use Rattle.http1.specs.Server.{response_refusal, with_writing};
+ghost use Rattle.http1.specs.Server.{writing};
+ghost use Rattle.zvt_web.specs.Connection.{after_answer, after_body, answer_refusal, answer_text, body_refusal};
+ghost use Rattle.zvt_web.specs.Connection.{body_text};
 ghost use Rattle.zvt_web.specs.Connection.{GivesOrMemory, event_letter, event_text};
+ghost use Rattle.zvt_web.specs.Connection.{after_told, continue_refusal, continue_text, is_awaited, is_memory};
+ghost use Rattle.zvt_web.specs.Connection.{told_text};
 ghost use Rattle.zvt_web.specs.Replies.{reason_of};
 
 use crate::replies::reason_of;
@@ -96,6 +101,39 @@ fn send_end(server: &mut Server, out: &mut BytesMut) -> Result<(), WriteError>
     ensures outcome { GivesOrMemory result (finish_refusal (writing server.old) []) }
 {
     server.write_end(out, &[])
+}
+
+/// Tells the client to send its body, if it waits for that.
+pub(crate) fn put_continue(server: &mut Server, out: &mut BytesMut) -> Result<(), WriteError>
+    ensures text { OnOk result (out.new.items ≡ out.old.items ++ told_text (is_awaited server.old)) }
+    ensures next { OnOk result (server.new ≡ after_told (is_awaited server.old) server.old) }
+{
+    if !server.expects_continue() {
+        return Ok(());
+    }
+    if let Err(error) = send_continue(server, out) {
+        if is_memory(error) {
+            return Err(error);
+        }
+        return Ok(());
+    }
+    Ok(())
+}
+
+fn send_continue(server: &mut Server, out: &mut BytesMut) -> Result<(), WriteError>
+    ensures text { OnOk result (out.new.items ≡ out.old.items ++ continue_text) }
+    ensures next { OnOk result (server.new ≡ after_informational server.old 100) }
+    ensures outcome { GivesOrMemory result (continue_refusal server.old) }
+    ensures kept { OnErr result (server.new ≡ server.old) }
+    ensures same { OnErr result (out.new.items ≡ out.old.items) }
+{
+    server.write_informational(out, 100, b"Continue", &[])
+}
+
+fn is_memory(error: WriteError) -> bool
+    ensures { result ≡ is_memory error }
+{
+    matches!(error, WriteError::OutOfMemory)
 }
 
 /// Appends an event with its number and its text. A line feed in the text begins another line of data.

@@ -1,7 +1,8 @@
 //! Answers and events of a connection.
 ghost use Rattle.std.specs.Prelude.{◌≡◌, ◌⊎◌, ◌++◌, length, true, false, IfErr, IsTrue, OnOk, ◌↔◌};
 ghost use Rattle.http1.specs.Conn.{after_data, data_refusal, data_text};
-ghost use Rattle.http1.specs.Server.{IsClosed, after_response, planned_response, response_refusal, with_writing, writing};
+ghost use Rattle.http1.specs.Server.{IsClosed, after_response, planned_response, response_refusal, with_writing};
+ghost use Rattle.http1.specs.Server.{writing};
 ghost use Rattle.http1.specs.declared.conn.BodySize.TheVariants.{Unknown};
 ghost use Rattle.zvt_web.specs.Connection.{GivesOrMemory, after_reply, answer_refusal, answer_text, event_headers};
 ghost use Rattle.zvt_web.specs.Connection.{event_text, heartbeat, refusal_headers};
@@ -78,7 +79,8 @@ impl Connection {
         ensures next { OnOk result (self.new
             ≡ after_reply self.old (refusal_status refusal) (refusal_headers refusal closes) (refusal_body refusal)) }
         ensures err { IfErr result (λ e. (e ≡ WriteError.OutOfMemory) ⊎ (answer_refusal self.old.is_head
-            self.old.server (refusal_status refusal) (refusal_headers refusal closes) (refusal_body refusal) ≡ Some e)) }
+            self.old.server (refusal_status refusal) (refusal_headers refusal closes) (refusal_body refusal)
+            ≡ Some e)) }
     {
         let mut body = Vec::new(self.alloc);
         if refusal.put_body(&mut body).is_err() {
