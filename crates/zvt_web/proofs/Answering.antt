@@ -1,5 +1,5 @@
 -- An answer, from its head, its body and its end.
-use Rattle.std.proofs.Common.{◌≡◌, ◌⊎◌, ◌∙◌, sym, ap, subst, refl, inl, inr, ℕ, Bool, List, [], ◌++◌, append_assoc, length, Option, Some, None, Result, Ok, Err}
+use Rattle.std.proofs.Common.{◌≡◌, ◌⊎◌, ◌∙◌, ap, subst, ℕ, Bool, List, [], ◌++◌, append_assoc, length, Some, None, Result, Ok, Err}
 use Rattle.std.specs.Prelude.{OnOk, IfErr}
 use Rattle.http1.specs.Conn.{finish_refusal, finish_text}
 use Rattle.http1.specs.Fields.{Header}

@@ -1,5 +1,5 @@
 -- What a request has shown that the guards let through.
-use Rattle.std.proofs.Common.{◌≡◌, ◌∙◌, sym, ap, refl, ◌&&◌, ◌||◌, Bool, true, false, not, if◌then◌else◌, List, ℕ, codes, Option, Some, None, Result, Ok, Err}
+use Rattle.std.proofs.Common.{◌≡◌, refl, ◌||◌, Bool, true, false, not, if◌then◌else◌, List, ℕ, codes, Option, Some, None, Ok}
 use Rattle.std.specs.Str.{bytes_eq}
 use Rattle.std.proofs.lemmas.Slice.Eq.{bytes_eq-Decides}
 use Rattle.zvt_web.specs.Ask.{Ask}

@@ -1,5 +1,5 @@
 -- Which route a request took, from what it asks.
-use Rattle.std.proofs.Common.{◌≡◌, ◌∙◌, sym, ap, refl, arith, inl, inr, ◌⊎◌, not, ◌&&◌, ◌||◌, Bool, true, false, if◌then◌else◌, List, [], ◌∷◌, ℕ, ◌≤◌, codes, nat_le, Option, Some, None, Result, Ok, Err}
+use Rattle.std.proofs.Common.{◌≡◌, ◌∙◌, sym, ap, refl, arith, inl, inr, ◌⊎◌, ◌&&◌, ◌||◌, Bool, true, false, if◌then◌else◌, List, [], ◌∷◌, ℕ, ◌≤◌, codes, nat_le, Option, Some, None, Result, Ok, Err}
 use Rattle.std.specs.Str.{bytes_eq}
 use Rattle.zvt_web.specs.Ask.{Ask, pay, reverse, close_day, look, ask_terminal, cancel, book, status, events, stop, page, script, style}
 use Rattle.zvt_web.specs.Body.{Payment, payment_of}

@@ -1,5 +1,5 @@
 -- What a request asks of the till.
-use Rattle.std.specs.Prelude.{ℕ, List, Option, option_map}
+use Rattle.std.specs.Prelude.{ℕ, List, Option}
 use Rattle.zvt_web.specs.declared.routes.Ask as code
 use Rattle.zvt_web.specs.declared.routes.Ask.TheVariants as code_ask
 

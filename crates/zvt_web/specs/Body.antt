@@ -1,6 +1,6 @@
 -- The JSON body of a payment: an object with `amount`, and `currency` if it is sent, each once and in any order.
-use Rattle.std.specs.Prelude.{◌≡◌, ◌≤◌, IfSome, ◌&&◌, ◌||◌, ◌==◌, ℕ, ◌+◌, ◌-◌, ◌*◌, min, Bool, true, false, if◌then◌else◌, List, [], ◌∷◌, ◌++◌, codes, Option, Some, None, option_and_then, option_map}
-use Rattle.std.specs.Char.{is_ascii_digit, digit_value}
+use Rattle.std.specs.Prelude.{◌≡◌, ◌≤◌, IfSome, ◌||◌, ◌==◌, ℕ, ◌+◌, ◌-◌, ◌*◌, min, Bool, if◌then◌else◌, List, [], ◌∷◌, codes, Option, Some, None, option_and_then, option_map}
+use Rattle.std.specs.Char.{is_ascii_digit}
 use Rattle.std.specs.List.{list_all}
 use Rattle.zvt_web.specs.Words.{trailing}
 use Rattle.zvt_web.specs.declared.body.Member.{Member}

@@ -1,5 +1,5 @@
 -- One client's connection: what an event of http1 means, and what is written for an answer.
-use Rattle.std.specs.Prelude.{◌≡◌, ◌⊎◌, ◌&&◌, ◌+◌, ◌≤◌, ◌<◌, ℕ, nat_le, nat_lt, Bool, true, false, if◌then◌else◌, List, [], ◌∷◌, ◌++◌, codes, decimal, length, map, take, flat_map, ◌==◌, Option, Some, None, option_map, is_none, Result, Ok, Err}
+use Rattle.std.specs.Prelude.{◌≡◌, ◌⊎◌, ◌&&◌, ◌+◌, ℕ, nat_le, nat_lt, Bool, true, false, if◌then◌else◌, List, [], ◌∷◌, ◌++◌, codes, decimal, length, map, take, flat_map, ◌==◌, Option, Some, None, is_none, Result, Ok, Err}
 use Rattle.std.specs.Str.{bytes_eq}
 use Rattle.httparse.specs.declared.spans.HeaderSpan.{HeaderSpan}
 use Rattle.httparse.specs.declared.spans.RequestSpans.{RequestSpans}
@@ -8,7 +8,6 @@ use Rattle.http1.specs.declared.conn.BodySize.{BodySize}
 use Rattle.http1.specs.declared.conn.BodySize.TheVariants.{Empty, Known, Unknown}
 use Rattle.http1.specs.declared.conn.Event.{Event}
 use Rattle.http1.specs.declared.conn.Event.TheVariants.{NeedMore, Head, Informational, Data, End, Paused, Upgraded, Closed}
-use Rattle.http1.specs.declared.conn.Writing.{Writing}
 use Rattle.http1.specs.declared.error.ReadError.{ReadError}
 use Rattle.http1.specs.declared.server.Server.{Server}
 use Rattle.http1.specs.Conn.{after_data, data_refusal, data_text, finish_refusal, finish_text, unread_size}

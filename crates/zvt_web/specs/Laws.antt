@@ -1,11 +1,10 @@
 -- The laws of requests.
-use Rattle.std.specs.Prelude.{◌≡◌, ◌⊎◌, ◌&&◌, ℕ, ◌≤◌, Bool, true, false, List, [], codes, Option, Some, None, Result, Ok, Err}
+use Rattle.std.specs.Prelude.{◌≡◌, ℕ, ◌≤◌, Bool, true, false, List, [], codes, Option, Some, None, Ok, Err}
 use Rattle.zvt_web.specs.Ask.{Ask, pay, reverse, close_day, look, ask_terminal, cancel, book, status, events, stop, page, script, style}
 use Rattle.zvt_web.specs.Body.{payment_of}
 use Rattle.zvt_web.specs.Guards.{Guards, bears, is_our_host, is_our_origin}
 use Rattle.zvt_web.specs.Request.{Request}
 use Rattle.zvt_web.specs.Routes.{ask_of, is_key, routed}
-use Rattle.zvt_web.specs.declared.refusals.Refusal.{Refusal}
 use Rattle.zvt_web.specs.declared.refusals.Refusal.TheVariants.{BadAmount, BadBody, BadKey, Method, NotFound}
 use Rattle.zvt_web.specs.declared.refusals.Verb.TheVariants.{Get, Post}
 

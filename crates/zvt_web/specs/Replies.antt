@@ -1,5 +1,5 @@
 -- Answers: their headers, and the words of their statuses.
-use Rattle.std.specs.Prelude.{◌≡◌, ◌==◌, ℕ, Bool, true, false, if◌then◌else◌, List, [], ◌∷◌, ◌++◌, codes, Option, Some, None, option_map}
+use Rattle.std.specs.Prelude.{◌==◌, ℕ, Bool, true, false, if◌then◌else◌, List, [], ◌∷◌, ◌++◌, codes, Option, Some, None, option_map}
 use Rattle.http1.specs.Fields.{Header}
 use Rattle.zvt_web.specs.Refusals.{verb_name}
 use Rattle.zvt_web.specs.declared.refusals.Verb.{Verb}

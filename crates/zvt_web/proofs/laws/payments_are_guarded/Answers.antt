@@ -1,5 +1,4 @@
 use Rattle.zvt_web.specs.Ask.{pay}
-use Rattle.zvt_web.specs.Guards.{bears}
 use Rattle.std.proofs.Common.{refl}
 use Rattle.zvt_web.proofs.Guarded.{passes}
 use Rattle.zvt_web.proofs.Routing as routing

@@ -1,4 +1,4 @@
-use Rattle.std.proofs.Common.{◌≡◌, ◌++◌, ap, subst, List, ℕ}
+use Rattle.std.proofs.Common.{◌≡◌, ◌++◌, subst, List, ℕ}
 use Rattle.std.specs.Prelude.{OnOk}
 use Rattle.http1.specs.Head.{pairs}
 use Rattle.http1.specs.Server.{planned_response, response_refusal}

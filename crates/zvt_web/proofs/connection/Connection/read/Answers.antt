@@ -1,4 +1,4 @@
-use Rattle.std.proofs.Common.{◌≡◌, ◌∙◌, ap, sym, subst, inl, refl, Bool, true, false, ◌&&◌, List, ℕ, ◌++◌, append-nil, Option}
+use Rattle.std.proofs.Common.{◌≡◌, ◌∙◌, ap, sym, subst, inl, refl, Bool, true, false, ◌&&◌, ◌++◌, append-nil, Option}
 use Rattle.http1.specs.Server.{ServerReads}
 use Rattle.http1.specs.declared.server.Server.{Server}
 use Rattle.zvt_web.specs.Request.{Request}
