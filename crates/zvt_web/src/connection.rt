@@ -203,7 +203,7 @@ impl Connection {
         let Some(mut request) = self.pending.take() else {
             return Ok(Step::Again);
         };
-        if !has_room(&request, piece) {
+        if !fits(&request, piece) {
             return Ok(Step::Refused(Refusal::TooLong));
         }
         request.body.extend_from_slice(piece)?;
@@ -232,7 +232,7 @@ fn is_more(step: &Step) -> bool
 }
 
 /// Whether the body stays short enough with this piece.
-fn has_room(request: &Request, piece: &[u8]) -> bool
+fn fits(request: &Request, piece: &[u8]) -> bool
     ensures { result ≡ nat_le (length request.now.body.items + length piece.now) 4096 }
 {
     piece.len() <= MAX_BODY && request.body.len() <= MAX_BODY - piece.len()
