@@ -1,5 +1,6 @@
 //! Laws of requests, each stated as the contract of an empty function, and rows of the definitions.
 ghost use Rattle.zvt_web.specs.Body.{BodyRows};
+ghost use Rattle.zvt_web.specs.Connection.{BodiesAreShort};
 ghost use Rattle.zvt_web.specs.Guards.{GuardRows};
 ghost use Rattle.zvt_web.specs.Heads.{HeadRows};
 ghost use Rattle.zvt_web.specs.Laws.{AsksAreGuarded, PaymentsAreGuarded, RouteRows};
@@ -16,6 +17,11 @@ pub fn payments_are_guarded()
 /// changes something is sent by `POST`.
 pub fn asks_are_guarded()
     ensures { AsksAreGuarded }
+{}
+
+/// A connection that starts without a request never keeps or hands out a body of more than 4,096 bytes.
+pub fn bodies_are_short()
+    ensures { BodiesAreShort }
 {}
 
 /// The name and the sentence of a refusal stand in a JSON string as they are.
