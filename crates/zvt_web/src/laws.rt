@@ -3,7 +3,7 @@ ghost use Rattle.zvt_web.specs.Body.{BodyRows};
 ghost use Rattle.zvt_web.specs.Connection.{BodiesAreShort};
 ghost use Rattle.zvt_web.specs.Guards.{GuardRows};
 ghost use Rattle.zvt_web.specs.Heads.{HeadRows};
-ghost use Rattle.zvt_web.specs.Laws.{AsksAreGuarded, PaymentsAreGuarded, RouteRows};
+ghost use Rattle.zvt_web.specs.Laws.{AsksAreGuarded, PaymentsAreGuarded, RouteRows, TokenHoldersPass};
 ghost use Rattle.zvt_web.specs.Refusals.{RefusalsNeedNoEscapes};
 ghost use Rattle.zvt_web.specs.Words.{WordRows};
 
@@ -11,6 +11,11 @@ ghost use Rattle.zvt_web.specs.Words.{WordRows};
 /// this amount.
 pub fn payments_are_guarded()
     ensures { PaymentsAreGuarded }
+{}
+
+/// A request with the right host and origin, and a token of the right digest, reaches its route.
+pub fn token_holders_pass()
+    ensures { TokenHoldersPass }
 {}
 
 /// Whatever is asked, the host and the origin are right. Everything but the files of the page needs the token, and what
