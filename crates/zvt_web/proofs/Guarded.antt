@@ -1,9 +1,11 @@
 -- What a request has shown that the guards let through.
-use Rattle.std.proofs.Common.{◌≡◌, refl, ◌||◌, Bool, true, false, not, if◌then◌else◌, List, ℕ, codes, Option, Some, None, Ok}
+use Rattle.std.proofs.Common.{ap, ◌∙◌, ◌≡◌, refl, ◌||◌, Bool, true, false, not, if◌then◌else◌, List, ℕ, codes, Option, Some, None, Ok}
 use Rattle.std.specs.Str.{bytes_eq}
 use Rattle.std.proofs.lemmas.Slice.Eq.{bytes_eq-Decides}
 use Rattle.zvt_web.specs.Ask.{Ask}
 use Rattle.zvt_web.specs.Guards.{Guards, bears, guard, is_open, is_our_host, is_our_origin}
+use Rattle.sha2.specs.Sha256.{sha256}
+use Rattle.zvt_web.specs.Laws.{TokenHoldersPass}
 use Rattle.zvt_web.specs.Request.{Request}
 use Rattle.zvt_web.specs.Routes.{ask_if, ask_of, routed}
 use Rattle.zvt_web.specs.declared.refusals.Refusal.{Refusal}
@@ -40,3 +42,22 @@ from_guard g r a (Some refusal) some asks = absurd (cc (asks))
 
 pub passes : (g : Guards) (r : Request) (a : Ask) → ask_of g r ≡ Ok a → Passes g r a
 passes g r a asks = from_guard g r a (guard g r) refl asks
+
+-- ---- the converse
+
+shown_last : (file : Bool) → guarded true true false (file || true) ≡ None
+shown_last true = refl
+shown_last false = refl
+
+passing : (host origin preflight file shown : Bool) → host ≡ true → origin ≡ true → preflight ≡ false → shown ≡ true
+    → guarded host origin preflight (file || shown) ≡ None
+passing host origin preflight file shown ours page other token =
+    ap (λ b. guarded b origin preflight (file || shown)) ours ∙ ap (λ b. guarded true b preflight (file || shown)) page
+    ∙ ap (λ b. guarded true true b (file || shown)) other ∙ ap (λ b. guarded true true false (file || b)) token ∙ shown_last file
+
+pub token_holders_pass : TokenHoldersPass
+token_holders_pass g r token ours page other sent same =
+    let bearer : bears g r.authorization ≡ true = ap (bears g) sent ∙ (bytes_eq-Decides (sha256 token) g.digest).1 same in
+    ap (λ (x : Option Refusal). ask_if x r)
+    (passing (is_our_host g r.host) (is_our_origin r.host r.origin) (bytes_eq r.method (codes "OPTIONS")) (is_open r.method r.path) (bears g r.authorization)
+    ours page other bearer)

@@ -4,3 +4,4 @@ pub mod Guarded
 pub mod Lists
 pub mod Refusing
 pub mod Routing
+pub mod ShortBodies

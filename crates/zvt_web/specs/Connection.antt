@@ -1,5 +1,5 @@
 -- One client's connection: what an event of http1 means, and what is written for an answer.
-use Rattle.std.specs.Prelude.{◌≡◌, ◌⊎◌, ◌&&◌, ◌+◌, ℕ, nat_le, nat_lt, Bool, true, false, if◌then◌else◌, List, [], ◌∷◌, ◌++◌, codes, decimal, length, map, take, flat_map, ◌==◌, Option, Some, None, is_none, Result, Ok, Err}
+use Rattle.std.specs.Prelude.{◌≡◌, ◌≤◌, ◌⊎◌, ◌&&◌, ◌+◌, ℕ, nat_le, nat_lt, Bool, true, false, if◌then◌else◌, List, [], ◌∷◌, ◌++◌, codes, decimal, length, map, take, flat_map, ◌==◌, Option, Some, None, is_none, Result, Ok, Err}
 use Rattle.std.specs.Str.{bytes_eq}
 use Rattle.httparse.specs.declared.spans.HeaderSpan.{HeaderSpan}
 use Rattle.httparse.specs.declared.spans.RequestSpans.{RequestSpans}
@@ -194,6 +194,27 @@ pub record RefusesInput (ch : Change) (input : List ℕ) (consumed : ℕ) (step 
 -- what a call of `read` found
 abbrev pub Reads : Change → (input : List ℕ) → (consumed : ℕ) → Step → Type 0
 Reads ch input consumed step = ReadsEvent ch input consumed step ⊎ RefusesInput ch input consumed step
+
+-- ---- short bodies
+
+-- the request whose body is read has at most 4,096 bytes of it
+abbrev pub IsShort : Option Request → Type 0
+IsShort None = Unit {0}
+IsShort (Some request) = length request.body ≤ 4096
+
+abbrev pub request_in : Step → Option Request
+request_in more = None
+request_in again = None
+request_in (whole request) = Some request
+request_in (refused refusal) = None
+request_in waits = None
+request_in closed = None
+
+-- No event makes a body longer than that, so no request is handed out with a longer one.
+abbrev pub BodiesAreShort : Type 0
+BodiesAreShort =
+    (c : Connection) (input : List ℕ) (spans : List HeaderSpan) (event : Event RequestSpans) → IsShort c.pending
+    → IsShort (taken c input spans event).1 × IsShort (request_in (taken c input spans event).0)
 
 -- ---- what is written
 

@@ -1,5 +1,7 @@
 -- The laws of requests.
-use Rattle.std.specs.Prelude.{◌≡◌, ℕ, ◌≤◌, Bool, true, false, List, [], codes, Option, Some, None, Ok, Err}
+use Rattle.std.specs.Prelude.{◌≡◌, ◌++◌, ℕ, ◌≤◌, Bool, true, false, List, [], codes, Option, Some, None, Ok, Err}
+use Rattle.std.specs.Str.{bytes_eq}
+use Rattle.sha2.specs.Sha256.{sha256}
 use Rattle.zvt_web.specs.Ask.{Ask, pay, reverse, close_day, look, ask_terminal, cancel, book, status, events, stop, page, script, style}
 use Rattle.zvt_web.specs.Body.{payment_of}
 use Rattle.zvt_web.specs.Guards.{Guards, bears, is_our_host, is_our_origin}
@@ -28,6 +30,15 @@ abbrev pub PaymentsAreGuarded : Type 0
 PaymentsAreGuarded =
     (g : Guards) (r : Request) (key : List ℕ) (amount : ℕ) (currency : Option ℕ)
     → ask_of g r ≡ Ok (pay key amount currency) → AsksPayment g r key amount currency
+
+-- ---- who is let through
+
+-- With the right host and origin, and a token of the right digest, a request reaches its route.
+abbrev pub TokenHoldersPass : Type 0
+TokenHoldersPass =
+    (g : Guards) (r : Request) (token : List ℕ) → is_our_host g r.host ≡ true → is_our_origin r.host r.origin ≡ true
+    → bytes_eq r.method (codes "OPTIONS") ≡ false → r.authorization ≡ Some (codes "Bearer " ++ token) → sha256 token ≡ g.digest
+    → ask_of g r ≡ routed r
 
 -- ---- what every ask needs
 

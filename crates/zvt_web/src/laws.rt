@@ -1,8 +1,9 @@
 //! Laws of requests, each stated as the contract of an empty function, and rows of the definitions.
 ghost use Rattle.zvt_web.specs.Body.{BodyRows};
+ghost use Rattle.zvt_web.specs.Connection.{BodiesAreShort};
 ghost use Rattle.zvt_web.specs.Guards.{GuardRows};
 ghost use Rattle.zvt_web.specs.Heads.{HeadRows};
-ghost use Rattle.zvt_web.specs.Laws.{AsksAreGuarded, PaymentsAreGuarded, RouteRows};
+ghost use Rattle.zvt_web.specs.Laws.{AsksAreGuarded, PaymentsAreGuarded, RouteRows, TokenHoldersPass};
 ghost use Rattle.zvt_web.specs.Refusals.{RefusalsNeedNoEscapes};
 ghost use Rattle.zvt_web.specs.Words.{WordRows};
 
@@ -12,10 +13,20 @@ pub fn payments_are_guarded()
     ensures { PaymentsAreGuarded }
 {}
 
+/// A request with the right host and origin, and a token of the right digest, reaches its route.
+pub fn token_holders_pass()
+    ensures { TokenHoldersPass }
+{}
+
 /// Whatever is asked, the host and the origin are right. Everything but the files of the page needs the token, and what
 /// changes something is sent by `POST`.
 pub fn asks_are_guarded()
     ensures { AsksAreGuarded }
+{}
+
+/// A connection that starts without a request never keeps or hands out a body of more than 4,096 bytes.
+pub fn bodies_are_short()
+    ensures { BodiesAreShort }
 {}
 
 /// The name and the sentence of a refusal stand in a JSON string as they are.

@@ -58,6 +58,21 @@ fn is_refused(alloc: Global, text: &str, why: Refusal) -> Result<bool, Fail> {
     Ok(matches!(&asked, Err(refusal) if *refusal == why))
 }
 
+/// Returns the units of a payment, or the status of a refusal.
+fn units_or_status(guards: &Guards, request: &Request) -> u64 {
+    match ask_of(guards, request) {
+        Ok(ask) => units_of(&ask),
+        Err(refusal) => u64::from(refusal.status()),
+    }
+}
+
+fn units_of(ask: &Ask<'_>) -> u64 {
+    match ask {
+        Ask::Pay { amount, .. } => amount.get(),
+        _ => 0,
+    }
+}
+
 #[test]
 fn pays(rt: HostRuntime) -> Result<(), Fail> {
     let request = request_of(rt.alloc(), PAYMENT)?;
@@ -76,6 +91,7 @@ fn pays(rt: HostRuntime) -> Result<(), Fail> {
     assert!(rt; *key == b"sale-2026-12-01.7".as_slice());
     assert_eq!(rt; amount.get(), 1000);
     assert!(rt; currency.is_some());
+    assert_eq!(rt; units_or_status(&guards, &request), 1000);
     Ok(())
 }
 
