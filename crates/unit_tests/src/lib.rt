@@ -1,5 +1,5 @@
 //! Tests of what no contract can say and no run of the program shows, through public calls: of streams, of what a till
-//! hears, saves and settles, and of words that are printed.
+//! hears, saves and settles, of web requests, and of words that are printed.
 //!
 //! Scripts test the rest on the built program: `zvt vectors examples/vectors.txt` and `tests/data/commands.txt` the
 //! messages, traces and books, `tests/chunking.py` lines that are cut into pieces, `tests/answered_till.py` a till and
@@ -16,6 +16,8 @@ mod hearing;
 mod journals;
 #[cfg(test)]
 mod names;
+#[cfg(test)]
+mod requests;
 #[cfg(test)]
 mod rescan;
 #[cfg(test)]

@@ -16,8 +16,6 @@ mod replies;
 mod request;
 mod routes;
 mod sending;
-#[cfg(test)]
-mod tests;
 mod words;
 
 pub use connection::{Connection, MAX_BODY, MAX_HEAD, MAX_HEADERS, Read, Step};

@@ -1,10 +1,10 @@
-//! Requests and answers as their bytes.
+//! Requests of a web client and the answers to them, as their bytes.
 
-use crate::{Ask, Connection, Guards, Kind, Refusal, Reply, Request, Step, ask_of};
 use bytes::BytesMut;
 use std::alloc::Global;
 use std::process::Abort;
 use std::test::Fail;
+use zvt_web::{Ask, Connection, Guards, Kind, Refusal, Reply, Request, Step, ask_of};
 
 const PAYMENT: &str =
     "POST /payments?shop=1 HTTP/1.1\r\nHost: LOCALHOST:8080\r\nAuthorization: Bearer secret\r\n\
