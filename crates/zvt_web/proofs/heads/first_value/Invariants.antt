@@ -1,0 +1,12 @@
+use Rattle.std.proofs.Common.{◌≡◌, All, length, map}
+use Rattle.httparse.specs.Spans.{IsHeaderWithin, header_bytes}
+use Rattle.zvt_web.specs.Heads.{first_value}
+use Rattle.zvt_web.proofs.heads.first_value.Given as goal
+
+abbrev pub invariant-headers : goal.invariant-headers
+invariant-headers l =
+    (first_value l.name (map (header_bytes l.input) l.headers) ≡ first_value l.name (map (header_bytes l.input) l.rest))
+    × All (IsHeaderWithin (length l.input)) l.rest
+
+abbrev pub decreases-headers : goal.decreases-headers
+decreases-headers l = length l.rest

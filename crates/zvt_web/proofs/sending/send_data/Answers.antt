@@ -1,0 +1,5 @@
+use Rattle.zvt_web.proofs.Refusing.{gives_or_memory}
+use Rattle.zvt_web.proofs.sending.send_data.Goals as goal
+
+pub returns-clause-outcome : goal.returns-clause-outcome
+returns-clause-outcome c = gives_or_memory c.write_data.result _ _ _ c.write_data.ensures.outcome

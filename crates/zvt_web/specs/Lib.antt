@@ -1,0 +1,11 @@
+pub mod Ask
+pub mod Body
+pub mod Connection
+pub mod Guards
+pub mod Heads
+pub mod Laws
+pub mod Refusals
+pub mod Replies
+pub mod Request
+pub mod Routes
+pub mod Words
