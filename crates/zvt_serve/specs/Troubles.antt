@@ -1,6 +1,5 @@
 -- Why a request is answered without the outcome of an order.
 use Rattle.std.specs.Prelude.{ℕ, Bool, true, false, Option, Some, None, List, ◌++◌, codes}
-use Rattle.zvt_till.specs.declared.orders.OrderRefusal.{OrderRefusal}
 use Rattle.zvt_till.specs.Names.{refusal_name, refusal_words}
 use Rattle.zvt_serve.specs.Answers.{bool_text}
 use Rattle.zvt_serve.specs.declared.troubles.Trouble.{Trouble}
