@@ -1,0 +1,25 @@
+//! One loop over the sockets of HTTP clients and of one card terminal.
+//!
+//! A [`Server`] gives the orders of its clients to a [`Service`](zvt_service::Service), which sends the order of a key at
+//! most once. [`Decision`] says what becomes of a request, and [`put_answer`] what a client is told about its order.
+#![tactic(auto)]
+
+mod answers;
+mod asks;
+mod clients;
+mod clock;
+mod deciding;
+mod event_log;
+pub mod laws;
+mod line;
+mod outcomes;
+mod server;
+mod status;
+mod troubles;
+
+pub use answers::{order_name, outcome_name, outcome_status, put_answer, put_end};
+pub use asks::{BookLines, BookUnread};
+pub use deciding::{Decision, Known, Standing};
+pub use line::TerminalOptions;
+pub use server::{Server, ServerOptions};
+pub use troubles::Trouble;
