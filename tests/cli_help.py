@@ -13,7 +13,7 @@ import sys
 from common import Checks, TOP, program
 
 PROGRAM = program(sys.argv[1:])
-COMMANDS = ["show", "join", "normalise", "audit", "report", "receipts", "vectors", "book", "loop", "till", "terminal", "tap", "play", "check-till", "check-terminal"]
+COMMANDS = ["show", "join", "normalise", "audit", "report", "receipts", "vectors", "book", "loop", "till", "terminal", "tap", "serve", "play", "check-till", "check-terminal"]
 USAGE = f"Usage: zvt [{'|'.join(COMMANDS)}]"
 TILL, TERMINAL = ["till", "--port", "1"], ["terminal", "--port", "1"]
 # Words that make no command, and what is said of them.
@@ -51,6 +51,7 @@ REFUSED = [
     ("tap --listen 1", "error: the following required arguments were not provided:\n  --to <ADDRESS>\n"),
     ("tap", "error: the following required arguments were not provided:\n  --listen <ADDRESS>\n  --to <ADDRESS>\n"),
     ("tap --listen 1 --to h:2 --connections=x", "error: invalid value 'x' for '--connections <N>': invalid digit found in string\n"),
+    ("serve --port 1 --terminal h:2 --book b", "error: the following required arguments were not provided:\n  --token-file <FILE>\n"),
     ("play --port=65536", "error: invalid value '65536' for '--port <PORT>': 65536 is not in 0..=65535\n"),
     ("play --till", "error: a value is required for '--till <FILE>' but none was supplied\n"),
     ("check-till x.trace", "error: the following required arguments were not provided:\n  --listen <PORT>\n"),

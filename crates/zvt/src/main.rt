@@ -20,10 +20,12 @@ mod play;
 mod progress;
 mod reports;
 mod screen;
+mod serve;
 mod settings;
 mod tap;
 mod text_blocks;
 mod till;
+mod token;
 mod trace_file;
 mod waiting;
 
@@ -133,6 +135,7 @@ fn execute(rt: &HostRuntime, chosen: &Choice<'_>) -> Result<u8, Exit>
         Choice::Till(options) => till::till(rt, options),
         Choice::Terminal(options) => ends::terminal(rt, options),
         Choice::Tap(options) => tap::tap(rt, options),
+        Choice::Serve(options) => serve::serve(rt, options),
         Choice::Play(options) => play::play(rt, options),
         Choice::CheckTill(options) => check::till(rt, options),
         Choice::CheckTerminal(options) => check::terminal(rt, options),

@@ -9,7 +9,7 @@ use zvt_bcd::Currency;
 use zvt_runs::{config_of, currency_of, password_of, result_code};
 use zvt_term::{Card, Extras, Receipts, Verdict};
 use zvt_till::{Rules, TillSettings};
-use zvt_tool::{TerminalOptions, TillOptions};
+use zvt_tool::{ServeOptions, TerminalOptions, TillOptions};
 
 /// Returns the settings that the words name, with the default for each missing word. Reports the first wrong word, and
 /// returns `None` then.
@@ -34,6 +34,30 @@ pub fn settings(rt: &HostRuntime, options: &TillOptions<'_>) -> io::Result<Optio
             close_by_completion: options.close_by_completion,
             reversal_by_receipt: options.reversal_by_receipt,
         },
+    }))
+}
+
+/// Returns the settings of a service that the words name, with the default for each missing word. Reports the first
+/// wrong word, and returns `None` then.
+pub fn service_settings(
+    rt: &HostRuntime,
+    options: &ServeOptions<'_>,
+) -> io::Result<Option<TillSettings>> {
+    let default = TillSettings::default();
+    let Some(password) = password(rt, default.password, options.password)? else {
+        return Ok(None);
+    };
+    let Some(config) = config(rt, default.config, options.config)? else {
+        return Ok(None);
+    };
+    let Some(currency) = currency(rt, default.currency, options.currency)? else {
+        return Ok(None);
+    };
+    Ok(Some(TillSettings {
+        password,
+        config,
+        currency,
+        ..default
     }))
 }
 

@@ -9,7 +9,7 @@ pub const FILES: &str = "The files to read, in order; standard input if there is
 
 /// The names of the commands, as the usage line lists them.
 pub const NAMES: &str =
-    "show|join|normalise|audit|report|receipts|vectors|book|loop|till|terminal|tap|play|check-till|check-terminal";
+    "show|join|normalise|audit|report|receipts|vectors|book|loop|till|terminal|tap|serve|play|check-till|check-terminal";
 
 /// The text after the list of commands.
 pub const MORE: &str = "\
