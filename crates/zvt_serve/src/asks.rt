@@ -14,13 +14,16 @@ use zvt_kept::Note;
 use zvt_service::{Service, Ungiven};
 use zvt_text::Text;
 use zvt_till::Order;
-use zvt_web::{Ask, Guards, Refusal, Request, ask_of};
+use zvt_web::page::{PAGE, SCRIPT, STYLE};
+use zvt_web::{Ask, Guards, Kind, Refusal, Request, ask_of};
 
 /// What a request came to.
 #[derive(Drop)]
 pub(crate) enum Reaction {
     Answer(Answer),
     Decline(Refusal),
+    /// Send a file of the page.
+    File(Kind, &'static str),
     /// Answer when the order with the request's key ends.
     Wait,
     /// React again later. Nothing was recorded.
@@ -55,7 +58,7 @@ pub(crate) struct Desk<'s, 'b, D: Device, B> {
     pub(crate) line: Line,
     pub(crate) log: EventLog,
     /// The number of orders whose ends are in the log.
-    told: usize,
+    reported: usize,
     /// No more orders are taken.
     pub(crate) is_stopping: bool,
 }
@@ -67,14 +70,14 @@ impl<'s, 'b, D: Device, B: BookLines> Desk<'s, 'b, D, B> {
         book: &'b mut B,
         line: Line,
     ) -> Desk<'s, 'b, D, B> {
-        let told = service.orders().len();
+        let reported = service.orders().len();
         Desk {
             alloc,
             service,
             book,
             line,
             log: EventLog::new(alloc),
-            told,
+            reported,
             is_stopping: false,
         }
     }
@@ -125,7 +128,9 @@ impl<'s, 'b, D: Device, B: BookLines> Desk<'s, 'b, D, B> {
                 first: self.log.first_after(*after),
             }),
             Ask::Stop => self.stop(),
-            Ask::Page | Ask::Script | Ask::Style => Ok(Reaction::Decline(Refusal::NotFound)),
+            Ask::Page => Ok(Reaction::File(Kind::Html, PAGE)),
+            Ask::Script => Ok(Reaction::File(Kind::Script, SCRIPT)),
+            Ask::Style => Ok(Reaction::File(Kind::Style, STYLE)),
         }
     }
 
@@ -277,8 +282,8 @@ impl<'s, 'b, D: Device, B: BookLines> Desk<'s, 'b, D, B> {
     }
 
     /// Adds an event for each order that has ended since the last call. If an allocation fails, events are missing.
-    pub(crate) fn tell_ends(&mut self) {
-        for at in self.told..self.service.orders().len() {
+    pub(crate) fn report_ends(&mut self) {
+        for at in self.reported..self.service.orders().len() {
             let Some(past) = self.service.orders().get(at) else {
                 return;
             };
@@ -286,7 +291,7 @@ impl<'s, 'b, D: Device, B: BookLines> Desk<'s, 'b, D, B> {
                 return;
             }
             let event = end_of(self.alloc, past);
-            self.told = at + 1;
+            self.reported = at + 1;
             if let Ok(Some(line)) = event {
                 let _ = self.log.add(line);
             }

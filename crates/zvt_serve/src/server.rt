@@ -146,7 +146,7 @@ impl Server {
         }
         desk.line
             .turn(rt, self.alloc, &self.poll, desk.service, now);
-        desk.tell_ends();
+        desk.report_ends();
         self.clients.turn(rt, guards, desk, now);
     }
 

@@ -131,7 +131,7 @@ impl Client {
         self.settle(clock, guards, desk, now)
             && self.receive(now)
             && self.serve(clock, guards, desk, now)
-            && self.tell(desk, now)
+            && self.send_events(desk, now)
             && self.send(now)
             && self.stays(now)
     }

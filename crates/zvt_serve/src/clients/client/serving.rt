@@ -154,6 +154,7 @@ impl Client {
         match reaction {
             Reaction::Answer(answer) => self.answer(&answer),
             Reaction::Decline(refusal) => self.decline(refusal),
+            Reaction::File(kind, text) => self.send_file(kind, text),
             Reaction::Hold => {
                 self.waiting = Waiting::Registration(request);
                 true
@@ -180,6 +181,11 @@ impl Client {
         self.connection.decline(&mut self.output, refusal).is_ok()
     }
 
+    fn send_file(&mut self, kind: Kind, text: &str) -> bool {
+        let reply = Reply::new(200, kind, text.as_bytes());
+        self.connection.answer(&mut self.output, &reply).is_ok()
+    }
+
     fn trouble(&mut self, trouble: Trouble) -> bool {
         match Answer::of_trouble(self.alloc, trouble) {
             Ok(answer) => self.answer(&answer),
@@ -198,7 +204,7 @@ impl Client {
     }
 
     /// Sends a listener the events that it has not been sent, and a sign of life from time to time.
-    pub(super) fn tell<D: Device, B: BookLines>(
+    pub(super) fn send_events<D: Device, B: BookLines>(
         &mut self,
         desk: &Desk<'_, '_, D, B>,
         now: Moment,
