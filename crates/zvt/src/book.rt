@@ -1,26 +1,23 @@
 //! Books of tills in files.
 ghost use Rattle.zvt_journal.specs.Files.{file_may_leave, file_seen};
-ghost use Rattle.std.specs.Prelude.{◌≡◌, length};
-ghost use Rattle.zvt_journal.specs.Text.{IsSettled, recovered};
+ghost use Rattle.zvt_journal.specs.Text.{IsSettled};
 
+use crate::book_till::BookTill;
 use crate::exit::Exit;
 use crate::finish::finish_run;
 use crate::inputs::{Input, write_sum};
 use crate::output::Output;
 use crate::reports::{report, report_on};
-use std::alloc::Global;
 use std::io::ErrorKind;
 use std::{fs, io, str};
 use zvt_audit::Sum;
 use zvt_bcd::Currency;
 use zvt_io::Over;
 use zvt_journal::{FileDevice, FileFailure, JournalFileError, Opened, open_file, read_book};
-use zvt_kept::{KeptTill, PastOrders, Recovered, RecoveryError, Reopened, Unbegun, recover};
+use zvt_kept::{PastOrders, Recovered, RecoveryError, recover};
 use zvt_runs::{EndFault, write_book, write_records};
-use zvt_serve::{BookLines, BookUnread};
-use zvt_service::Service;
 use zvt_settle::SettlingTill;
-use zvt_text::{Form, Text};
+use zvt_text::Form;
 use zvt_till::{Rules, Till, TillSettings};
 use zvt_tool::statuses::{DONE, MEMORY, WORDS, of_device, of_file_error, of_recovery};
 use zvt_trace::next_line;
@@ -213,7 +210,7 @@ fn report_left(rt: &HostRuntime, path: &str, records: usize) -> io::Result<()> {
 
 /// Restores a till from these records, with the notes of its payments. It has the book's currency and its rule on
 /// reversals. A book without a record restores a new till.
-fn recovered_from(rt: &HostRuntime, text: &[u8]) -> Result<Recovered, RecoveryError> {
+pub fn recovered_from(rt: &HostRuntime, text: &[u8]) -> Result<Recovered, RecoveryError> {
     if text.is_empty() {
         return Ok(Recovered {
             till: SettlingTill::new(rt.alloc(), Till::with_defaults(rt.alloc())),
@@ -262,76 +259,6 @@ fn currency_named(digits: &[u8]) -> Option<Currency> {
             Err(_) => None,
         },
         Err(_) => None,
-    }
-}
-
-/// A till that keeps its book in a file.
-pub trait BookTill: Drop + Sized {
-    /// Begins a book on a device without records.
-    fn begin(
-        alloc: Global,
-        settings: &TillSettings,
-        device: FileDevice,
-    ) -> Result<Self, Unbegun<FileDevice>>
-        requires { IsSettled (file_seen device) (file_may_leave device) 0 };
-
-    /// Restores the till from the records of a device at rest.
-    fn restore(
-        alloc: Global,
-        settings: &TillSettings,
-        device: FileDevice,
-        text: &[u8],
-    ) -> Result<Self, RecoveryError>
-        requires text { recovered (file_seen device) ≡ text.now }
-        requires settled { IsSettled (file_seen device) (file_may_leave device) (length text.now) };
-
-    fn till(&self) -> &Till;
-}
-
-impl BookTill for KeptTill<FileDevice> {
-    fn begin(
-        alloc: Global,
-        settings: &TillSettings,
-        device: FileDevice,
-    ) -> Result<KeptTill<FileDevice>, Unbegun<FileDevice>> {
-        KeptTill::create(alloc, settings, device)
-    }
-
-    fn restore(
-        alloc: Global,
-        settings: &TillSettings,
-        device: FileDevice,
-        text: &[u8],
-    ) -> Result<KeptTill<FileDevice>, RecoveryError> {
-        let Reopened { till, .. } = KeptTill::open(alloc, settings, device, text)?;
-        Ok(till)
-    }
-
-    fn till(&self) -> &Till {
-        KeptTill::till(self)
-    }
-}
-
-impl BookTill for Service<FileDevice> {
-    fn begin(
-        alloc: Global,
-        settings: &TillSettings,
-        device: FileDevice,
-    ) -> Result<Service<FileDevice>, Unbegun<FileDevice>> {
-        Service::create(alloc, settings, device)
-    }
-
-    fn restore(
-        alloc: Global,
-        settings: &TillSettings,
-        device: FileDevice,
-        text: &[u8],
-    ) -> Result<Service<FileDevice>, RecoveryError> {
-        Service::open(alloc, settings, device, text)
-    }
-
-    fn till(&self) -> &Till {
-        Service::till(self)
     }
 }
 
@@ -465,30 +392,4 @@ fn unrecovered(rt: &HostRuntime, path: &str, error: RecoveryError) -> io::Result
         error => report_on(rt, path, &error)?,
     }
     Ok(of_recovery(error))
-}
-
-/// The book of a service, which is read anew for each client that asks for it.
-#[derive(Clone, Copy)]
-pub struct ServedBook<'a> {
-    pub rt: &'a HostRuntime,
-    pub path: &'a str,
-}
-
-impl BookLines for ServedBook<'_> {
-    fn put(&mut self, alloc: Global, text: &mut Text) -> Result<(), BookUnread> {
-        let Ok(records) = read_book(self.rt, alloc, self.path).answer else {
-            return Err(BookUnread);
-        };
-        let Ok(recovered) = recovered_from(self.rt, records.as_slice()) else {
-            return Err(BookUnread);
-        };
-        let mut lines = Over::new(Vec::new(alloc));
-        if write_book(alloc, Form::Json, &recovered, &mut lines).is_err() {
-            return Err(BookUnread);
-        }
-        match text.word(lines.inner.as_slice()) {
-            Ok(()) => Ok(()),
-            Err(_) => Err(BookUnread),
-        }
-    }
 }

@@ -6,6 +6,7 @@ ghost use Rattle.clap.specs.Words.{Row, Text};
 ghost use Rattle.zvt_tool.specs.Chosen.{IsChoiceOf};
 
 mod book;
+mod book_till;
 mod check;
 mod connections;
 mod ends;

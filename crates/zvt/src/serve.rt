@@ -1,16 +1,20 @@
 //! A till as an HTTP service, as the command line asks for it.
 
-use crate::book::{self, ServedBook};
+use crate::book::{self, recovered_from};
 use crate::exit::Exit;
 use crate::reports::{SOME_SECONDS, report_failed, report_invalid};
 use crate::settings::service_settings;
 use crate::token::token;
+use std::alloc::Global;
 use std::io;
 use std::net::{SocketAddr, ToSocketAddrs};
-use zvt_journal::FileDevice;
-use zvt_serve::{Server, ServerOptions, TerminalOptions};
+use zvt_io::Over;
+use zvt_journal::{FileDevice, read_book};
+use zvt_runs::write_book;
+use zvt_serve::{BookLines, BookUnread, Server, ServerOptions, TerminalOptions};
 use zvt_service::Service;
 use zvt_stream::LineForm;
+use zvt_text::{Form, Text};
 use zvt_till::TillSettings;
 use zvt_tool::ServeOptions;
 use zvt_tool::options::lengths_by;
@@ -168,4 +172,30 @@ fn report_numbers(rt: &HostRuntime, options: &ServeOptions<'_>) -> io::Result<bo
         return Ok(true);
     }
     Ok(false)
+}
+
+/// The book of a service, which is read anew for each client that asks for it.
+#[derive(Clone, Copy)]
+struct ServedBook<'a> {
+    rt: &'a HostRuntime,
+    path: &'a str,
+}
+
+impl BookLines for ServedBook<'_> {
+    fn put(&mut self, alloc: Global, text: &mut Text) -> Result<(), BookUnread> {
+        let Ok(records) = read_book(self.rt, alloc, self.path).answer else {
+            return Err(BookUnread);
+        };
+        let Ok(recovered) = recovered_from(self.rt, records.as_slice()) else {
+            return Err(BookUnread);
+        };
+        let mut lines = Over::new(Vec::new(alloc));
+        if write_book(alloc, Form::Json, &recovered, &mut lines).is_err() {
+            return Err(BookUnread);
+        }
+        match text.word(lines.inner.as_slice()) {
+            Ok(()) => Ok(()),
+            Err(_) => Err(BookUnread),
+        }
+    }
 }
