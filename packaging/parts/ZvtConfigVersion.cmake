@@ -1,0 +1,11 @@
+# A version fits if it is the one that is asked for or a later one with the same first number, before 1.0 with the same first two.
+set(PACKAGE_VERSION "@VERSION@")
+string(REGEX REPLACE "^(0[.][0-9]+|[1-9][0-9]*).*" "\\1" _zvt_own "${PACKAGE_VERSION}")
+string(REGEX REPLACE "^(0[.][0-9]+|[1-9][0-9]*).*" "\\1" _zvt_wanted "${PACKAGE_FIND_VERSION}")
+set(PACKAGE_VERSION_COMPATIBLE FALSE)
+if(NOT PACKAGE_FIND_VERSION OR (_zvt_own STREQUAL _zvt_wanted AND NOT PACKAGE_VERSION VERSION_LESS PACKAGE_FIND_VERSION))
+  set(PACKAGE_VERSION_COMPATIBLE TRUE)
+endif()
+if(PACKAGE_VERSION VERSION_EQUAL PACKAGE_FIND_VERSION)
+  set(PACKAGE_VERSION_EXACT TRUE)
+endif()
