@@ -1,8 +1,10 @@
 #!/usr/bin/env python3
 """Sends `zvt serve` the requests that shops send: repeats, two at once, the wrong key, no terminal, a broken line, slow clients.
+Looks too whether the till asks by itself.
 
 serve_cases.py [PROGRAM]: the program of `rt ci` without a word. The status is 1 where an answer is not as expected.
 """
+import json
 import pathlib
 import socket
 import sys
@@ -11,11 +13,35 @@ import threading
 import time
 
 from common import Checks, program
-from serving import Service, Terminal
+from serving import APPROVED, PAY, REPEAT, Service, Terminal
 
 ZVT = program(sys.argv[1:])
 KEY = "sale-2026-{:06d}".format
 check = Checks()
+
+
+class Repeating(Terminal):
+    """A terminal that repeats its last transaction when it is asked, after a moment. If it breaks the line in a payment, it has
+    taken the payment."""
+
+    def __init__(self, **how):
+        self.last, self.asks = None, 0
+        super().__init__(**how)
+
+    def hear(self, line, message):
+        if message[:2] == REPEAT:
+            self.asks += 1
+            time.sleep(self.delay)
+            line.sendall(b"\x80\x00\x00" + self.last + b"\x06\x0f\x00" if self.last else b"\x84\x83\x00")
+            return True
+        if message[:2] != PAY:
+            return super().hear(line, message)
+        self.orders.append(message)
+        self.count += 1
+        words = dict(amount=message[4:10].hex(), trace=self.count, receipt=self.count)
+        self.last = bytes.fromhex(APPROVED.format(size=len(bytes.fromhex(APPROVED.format(size=0, **words))) - 3, **words))
+        line.sendall(b"\x80\x00\x00" + (b"" if self.breaks else self.last + b"\x06\x0f\x00"))
+        return not self.breaks
 
 
 def together(*calls):
@@ -80,6 +106,34 @@ def with_a_terminal(service, port):
     terminal.stop()
 
 
+def settled_in(service):
+    """What the book says of unclear orders that an answer of the terminal settled."""
+    lines = [json.loads(line) for line in service.call("GET", "/book").text.splitlines()]
+    return [line["settled"]["name"] for line in lines if "settled" in line]
+
+
+def asked_by_itself(folder):
+    folder.mkdir()
+    terminal = Repeating(delay=0.5)
+    service = Service(ZVT, folder, terminal.port)
+    check("an order that comes while the till asks is held", (summary(service.pay(KEY(1), 500)), terminal.asks), ((200, "paid"), 1))
+    terminal.breaks = True
+    check("a line that breaks after the terminal took a payment", summary(service.pay(KEY(2), 600)), (424, "unclear"))
+    terminal.breaks = False
+    check("the next order waits for the new line", summary(service.until((200,), KEY(3), 700)), (200, "paid"))
+    check("on which the till asked once, before it", (terminal.asks, settled_in(service)), (2, ["Paid"]))
+    check("the answer for the key stays", summary(service.call("GET", f"/payments/{KEY(2)}")), (424, "unclear"))
+    earlier = terminal
+    earlier.stop()
+    terminal = Repeating(port=earlier.port)
+    terminal.last, terminal.count = earlier.last, earlier.count
+    check("on a line to which an answer is of no use", summary(service.until((200,), KEY(4), 800)), (200, "paid"))
+    check("it does not ask", terminal.asks, 0)
+    service.call("POST", "/stop")
+    check("it stops", service.ended(), 0)
+    terminal.stop()
+
+
 def refused(service):
     for name, wanted, how in [
         ("no token", (401, "token"), dict(Authorization=None)),
@@ -129,6 +183,7 @@ def slow_clients(service, port):
 
 def main():
     with tempfile.TemporaryDirectory() as folder:
+        asked_by_itself(pathlib.Path(folder) / "asked")
         service, port = without_a_terminal(pathlib.Path(folder))
         with_a_terminal(service, port)
         refused(service)

@@ -218,11 +218,9 @@ impl<'s, 'b, D: Device, B: BookLines> Desk<'s, 'b, D, B> {
         if self.is_stopping {
             return self.refused(Trouble::Stopping);
         }
-        match self.service.ask(self.alloc, &timed_note(clock)) {
-            Ok(message) => {
-                self.line.send(self.service, &message, now);
-                self.accepted()
-            }
+        let note = timed_note(clock);
+        match self.line.ask(self.alloc, self.service, &note, now) {
+            Ok(()) => self.accepted(),
             Err(why) => self.refused(trouble_of(Ungiven::Till(why))),
         }
     }

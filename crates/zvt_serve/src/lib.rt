@@ -5,6 +5,7 @@
 #![tactic(auto)]
 
 mod answers;
+mod asking;
 mod asks;
 mod clients;
 mod clock;
@@ -18,6 +19,7 @@ mod status;
 mod troubles;
 
 pub use answers::{order_name, outcome_name, outcome_status, put_answer, put_end};
+pub use asking::asks_by_itself;
 pub use asks::{BookLines, BookUnread};
 pub use deciding::{Decision, Known, Standing};
 pub use line::TerminalOptions;

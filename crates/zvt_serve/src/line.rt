@@ -2,6 +2,7 @@
 //! the system's.
 ghost use Rattle.std.specs.Prelude.{◌≤◌, length};
 
+use crate::asking::asks_by_itself;
 use crate::clock::{Moment, timed_note};
 use mio::net::TcpStream;
 use mio::{Interest, Poll, Token};
@@ -14,7 +15,7 @@ use zvt_journal::Device;
 use zvt_kept::Note;
 use zvt_service::{Service, Ungiven};
 use zvt_stream::{FedView, LineForm, Machine, Stream};
-use zvt_till::Order;
+use zvt_till::{Order, Untaken};
 
 /// The token under which the line is registered.
 pub(crate) const TERMINAL: Token = Token(1);
@@ -50,6 +51,8 @@ struct Connection {
     is_up: bool,
     /// Whether there may be something to read.
     is_ready: bool,
+    /// Whether the till has registered on it.
+    has_registered: bool,
     /// When it began to connect, was last heard, or was last sent something.
     active: Moment,
 }
@@ -149,7 +152,8 @@ impl Line {
         }
     }
 
-    /// Connects if it is time to, reads what the terminal sent, and gives up a line that is silent for too long.
+    /// Connects if it is time to, reads what the terminal sent, lets the till ask once it has registered, and gives up
+    /// a line that is silent for too long.
     pub(crate) fn turn<R: Net + Clock, D: Device>(
         &mut self,
         rt: &R,
@@ -172,6 +176,7 @@ impl Line {
                 if connection.is_ready {
                     self.read(alloc, service, now);
                 }
+                self.ask_by_itself(rt, alloc, service, now);
                 self.tend(service, now);
             }
         }
@@ -201,6 +206,7 @@ impl Line {
             stream: Stream::reading(alloc, self.options.form),
             is_up: false,
             is_ready: false,
+            has_registered: false,
             active: now,
         });
     }
@@ -278,6 +284,24 @@ impl Line {
         is_sound
     }
 
+    /// Lets the till ask its terminal when it has registered, if an answer can be of use.
+    fn ask_by_itself<C: Clock, D: Device>(
+        &mut self,
+        clock: &C,
+        alloc: Global,
+        service: &mut Service<D>,
+        now: Moment,
+    ) {
+        let Some(connection) = &mut self.connection else {
+            return;
+        };
+        let was_registered = connection.has_registered;
+        connection.has_registered = was_registered || service.till().registered();
+        if asks_by_itself(was_registered, service.settling()) {
+            let _ = self.ask(alloc, service, &timed_note(clock), now);
+        }
+    }
+
     /// Gives up a line on which the terminal is silent while an order or an ask is running, and one on which the till
     /// could not be registered.
     fn tend<D: Device>(&mut self, service: &mut Service<D>, now: Moment) {
@@ -316,8 +340,24 @@ impl Line {
         Ok(())
     }
 
+    /// Lets the till ask its terminal for the last transaction. If the message cannot be sent at once, the line is lost.
+    pub(crate) fn ask<D: Device>(
+        &mut self,
+        alloc: Global,
+        service: &mut Service<D>,
+        note: &Note,
+        now: Moment,
+    ) -> Result<(), Untaken> {
+        let message = match service.ask(alloc, note) {
+            Ok(message) => message,
+            Err(why) => return Err(why),
+        };
+        self.send(service, &message, now);
+        Ok(())
+    }
+
     /// Sends a message of the till. If that cannot be done at once, the line is lost.
-    pub(crate) fn send<D: Device>(&mut self, service: &mut Service<D>, bytes: &[u8], now: Moment) {
+    fn send<D: Device>(&mut self, service: &mut Service<D>, bytes: &[u8], now: Moment) {
         let was_sent = match &mut self.connection {
             Some(connection) => {
                 connection.active = now;

@@ -7,7 +7,7 @@ use thiserror::Error;
 use zvt_apdu::ApduView;
 use zvt_journal::Device;
 use zvt_kept::{KeptTill, Note, PastOrder, PastOrders, RecoveryError, Reopened, Unbegun};
-use zvt_settle::Asker;
+use zvt_settle::{Asker, SettlingTill};
 use zvt_stream::{Answers, Machine};
 use zvt_till::{BookFault, Keeper, Order, Outgoing, Till, TillSettings, Untaken};
 
@@ -120,6 +120,7 @@ impl<D: Device> Service<D> {
     ghost use Rattle.zvt_kept.specs.KeptTill.{has_failed};
     ghost use Rattle.zvt_kept.specs.PastOrders.{first_noted};
     ghost use Rattle.zvt_service.specs.Service.{Asks, Connects, Gives, Loses, holder};
+    ghost use Rattle.zvt_settle.specs.Inside.{settling_of, till_inside};
 
     /// Returns the till.
     pub fn till(&self) -> &Till
@@ -199,6 +200,14 @@ impl<D: Device> Service<D> {
             return Ok(());
         }
         self.kept.connect(alloc)
+    }
+
+    /// Returns the till that settles: what was settled, and which unclear order an answer of the terminal can settle.
+    pub fn settling(&self) -> &SettlingTill
+        ensures till { till_inside result.now ≡ self.now.kept.standing.till }
+        ensures settling { settling_of result.now ≡ self.now.kept.standing.settling }
+    {
+        self.kept.settling()
     }
 
     /// Notifies the till that its line was lost, if it is up.
