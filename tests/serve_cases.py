@@ -1,12 +1,14 @@
 #!/usr/bin/env python3
 """Sends `zvt serve` the requests that shops send: repeats, two at once, the wrong key, no terminal, a broken line, slow clients.
-Looks too whether the till asks by itself.
+Looks too whether the till asks by itself, and at its trace and its events.
 
 serve_cases.py [PROGRAM]: the program of `rt ci` without a word. The status is 1 where an answer is not as expected.
 """
+import http.client
 import json
 import pathlib
 import socket
+import subprocess
 import sys
 import tempfile
 import threading
@@ -25,10 +27,11 @@ class Repeating(Terminal):
     taken the payment."""
 
     def __init__(self, **how):
-        self.last, self.asks = None, 0
+        self.last, self.asks, self.messages = None, 0, 0
         super().__init__(**how)
 
     def hear(self, line, message):
+        self.messages += 1
         if message[:2] == REPEAT:
             self.asks += 1
             time.sleep(self.delay)
@@ -134,6 +137,103 @@ def asked_by_itself(folder):
     terminal.stop()
 
 
+class Listening(threading.Thread):
+    """A client that reads the events of a service, from the oldest that is kept."""
+
+    def __init__(self, service):
+        super().__init__(daemon=True)
+        self.line = http.client.HTTPConnection("127.0.0.1", service.port, timeout=30)
+        self.line.request("GET", "/events", headers={"Authorization": f"Bearer {service.token}", "Last-Event-ID": "0"})
+        self.lines = []
+        self.start()
+
+    def run(self):
+        try:
+            for line in self.line.getresponse():
+                if line.startswith(b"data: "):
+                    self.lines.append(line[6:].decode())
+        except (OSError, http.client.HTTPException):
+            pass
+
+    def heard(self, wanted, seconds=30):
+        """Whether an event with these members has come, or comes in that time."""
+        end = time.monotonic() + seconds
+        while time.monotonic() < end:
+            if any(wanted.items() <= json.loads(line).items() for line in list(self.lines)):
+                return True
+            time.sleep(0.02)
+        return False
+
+
+class Told(Service):
+    """A service whose reports on standard error are kept, and whose files cannot grow beyond a limit."""
+
+    def __init__(self, *words, limit=None):
+        self.limit = limit
+        super().__init__(*words)
+
+    def start(self):
+        if self.limit:
+            self.words = ["sh", "-c", 'trap "" XFSZ; exec prlimit --fsize="$0" "$@"', self.limit, *self.words]
+        super().start()
+
+    def ended(self, seconds=60):
+        self.said = self.process.communicate(timeout=seconds)[1].decode()
+        return self.process.returncode
+
+
+def listened(folder):
+    """Messages among the events, and the trace of the line."""
+    folder.mkdir()
+    trace, terminal = folder / "line.trace", Repeating(delay=0.2)
+    service = Service(ZVT, folder, terminal.port, "--trace", trace, "--no-times")
+    listening = Listening(service)
+    service.pay(KEY(1), 500)
+    terminal.breaks = True
+    service.pay(KEY(2), 600)
+    terminal.breaks = False
+    service.until((200,), KEY(3), 700)
+    check("a listener is told of the last end", listening.heard({"key": KEY(3), "outcome": "paid"}), True)
+    service.call("POST", "/stop")
+    check("it stops", service.ended(), 0)
+    shown = subprocess.run([ZVT, "show", "--json", trace], capture_output=True, text=True).stdout.splitlines(True)
+    ends = [json.loads(line) for line in listening.lines if line.startswith('{"key"')]
+    check("the ends of orders", [(end["key"], end["outcome"]) for end in ends], [(KEY(1), "paid"), (KEY(2), "unclear"), (KEY(3), "paid")])
+    messages = [line for line in listening.lines if not line.startswith('{"key"')]
+    check("the messages are those of the trace, but for the last loss", messages, shown[:-1])
+    check("among them the lost line", [json.loads(line).get("lost") for line in shown].count(True), 2)
+    lines = len(trace.read_text().splitlines())
+    service = Service(ZVT, folder, terminal.port, "--trace", trace)
+    service.until((200,), KEY(4), 800)
+    service.call("POST", "/stop")
+    service.ended()
+    added = trace.read_text().splitlines()[lines:]
+    check("a trace goes behind what the file has, with time marks", (added[0], added[1][:3], added[2][:6]), ("!", "#@ ", "> 0600"))
+    terminal.stop()
+    return trace.read_text()
+
+
+def broken_traces(folder, sound):
+    """Traces that cannot be written, from the beginning or in an order. `sound` is the trace of a sound service."""
+    folder.mkdir()
+    terminal = Repeating()
+    wrong = [ZVT, "serve", "--port", "0", "--terminal", f"127.0.0.1:{terminal.port}", "--book", folder / "day.book", "--token-file", folder / "till.token", "--trace"]
+    for name, trace, status, words in [("a trace in no folder", folder / "none" / "line.trace", 4, "cannot create the trace file"), ("the book as trace", folder / "day.book", 2, "name the same file")]:
+        ended = subprocess.run([*wrong, trace], capture_output=True, text=True, timeout=60)
+        check(name, (ended.returncode, ended.stdout, words in ended.stderr), (status, "", True))
+    service = Told(ZVT, folder, terminal.port, "--trace", "/dev/full")
+    check("a trace on a full device ends the service", (service.ended(), "cannot write the trace file" in service.said), (4, True))
+    check("and nothing is sent", terminal.messages, 0)
+    before = sound.index("\n", sound.index("> 0601")) + 1
+    trace = folder / "line.trace"
+    trace.write_text("# a long trace\n" * 20_000)
+    service = Told(ZVT, folder, terminal.port, "--trace", trace, "--no-times", limit=trace.stat().st_size + len("!\n") + before + 20)
+    check("a trace that ends in an order makes the order unclear", summary(service.pay(KEY(1), 500)), (424, "unclear"))
+    check("and ends the service", (service.ended(), "cannot write the trace file" in service.said, f"'{KEY(1)}': the order with this key is unclear" in service.said), (4, True, True))
+    check("the trace ends with a whole line", trace.read_text()[-1], "\n")
+    terminal.stop()
+
+
 def refused(service):
     for name, wanted, how in [
         ("no token", (401, "token"), dict(Authorization=None)),
@@ -184,6 +284,7 @@ def slow_clients(service, port):
 def main():
     with tempfile.TemporaryDirectory() as folder:
         asked_by_itself(pathlib.Path(folder) / "asked")
+        broken_traces(pathlib.Path(folder) / "broken", listened(pathlib.Path(folder) / "listened"))
         service, port = without_a_terminal(pathlib.Path(folder))
         with_a_terminal(service, port)
         refused(service)

@@ -22,6 +22,7 @@ mod progress;
 mod reports;
 mod screen;
 mod serve;
+mod service_host;
 mod settings;
 mod tap;
 mod text_blocks;
