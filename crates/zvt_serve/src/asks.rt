@@ -142,7 +142,7 @@ impl<'s, 'b, D: Device, B: BookLines> Desk<'s, 'b, D, B> {
                 currency,
                 ..
             } => payment(self.service.till(), *amount, *currency),
-            Ask::Reverse { payment, .. } => reversal(self.service, payment),
+            Ask::Reverse { key, payment } => reversal(self.service, key, payment),
             _ => Ok(Order::CloseDay),
         }
     }
