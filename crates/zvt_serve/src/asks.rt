@@ -136,7 +136,7 @@ impl<'s, 'h, D: Device, H: Host> Desk<'s, 'h, D, H> {
                 currency,
                 ..
             } => payment(self.service.till(), *amount, *currency),
-            Ask::Reverse { payment, .. } => reversal(self.service, payment),
+            Ask::Reverse { key, payment } => reversal(self.service, key, payment),
             _ => Ok(Order::CloseDay),
         }
     }

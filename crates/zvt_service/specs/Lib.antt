@@ -1,2 +1,3 @@
+pub mod Books
 pub mod Lives
 pub mod Service
