@@ -1,6 +1,6 @@
 #!/usr/bin/env python3
 """Sends `zvt serve` the requests that shops send: repeats, two at once, the wrong key, no terminal, a broken line, slow clients.
-Looks too whether the till asks by itself, and at its trace and its events.
+Looks too whether the till asks by itself, and at its trace, its events and earlier books.
 
 serve_cases.py [PROGRAM]: the program of `rt ci` without a word. The status is 1 where an answer is not as expected.
 """
@@ -234,6 +234,42 @@ def broken_traces(folder, sound):
     terminal.stop()
 
 
+def earlier_books(folder):
+    """A service that is given the books of earlier days."""
+    for day in ("one", "two", "three", "wrong"):
+        (folder / day).mkdir(parents=True)
+    terminal = Repeating()
+    first = Service(ZVT, folder / "one", terminal.port)
+    paid = first.until((200,), KEY(1), 500)
+    first.call("POST", "/stop")
+    first.ended()
+    second = Service(ZVT, folder / "two", terminal.port, "--earlier", first.book)
+    again = second.pay(KEY(1), 500)
+    check("a key of yesterday's book has yesterday's answer", (again.status, again.text, again.headers.get("Idempotent-Replayed")), (200, paid.text, "true"))
+    check("another amount under it", summary(second.pay(KEY(1), 501)), (422, "key_reused"))
+    check("looked up", second.call("GET", f"/payments/{KEY(1)}").text, paid.text)
+    back = second.call("POST", f"/payments/{KEY(1)}/reversal", KEY(2))
+    check("a payment of yesterday's book cannot be taken back", (summary(back), back.json["sent"]), ((409, "other_book"), False))
+    check("a new key is paid", summary(second.until((200,), KEY(3), 700)), (200, "paid"))
+    check("the book of the day has that alone", [json.loads(line).get("total") for line in second.call("GET", "/book").text.splitlines()][-1], 700)
+    second.call("POST", "/stop")
+    second.ended()
+    third = Service(ZVT, folder / "three", terminal.port, "--earlier", first.book, "--earlier", second.book)
+    check("two earlier books", [summary(third.pay(KEY(at), amount)) for at, amount in [(1, 500), (3, 700)]], [(200, "paid")] * 2)
+    check("and nothing is sent for their keys", len(terminal.orders), 2)
+    third.call("POST", "/stop")
+    third.ended()
+    wrong, messages = folder / "wrong", terminal.messages
+    (wrong / "no.book").write_text("day one\n")
+    (wrong / "damaged.book").write_text(first.book.read_text().replace("# pay 500", "# pay 5"))
+    words = [ZVT, "serve", "--port", "0", "--terminal", f"127.0.0.1:{terminal.port}", "--book", wrong / "day.book", "--token-file", wrong / "till.token"]
+    for name, file, status in [("a missing earlier book", "none.book", 4), ("an earlier book that is none", "no.book", 3), ("a damaged earlier book", "damaged.book", 3), ("the book as an earlier one", "day.book", 2)]:
+        ended = subprocess.run([*words, "--earlier", first.book, "--earlier", wrong / file], capture_output=True, text=True, timeout=60)
+        check(name, (ended.returncode, ended.stdout, f"zvt: '{wrong / file}': " in ended.stderr), (status, "", True))
+    check("no book is begun, and nothing is sent", ((wrong / "day.book").exists(), terminal.messages), (False, messages))
+    terminal.stop()
+
+
 def refused(service):
     for name, wanted, how in [
         ("no token", (401, "token"), dict(Authorization=None)),
@@ -285,6 +321,7 @@ def main():
     with tempfile.TemporaryDirectory() as folder:
         asked_by_itself(pathlib.Path(folder) / "asked")
         broken_traces(pathlib.Path(folder) / "broken", listened(pathlib.Path(folder) / "listened"))
+        earlier_books(pathlib.Path(folder) / "earlier")
         service, port = without_a_terminal(pathlib.Path(folder))
         with_a_terminal(service, port)
         refused(service)

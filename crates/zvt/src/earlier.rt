@@ -9,11 +9,7 @@ use zvt_tool::statuses::WORDS;
 
 /// Reads the earlier books of a service, each once. Reports the first file that is the book of the service, or that
 /// cannot be read as a book, and returns the exit status then.
-pub fn earlier_books(
-    rt: &HostRuntime,
-    book: &str,
-    paths: &[&str],
-) -> Result<Vec<Recovered>, Exit> {
+pub fn earlier_books(rt: &HostRuntime, book: &str, paths: &[&str]) -> Result<Vec<Recovered>, Exit> {
     let mut books = Vec::new(rt.alloc());
     for path in paths {
         if report_earlier(rt, book, path)? {

@@ -9,6 +9,7 @@ mod book;
 mod book_till;
 mod check;
 mod connections;
+mod earlier;
 mod ends;
 mod exit;
 mod finish;

@@ -1,6 +1,7 @@
 //! A till as an HTTP service, as the command line asks for it.
 
 use crate::book;
+use crate::earlier::earlier_books;
 use crate::exit::Exit;
 use crate::one_file::report_one_file;
 use crate::reports::{SOME_SECONDS, report_failed, report_invalid, report_on};
@@ -50,7 +51,7 @@ pub fn serve(rt: &HostRuntime, options: &ServeOptions<'_>) -> Result<u8, Exit> {
     serve_at(rt, options, addresses, &settings, token.as_slice())
 }
 
-/// Opens the book and the trace, listens, and serves.
+/// Opens the books and the trace, listens, and serves.
 fn serve_at(
     rt: &HostRuntime,
     options: &ServeOptions<'_>,
@@ -61,7 +62,7 @@ fn serve_at(
     if report_one_file(rt, Some(options.book), options.trace)? {
         return Ok(WORDS);
     }
-    let mut service: Service<FileDevice> = book::open(rt, options.book, settings)?;
+    let mut service = opened(rt, options, settings)?;
     let trace = trace_file::opened(rt, options.trace)?;
     let bound = Server::bind(rt, rt.alloc(), &server_options(options, addresses));
     let mut server = match bound {
@@ -80,6 +81,20 @@ fn serve_at(
         token,
     )?;
     Ok(mend_after(rt, options.trace, trace.as_ref(), status)?)
+}
+
+/// Opens the book of the service, which knows the earlier books.
+fn opened(
+    rt: &HostRuntime,
+    options: &ServeOptions<'_>,
+    settings: &TillSettings,
+) -> Result<Service<FileDevice>, Exit> {
+    let earlier = earlier_books(rt, options.book, options.earlier.as_slice())?;
+    let mut service: Service<FileDevice> = book::open(rt, options.book, settings)?;
+    for book in earlier {
+        service.remember(book)?;
+    }
+    Ok(service)
 }
 
 /// Serves with this till until a client stops it, or the trace cannot be written.
