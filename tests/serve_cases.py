@@ -125,7 +125,8 @@ def asked_by_itself(folder):
     terminal.breaks = False
     check("the next order waits for the new line", summary(service.until((200,), KEY(3), 700)), (200, "paid"))
     check("on which the till asked once, before it", (terminal.asks, settled_in(service)), (2, ["Paid"]))
-    check("the answer for the key stays", summary(service.call("GET", f"/payments/{KEY(2)}")), (424, "unclear"))
+    found = service.call("GET", f"/payments/{KEY(2)}")
+    check("the answer for the key is what was settled", (summary(found), found.json.get("settled")), ((200, "paid"), True))
     earlier = terminal
     earlier.stop()
     terminal = Repeating(port=earlier.port)

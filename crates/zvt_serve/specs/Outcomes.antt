@@ -13,6 +13,7 @@ use Rattle.zvt_kept.specs.Notes.{reference_in}
 use Rattle.zvt_service.specs.declared.service.Ungiven.{Ungiven}
 use Rattle.zvt_service.specs.declared.service.Ungiven.TheVariants.{Known, Memory as NoMemory, Till as TillRefused}
 use Rattle.zvt_service.specs.Books.{OrderIn}
+use Rattle.zvt_service.specs.Fates.{fate_as}
 use Rattle.zvt_serve.specs.Answers.{answer_text, event_text, outcome_status}
 use Rattle.zvt_serve.specs.Troubles.{trouble_body, trouble_status}
 use Rattle.zvt_serve.specs.declared.outcomes.Answer.{Answer}
@@ -72,12 +73,12 @@ reversal known (Some found) = unless_earlier (found.is_own || known) (reversal_b
 abbrev pub TellsTrouble : Trouble → Answer → Type 0
 TellsTrouble trouble answer = (answer.status ≡ trouble_status trouble) × (answer.body ≡ trouble_body trouble)
 
--- how the order with this key ended, or that it is running
+-- what became of the order with this key, or that it is running
 abbrev pub TellsOrder : (key : List ℕ) → OrderIn → Answer → Type 0
 TellsOrder key found answer =
     let past = found.past in
-    (answer.status ≡ outcome_status past.outcome)
-    × (answer.body ≡ answer_text (Some key) past.order past.outcome (is_reversed found.entries past.outcome))
+    (answer.status ≡ outcome_status found.fate)
+    × (answer.body ≡ answer_text (Some key) past.order found.fate (is_reversed found.entries past.outcome))
 
 abbrev pub TellsRunning : (failed : Bool) → Option Answer → Type 0
 TellsRunning true answer = IsSomeAnd answer (TellsTrouble Interrupted)
@@ -87,16 +88,29 @@ abbrev pub TellsEnd : (key : List ℕ) → (failed : Bool) → OrderIn → (outc
 TellsEnd key failed found None answer = TellsRunning failed answer
 TellsEnd key failed found (Some outcome) answer = IsSomeAnd answer (TellsOrder key found)
 
--- The answer for a key is how its own order ended. There is none yet while the order is running, unless the book failed.
+-- The answer for a key is what became of its own order. There is none yet while the order is running, unless the book failed.
 abbrev pub TellsKey : (key : List ℕ) → (failed : Bool) → Option OrderIn → Option Answer → Type 0
 TellsKey key failed None answer = IsSomeAnd answer (TellsTrouble UnknownKey)
 TellsKey key failed (Some found) answer = TellsEnd key failed found found.past.outcome answer
+
+abbrev pub TellsUnended : (key : List ℕ) → (failed : Bool) → OrderIn → Answer → Type 0
+TellsUnended key true found answer = TellsTrouble Interrupted answer
+TellsUnended key false found answer = TellsOrder key found answer
+
+abbrev pub TellsSoFar : (key : List ℕ) → (failed : Bool) → OrderIn → (outcome : Option Outcome) → Answer → Type 0
+TellsSoFar key failed found None answer = TellsUnended key failed found answer
+TellsSoFar key failed found (Some outcome) answer = TellsOrder key found answer
+
+-- The answer for a key now. Once the book failed, nobody learns from this till how a running order ends.
+abbrev pub TellsNow : (key : List ℕ) → (failed : Bool) → Option OrderIn → Answer → Type 0
+TellsNow key failed None answer = TellsTrouble UnknownKey answer
+TellsNow key failed (Some found) answer = TellsSoFar key failed found found.past.outcome answer
 
 -- ---- events
 
 -- what listeners are told of an order that ended, if it has a key
 abbrev pub event_of : PastOrder → Option (List ℕ)
-event_of past = option_map (λ key. event_text key past.outcome) (reference_in past.note)
+event_of past = option_map (λ key. event_text key (fate_as None past.outcome)) (reference_in past.note)
 
 -- ---- orders that were not given
 

@@ -3,7 +3,7 @@ ghost use Rattle.std.specs.Prelude.{◌≡◌, IfOk, option_map};
 ghost use Rattle.zvt_kept.specs.KeptTill.{has_failed};
 ghost use Rattle.zvt_service.specs.Books.{order_found};
 ghost use Rattle.zvt_service.specs.Service.{found_by, is_known, state_of};
-ghost use Rattle.zvt_serve.specs.Outcomes.{TellsKey, TellsOrder, is_reversed, paid_trace, payment, place_in, reversal};
+ghost use Rattle.zvt_serve.specs.Outcomes.{TellsKey, TellsNow, TellsOrder, is_reversed, paid_trace, payment, place_in, reversal};
 ghost use Rattle.zvt_serve.specs.Outcomes.{event_of, is_taken_back, trouble_of};
 
 use crate::answers::{outcome_status, put_answer, put_end};
@@ -12,7 +12,7 @@ use std::alloc::{AllocError, Global};
 use zvt_bcd::{Amount, Currency, Trace};
 use zvt_journal::Device;
 use zvt_kept::PastOrder;
-use zvt_service::{Found, Service, Ungiven};
+use zvt_service::{Fate, Found, Service, Ungiven};
 use zvt_text::Text;
 use zvt_till::{BookFault, Entry, Order, Outcome, Till, Untaken};
 
@@ -59,8 +59,8 @@ impl Answer {
     }
 }
 
-/// Returns the answer for a key: how its order ended, or that nobody learns it any more. Returns `None` while the order
-/// is running.
+/// Returns the answer for a key: what became of its order, or that nobody learns it any more. Returns `None` while the
+/// order is running.
 pub(crate) fn answer_for<D: Device>(
     alloc: Global,
     service: &Service<D>,
@@ -80,19 +80,22 @@ pub(crate) fn answer_for<D: Device>(
     Ok(None)
 }
 
-/// Returns the answer for a key now: how its order ended, that it is running, or that nobody learns its end any more.
+/// Returns the answer for a key now: what became of its order, that it is running, or that nobody learns its end any
+/// more.
 pub(crate) fn look<D: Device>(
     alloc: Global,
     service: &Service<D>,
     key: &[u8],
-) -> Result<Answer, AllocError> {
-    if let Some(answer) = answer_for(alloc, service, key)? {
-        return Ok(answer);
+) -> Result<Answer, AllocError>
+    ensures { IfOk result (TellsNow key.now (has_failed service.now.kept) (found_by key.now service.now)) }
+{
+    let Some(found) = service.find(key) else {
+        return Answer::of_trouble(alloc, Trouble::UnknownKey);
+    };
+    if found.past.outcome.is_none() && service.has_failed() {
+        return Answer::of_trouble(alloc, Trouble::Interrupted);
     }
-    match service.find(key) {
-        Some(found) => answer_of(alloc, key, &found),
-        None => Answer::of_trouble(alloc, Trouble::UnknownKey),
-    }
+    answer_of(alloc, key, &found)
 }
 
 /// Returns the answer for the order with this key.
@@ -102,10 +105,10 @@ fn answer_of(alloc: Global, key: &[u8], found: &Found<'_>) -> Result<Answer, All
     let past = found.past;
     let mut body = Text::new(alloc);
     let reversed = is_reversed(found.entries, &past.outcome);
-    put_answer(&mut body, Some(key), &past.order, &past.outcome, reversed)?;
+    put_answer(&mut body, Some(key), &past.order, &found.fate, reversed)?;
     Ok(Answer {
         location: location_of(alloc, key, past)?,
-        ..Answer::new(outcome_status(&past.outcome), body)
+        ..Answer::new(outcome_status(&found.fate), body)
     })
 }
 
@@ -168,7 +171,7 @@ pub(crate) fn end_of(alloc: Global, past: &PastOrder) -> Result<Option<Vec<u8>>,
         return Ok(None);
     };
     let mut text = Text::new(alloc);
-    put_end(&mut text, key, &past.outcome)?;
+    put_end(&mut text, key, &Fate::unsettled(past.outcome))?;
     Ok(Some(Vec::from_slice(alloc, text.bytes())?))
 }
 

@@ -89,7 +89,7 @@ is_earlier key earlier = is_some (in_earlier key earlier)
 pub known_is : {D : Type 0} (key : List ℕ) (s : ServiceValue D) → is_known key s ≡ (any_has key (records s) || is_earlier key s.earlier)
 known_is key s = either (first_noted key s.past) ∙ ap (λ b. b || is_earlier key s.earlier) (noted_any key s.past)
   where
-    either : (found : Option PastOrder) → is_some (option_or (option_map (order_in (both_in s.kept.standing) true) found) (in_earlier key s.earlier)) ≡ (is_some found || is_earlier key s.earlier)
+    either : (found : Option PastOrder) → is_some (option_or (option_map (order_in key true (both_in s.kept.standing) s.past) found) (in_earlier key s.earlier)) ≡ (is_some found || is_earlier key s.earlier)
     either None = refl
     either (Some one) = refl
 
@@ -115,7 +115,7 @@ keyless : {D : Type 0} (old : ServiceValue D) (one : Kept) → ((key : List ℕ)
 keyless old one none key has = absurd (true≢false (sym has ∙ none key))
 
 pub order_fresh : {D : Type 0} (order : Order) (note : List ℕ) (old : ServiceValue D) → is_held note old ≡ false → IsFresh old (ordered order note)
-order_fresh {D} order note old free key has = by_reference (reference_in note) free has
+order_fresh order note old free key has = by_reference (reference_in note) free has
   where
     by_reference : (found : Option (List ℕ)) → is_any_known found old ≡ false → elim found [ None ↦ false | Some x ↦ bytes_eq x key ] ≡ true → is_known key old ≡ false
     by_reference None held noted = absurd cc

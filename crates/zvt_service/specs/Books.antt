@@ -8,24 +8,27 @@ use Rattle.zvt_kept.specs.declared.past_orders.PastOrder.{PastOrder}
 use Rattle.zvt_kept.specs.declared.recovery.Recovered.{Recovered}
 use Rattle.zvt_kept.specs.PastOrders.{first_noted}
 use Rattle.zvt_service.specs.declared.books.Found.{Found}
+use Rattle.zvt_service.specs.declared.fates.Fate.{Fate}
+use Rattle.zvt_service.specs.Fates.{fate_of}
 
--- an order, and the entries of its book
+-- an order, what is known of it, and the entries of its book
 pub record OrderIn : Type 0 where
   pub past : PastOrder
+  pub fate : Fate
   pub entries : List Entry
   -- whether its book is the service's own
   pub is_own : Bool
 
 abbrev pub order_found : Found → OrderIn
-order_found found = record { past = found.past.now; entries = found.entries.now; is_own = found.is_own }
+order_found found = record { past = found.past.now; fate = found.fate; entries = found.entries.now; is_own = found.is_own }
 
--- an order of a book with this till
-abbrev pub order_in : Both → (is_own : Bool) → PastOrder → OrderIn
-order_in both is_own one = record { past = one; entries = both.till.book; is_own = is_own }
+-- an order of a book with this till and these orders, the first with this key
+abbrev pub order_in : (key : List ℕ) → (is_own : Bool) → Both → List PastOrder → PastOrder → OrderIn
+order_in key is_own both past one = record { past = one; fate = fate_of key past both.settling.settled one; entries = both.till.book; is_own = is_own }
 
 -- the order with this key in a book with this till and these orders
 abbrev pub in_book : (key : List ℕ) → (is_own : Bool) → Both → List PastOrder → Option OrderIn
-in_book key is_own both past = option_map (order_in both is_own) (first_noted key past)
+in_book key is_own both past = option_map (order_in key is_own both past) (first_noted key past)
 
 abbrev pub has_key : (key : List ℕ) → Recovered → Bool
 has_key key book = is_some (first_noted key book.orders)

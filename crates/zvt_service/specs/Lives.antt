@@ -18,6 +18,8 @@ use Rattle.zvt_kept.specs.KeptTill.{IsKept, both_in, has_failed}
 use Rattle.zvt_kept.specs.Notes.{reference_in}
 use Rattle.zvt_kept.specs.PastOrders.{StaysAs, first_noted, runs}
 use Rattle.zvt_service.specs.declared.service.Ungiven.{Ungiven}
+use Rattle.zvt_service.specs.declared.fates.Fate.TheVariants.{Settled}
+use Rattle.zvt_service.specs.declared.fates.Verdict.{Verdict}
 use Rattle.zvt_service.specs.Books.{OrderIn}
 use Rattle.zvt_service.specs.Service.{Asks, Connects, Gives, Hears, IsServed, Loses, ServiceValue, found_by, is_known, state_of}
 
@@ -117,3 +119,10 @@ module _ {D : Type 0} (seen : D → List ℕ) (may_leave : D → List ℕ → Ty
       (moves : List Move) (old new : ServiceValue D) (sent : List (List ℕ)) (key : List ℕ) (one : OrderIn)
       → IsWhole old → Lives moves old new sent → found_by key old ≡ Some one
       → (later : OrderIn) × (found_by key new ≡ Some later) × StaysIn one later
+
+  -- A verdict, once there, stays: what was settled about a payment is told again, whatever happens later.
+  abbrev pub VerdictsStay : Type 0
+  VerdictsStay =
+      (moves : List Move) (old new : ServiceValue D) (sent : List (List ℕ)) (key : List ℕ) (one : OrderIn) (verdict : Verdict)
+      → IsWhole old → Lives moves old new sent → found_by key old ≡ Some one → one.fate ≡ Settled verdict
+      → (later : OrderIn) × (found_by key new ≡ Some later) × (later.fate ≡ Settled verdict)

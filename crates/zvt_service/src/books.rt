@@ -1,13 +1,15 @@
 //! The orders of the books that a service knows.
 
+use crate::fates::Fate;
 use zvt_kept::{PastOrder, PastOrders};
 use zvt_settle::SettlingTill;
 use zvt_till::Entry;
 
-/// An order that was found by its key, and the entries of its book.
+/// An order that was found by its key, what is known of it, and the entries of its book.
 #[derive(Clone, Copy)]
 pub struct Found<'s> {
     pub past: &'s PastOrder,
+    pub fate: Fate,
     pub entries: &'s [Entry],
     /// Whether its book is the service's own. The other books are of earlier days.
     pub is_own: bool,
@@ -30,6 +32,7 @@ impl<'s> Found<'s> {
         let past = orders.find(key)?;
         Some(Found {
             past,
+            fate: Fate::of(past, key, orders.as_slice(), till.settled()),
             entries: till.till().book(),
             is_own,
         })

@@ -6,9 +6,11 @@
 #![tactic(auto)]
 
 mod books;
+mod fates;
 mod laws;
 mod service;
 
 pub use books::Found;
-pub use laws::{answers_stay, paid_is_booked, sent_once};
+pub use fates::{Fate, Verdict};
+pub use laws::{answers_stay, paid_is_booked, sent_once, verdicts_stay};
 pub use service::{Service, Ungiven};

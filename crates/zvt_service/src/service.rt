@@ -127,7 +127,7 @@ impl<D: Device + Drop> Service<D> {
 }
 
 impl<D: Device> Service<D> {
-    ghost use Rattle.std.specs.Prelude.{◌++◌, OnErr, OnOk, is_some, option_map};
+    ghost use Rattle.std.specs.Prelude.{◌∷◌, ◌++◌, [], OnErr, OnOk, option_map};
     ghost use Rattle.zvt_kept.specs.KeptTill.{has_failed};
     ghost use Rattle.zvt_service.specs.Books.{order_found};
     ghost use Rattle.zvt_service.specs.Service.{Asks, Connects, Gives, Loses, found_by, is_held};
