@@ -1,5 +1,4 @@
 //! What the program does for its service: it reads the book, records the line, and puts messages into JSON.
-ghost use Rattle.zvt_trace.specs.TraceEvent.{HasItsBytes};
 
 use crate::book::recovered_from;
 use crate::trace_file::{ReportedTrace, reported};
