@@ -1,21 +1,50 @@
 #!/usr/bin/env python3
 """Sends `zvt serve` the requests that shops send: repeats, two at once, the wrong key, no terminal, a broken line, slow clients.
+Looks too whether the till asks by itself, and at its trace, its events and earlier books.
 
 serve_cases.py [PROGRAM]: the program of `rt ci` without a word. The status is 1 where an answer is not as expected.
 """
+import http.client
+import json
 import pathlib
 import socket
+import subprocess
 import sys
 import tempfile
 import threading
 import time
 
 from common import Checks, program
-from serving import Service, Terminal
+from serving import APPROVED, PAY, REPEAT, Service, Terminal
 
 ZVT = program(sys.argv[1:])
 KEY = "sale-2026-{:06d}".format
 check = Checks()
+
+
+class Repeating(Terminal):
+    """A terminal that repeats its last transaction when it is asked, after a moment. If it breaks the line in a payment, it has
+    taken the payment."""
+
+    def __init__(self, **how):
+        self.last, self.asks, self.messages = None, 0, 0
+        super().__init__(**how)
+
+    def hear(self, line, message):
+        self.messages += 1
+        if message[:2] == REPEAT:
+            self.asks += 1
+            time.sleep(self.delay)
+            line.sendall(b"\x80\x00\x00" + self.last + b"\x06\x0f\x00" if self.last else b"\x84\x83\x00")
+            return True
+        if message[:2] != PAY:
+            return super().hear(line, message)
+        self.orders.append(message)
+        self.count += 1
+        words = dict(amount=message[4:10].hex(), trace=self.count, receipt=self.count)
+        self.last = bytes.fromhex(APPROVED.format(size=len(bytes.fromhex(APPROVED.format(size=0, **words))) - 3, **words))
+        line.sendall(b"\x80\x00\x00" + (b"" if self.breaks else self.last + b"\x06\x0f\x00"))
+        return not self.breaks
 
 
 def together(*calls):
@@ -80,6 +109,168 @@ def with_a_terminal(service, port):
     terminal.stop()
 
 
+def settled_in(service):
+    """What the book says of unclear orders that an answer of the terminal settled."""
+    lines = [json.loads(line) for line in service.call("GET", "/book").text.splitlines()]
+    return [line["settled"]["name"] for line in lines if "settled" in line]
+
+
+def asked_by_itself(folder):
+    folder.mkdir()
+    terminal = Repeating(delay=0.5)
+    service = Service(ZVT, folder, terminal.port)
+    check("an order that comes while the till asks is held", (summary(service.pay(KEY(1), 500)), terminal.asks), ((200, "paid"), 1))
+    terminal.breaks = True
+    check("a line that breaks after the terminal took a payment", summary(service.pay(KEY(2), 600)), (424, "unclear"))
+    terminal.breaks = False
+    check("the next order waits for the new line", summary(service.until((200,), KEY(3), 700)), (200, "paid"))
+    check("on which the till asked once, before it", (terminal.asks, settled_in(service)), (2, ["Paid"]))
+    found = service.call("GET", f"/payments/{KEY(2)}")
+    check("the answer for the key is what was settled", (summary(found), found.json.get("settled")), ((200, "paid"), True))
+    earlier = terminal
+    earlier.stop()
+    terminal = Repeating(port=earlier.port)
+    terminal.last, terminal.count = earlier.last, earlier.count
+    check("on a line to which an answer is of no use", summary(service.until((200,), KEY(4), 800)), (200, "paid"))
+    check("it does not ask", terminal.asks, 0)
+    service.call("POST", "/stop")
+    check("it stops", service.ended(), 0)
+    terminal.stop()
+
+
+class Listening(threading.Thread):
+    """A client that reads the events of a service, from the oldest that is kept."""
+
+    def __init__(self, service):
+        super().__init__(daemon=True)
+        self.line = http.client.HTTPConnection("127.0.0.1", service.port, timeout=30)
+        self.line.request("GET", "/events", headers={"Authorization": f"Bearer {service.token}", "Last-Event-ID": "0"})
+        self.lines = []
+        self.start()
+
+    def run(self):
+        try:
+            for line in self.line.getresponse():
+                if line.startswith(b"data: "):
+                    self.lines.append(line[6:].decode())
+        except (OSError, http.client.HTTPException):
+            pass
+
+    def heard(self, wanted, seconds=30):
+        """Whether an event with these members has come, or comes in that time."""
+        end = time.monotonic() + seconds
+        while time.monotonic() < end:
+            if any(wanted.items() <= json.loads(line).items() for line in list(self.lines)):
+                return True
+            time.sleep(0.02)
+        return False
+
+
+class Told(Service):
+    """A service whose reports on standard error are kept, and whose files cannot grow beyond a limit."""
+
+    def __init__(self, *words, limit=None):
+        self.limit = limit
+        super().__init__(*words)
+
+    def start(self):
+        if self.limit:
+            self.words = ["sh", "-c", 'trap "" XFSZ; exec prlimit --fsize="$0" "$@"', self.limit, *self.words]
+        super().start()
+
+    def ended(self, seconds=60):
+        self.said = self.process.communicate(timeout=seconds)[1].decode()
+        return self.process.returncode
+
+
+def listened(folder):
+    """Messages among the events, and the trace of the line."""
+    folder.mkdir()
+    trace, terminal = folder / "line.trace", Repeating(delay=0.2)
+    service = Service(ZVT, folder, terminal.port, "--trace", trace, "--no-times")
+    listening = Listening(service)
+    service.pay(KEY(1), 500)
+    terminal.breaks = True
+    service.pay(KEY(2), 600)
+    terminal.breaks = False
+    service.until((200,), KEY(3), 700)
+    check("a listener is told of the last end", listening.heard({"key": KEY(3), "outcome": "paid"}), True)
+    service.call("POST", "/stop")
+    check("it stops", service.ended(), 0)
+    shown = subprocess.run([ZVT, "show", "--json", trace], capture_output=True, text=True).stdout.splitlines(True)
+    ends = [json.loads(line) for line in listening.lines if line.startswith('{"key"')]
+    check("the ends of orders", [(end["key"], end["outcome"]) for end in ends], [(KEY(1), "paid"), (KEY(2), "unclear"), (KEY(3), "paid")])
+    messages = [line for line in listening.lines if not line.startswith('{"key"')]
+    check("the messages are those of the trace, but for the last loss", messages, shown[:-1])
+    check("among them the lost line", [json.loads(line).get("lost") for line in shown].count(True), 2)
+    lines = len(trace.read_text().splitlines())
+    service = Service(ZVT, folder, terminal.port, "--trace", trace)
+    service.until((200,), KEY(4), 800)
+    service.call("POST", "/stop")
+    service.ended()
+    added = trace.read_text().splitlines()[lines:]
+    check("a trace goes behind what the file has, with time marks", (added[0], added[1][:3], added[2][:6]), ("!", "#@ ", "> 0600"))
+    terminal.stop()
+    return trace.read_text()
+
+
+def broken_traces(folder, sound):
+    """Traces that cannot be written, from the beginning or in an order. `sound` is the trace of a sound service."""
+    folder.mkdir()
+    terminal = Repeating()
+    wrong = [ZVT, "serve", "--port", "0", "--terminal", f"127.0.0.1:{terminal.port}", "--book", folder / "day.book", "--token-file", folder / "till.token", "--trace"]
+    for name, trace, status, words in [("a trace in no folder", folder / "none" / "line.trace", 4, "cannot create the trace file"), ("the book as trace", folder / "day.book", 2, "name the same file")]:
+        ended = subprocess.run([*wrong, trace], capture_output=True, text=True, timeout=60)
+        check(name, (ended.returncode, ended.stdout, words in ended.stderr), (status, "", True))
+    service = Told(ZVT, folder, terminal.port, "--trace", "/dev/full")
+    check("a trace on a full device ends the service", (service.ended(), "cannot write the trace file" in service.said), (4, True))
+    check("and nothing is sent", terminal.messages, 0)
+    before = sound.index("\n", sound.index("> 0601")) + 1
+    trace = folder / "line.trace"
+    trace.write_text("# a long trace\n" * 20_000)
+    service = Told(ZVT, folder, terminal.port, "--trace", trace, "--no-times", limit=trace.stat().st_size + len("!\n") + before + 20)
+    check("a trace that ends in an order makes the order unclear", summary(service.pay(KEY(1), 500)), (424, "unclear"))
+    check("and ends the service", (service.ended(), "cannot write the trace file" in service.said, f"'{KEY(1)}': the order with this key is unclear" in service.said), (4, True, True))
+    check("the trace ends with a whole line", trace.read_text()[-1], "\n")
+    terminal.stop()
+
+
+def earlier_books(folder):
+    """A service that is given the books of earlier days."""
+    for day in ("one", "two", "three", "wrong"):
+        (folder / day).mkdir(parents=True)
+    terminal = Repeating()
+    first = Service(ZVT, folder / "one", terminal.port)
+    paid = first.until((200,), KEY(1), 500)
+    first.call("POST", "/stop")
+    first.ended()
+    second = Service(ZVT, folder / "two", terminal.port, "--earlier", first.book)
+    again = second.pay(KEY(1), 500)
+    check("a key of yesterday's book has yesterday's answer", (again.status, again.text, again.headers.get("Idempotent-Replayed")), (200, paid.text, "true"))
+    check("another amount under it", summary(second.pay(KEY(1), 501)), (422, "key_reused"))
+    check("looked up", second.call("GET", f"/payments/{KEY(1)}").text, paid.text)
+    back = second.call("POST", f"/payments/{KEY(1)}/reversal", KEY(2))
+    check("a payment of yesterday's book cannot be taken back", (summary(back), back.json["sent"]), ((409, "other_book"), False))
+    check("a new key is paid", summary(second.until((200,), KEY(3), 700)), (200, "paid"))
+    check("the book of the day has that alone", [json.loads(line).get("total") for line in second.call("GET", "/book").text.splitlines()][-1], 700)
+    second.call("POST", "/stop")
+    second.ended()
+    third = Service(ZVT, folder / "three", terminal.port, "--earlier", first.book, "--earlier", second.book)
+    check("two earlier books", [summary(third.pay(KEY(at), amount)) for at, amount in [(1, 500), (3, 700)]], [(200, "paid")] * 2)
+    check("and nothing is sent for their keys", len(terminal.orders), 2)
+    third.call("POST", "/stop")
+    third.ended()
+    wrong, messages = folder / "wrong", terminal.messages
+    (wrong / "no.book").write_text("day one\n")
+    (wrong / "damaged.book").write_text(first.book.read_text().replace("# pay 500", "# pay 5"))
+    words = [ZVT, "serve", "--port", "0", "--terminal", f"127.0.0.1:{terminal.port}", "--book", wrong / "day.book", "--token-file", wrong / "till.token"]
+    for name, file, status in [("a missing earlier book", "none.book", 4), ("an earlier book that is none", "no.book", 3), ("a damaged earlier book", "damaged.book", 3), ("the book as an earlier one", "day.book", 2)]:
+        ended = subprocess.run([*words, "--earlier", first.book, "--earlier", wrong / file], capture_output=True, text=True, timeout=60)
+        check(name, (ended.returncode, ended.stdout, f"zvt: '{wrong / file}': " in ended.stderr), (status, "", True))
+    check("no book is begun, and nothing is sent", ((wrong / "day.book").exists(), terminal.messages), (False, messages))
+    terminal.stop()
+
+
 def refused(service):
     for name, wanted, how in [
         ("no token", (401, "token"), dict(Authorization=None)),
@@ -129,6 +320,9 @@ def slow_clients(service, port):
 
 def main():
     with tempfile.TemporaryDirectory() as folder:
+        asked_by_itself(pathlib.Path(folder) / "asked")
+        broken_traces(pathlib.Path(folder) / "broken", listened(pathlib.Path(folder) / "listened"))
+        earlier_books(pathlib.Path(folder) / "earlier")
         service, port = without_a_terminal(pathlib.Path(folder))
         with_a_terminal(service, port)
         refused(service)

@@ -371,7 +371,7 @@ fn is_full(error: &io::Error) -> bool {
 }
 
 /// Reports that a book cannot be read, and returns the exit status.
-fn unread(rt: &HostRuntime, path: &str, error: &JournalFileError) -> io::Result<u8> {
+pub fn unread(rt: &HostRuntime, path: &str, error: &JournalFileError) -> io::Result<u8> {
     match error {
         JournalFileError::NotAJournal => report_on(rt, path, NO_BOOK)?,
         _ => report_on(rt, path, error)?,
@@ -386,7 +386,7 @@ fn unopened(rt: &HostRuntime, path: &str, error: &JournalFileError) -> io::Resul
 }
 
 /// Reports that no till can be restored from the records of a book, and returns the exit status.
-fn unrecovered(rt: &HostRuntime, path: &str, error: RecoveryError) -> io::Result<u8> {
+pub fn unrecovered(rt: &HostRuntime, path: &str, error: RecoveryError) -> io::Result<u8> {
     match error {
         RecoveryError::Opening => report_on(rt, path, OTHER_BOOK)?,
         error => report_on(rt, path, &error)?,

@@ -1,5 +1,5 @@
 //! Finds out whether two names refer to the same file.
-use crate::reports::report;
+use crate::reports::{report, report_on};
 use std::fs::{self, Metadata};
 use std::io;
 use std::os::unix::fs::MetadataExt;
@@ -9,6 +9,19 @@ use std::path::Path;
 const BOOK_AND_TRACE: &str =
     "'--book' and '--trace' name the same file: a book holds nothing but the till's records, so \
 name another file for the trace";
+
+/// What is reported of a book that is also named as an earlier one.
+const BOOK_AND_EARLIER: &str =
+    "'--book' and '--earlier' both name this file: leave it out after '--earlier', or name another file for the book";
+
+/// Returns whether the book of a service would be the earlier book at this path, and reports it. Opens nothing.
+pub fn report_earlier(rt: &HostRuntime, book: &str, earlier: &str) -> io::Result<bool> {
+    let is_one = is_one_file(rt, book, earlier);
+    if is_one {
+        report_on(rt, earlier, BOOK_AND_EARLIER)?;
+    }
+    Ok(is_one)
+}
 
 /// Returns whether the book and the trace would be the same file, and reports it. Opens nothing.
 pub fn report_one_file(

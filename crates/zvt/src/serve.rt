@@ -1,21 +1,22 @@
 //! A till as an HTTP service, as the command line asks for it.
 
-use crate::book::{self, recovered_from};
+use crate::book;
+use crate::earlier::earlier_books;
 use crate::exit::Exit;
-use crate::reports::{SOME_SECONDS, report_failed, report_invalid};
+use crate::one_file::report_one_file;
+use crate::reports::{SOME_SECONDS, report_failed, report_invalid, report_on};
+use crate::service_host::ServiceHost;
 use crate::settings::service_settings;
 use crate::token::token;
-use std::alloc::Global;
-use std::io;
+use crate::trace_file::{self, mend_after, run_trace};
+use std::fs::File;
 use std::net::{SocketAddr, ToSocketAddrs};
-use zvt_io::Over;
-use zvt_journal::{FileDevice, read_book};
-use zvt_runs::write_book;
-use zvt_serve::{BookLines, BookUnread, Server, ServerOptions, TerminalOptions};
+use std::{io, str};
+use zvt_journal::FileDevice;
+use zvt_serve::{Server, ServerOptions, TerminalOptions};
 use zvt_service::Service;
 use zvt_stream::LineForm;
-use zvt_text::{Form, Text};
-use zvt_till::TillSettings;
+use zvt_till::{Outcome, TillSettings};
 use zvt_tool::ServeOptions;
 use zvt_tool::options::lengths_by;
 use zvt_tool::statuses::{DEVICE, DONE, WORDS};
@@ -23,6 +24,10 @@ use zvt_web::Guards;
 
 /// The most clients at a time.
 const MOST_CLIENTS: u16 = 1000;
+
+/// The report on the key of an order that was running when the service ended.
+const UNCLEAR: &str =
+    "the order with this key is unclear: look at the terminal's receipts before you send another";
 
 /// Where the service and its terminal are.
 #[derive(Clone, Copy)]
@@ -46,7 +51,7 @@ pub fn serve(rt: &HostRuntime, options: &ServeOptions<'_>) -> Result<u8, Exit> {
     serve_at(rt, options, addresses, &settings, token.as_slice())
 }
 
-/// Opens the book, listens, and serves.
+/// Opens the books and the trace, listens, and serves.
 fn serve_at(
     rt: &HostRuntime,
     options: &ServeOptions<'_>,
@@ -54,7 +59,11 @@ fn serve_at(
     settings: &TillSettings,
     token: &[u8],
 ) -> Result<u8, Exit> {
-    let mut service: Service<FileDevice> = book::open(rt, options.book, settings)?;
+    if report_one_file(rt, Some(options.book), options.trace)? {
+        return Ok(WORDS);
+    }
+    let mut service = opened(rt, options, settings)?;
+    let trace = trace_file::opened(rt, options.trace)?;
     let bound = Server::bind(rt, rt.alloc(), &server_options(options, addresses));
     let mut server = match bound {
         Ok(server) => server,
@@ -63,20 +72,66 @@ fn serve_at(
             return Ok(DEVICE);
         }
     };
+    let status = serve_with(
+        rt,
+        options,
+        &mut server,
+        &mut service,
+        trace.as_ref(),
+        token,
+    )?;
+    Ok(mend_after(rt, options.trace, trace.as_ref(), status)?)
+}
+
+/// Opens the book of the service, which knows the earlier books.
+fn opened(
+    rt: &HostRuntime,
+    options: &ServeOptions<'_>,
+    settings: &TillSettings,
+) -> Result<Service<FileDevice>, Exit> {
+    let earlier = earlier_books(rt, options.book, options.earlier.as_slice())?;
+    let mut service: Service<FileDevice> = book::open(rt, options.book, settings)?;
+    for book in earlier {
+        service.remember(book)?;
+    }
+    Ok(service)
+}
+
+/// Serves with this till until a client stops it, or the trace cannot be written.
+fn serve_with(
+    rt: &HostRuntime,
+    options: &ServeOptions<'_>,
+    server: &mut Server,
+    service: &mut Service<FileDevice>,
+    trace: Option<&File>,
+    token: &[u8],
+) -> io::Result<u8> {
     let address = server.address()?;
     let guards = guards(rt, options, address.port(), token)?;
+    let mut host = ServiceHost::new(rt, options.book, run_trace(trace, options.no_times))?;
     println!(rt; "serving at http://{address}")?;
-    let mut lines = ServedBook {
-        rt,
-        path: options.book,
-    };
-    match server.run(rt, &guards, &mut service, &mut lines) {
-        Ok(()) => Ok(DONE),
-        Err(error) => {
-            report_failed(rt, options.host, "the service ended", &error)?;
-            Ok(DEVICE)
-        }
+    if let Err(error) = server.run(rt, &guards, service, &mut host) {
+        report_failed(rt, options.host, "the service ended", &error)?;
+        return Ok(DEVICE);
     }
+    if host.lacks_line() {
+        report_last(rt, service)?;
+        return Ok(DEVICE);
+    }
+    Ok(DONE)
+}
+
+/// Reports the key of the last order if it is unclear how the order ended.
+fn report_last(rt: &HostRuntime, service: &Service<FileDevice>) -> io::Result<()> {
+    let Some(last) = service.orders().last() else {
+        return Ok(());
+    };
+    if let (Some(Outcome::Unclear(_)), Some(key)) = (&last.outcome, last.note.reference())
+        && let Ok(key) = str::from_utf8(key)
+    {
+        report_on(rt, key, UNCLEAR)?;
+    }
+    Ok(())
 }
 
 fn server_options(options: &ServeOptions<'_>, addresses: Addresses) -> ServerOptions {
@@ -89,6 +144,7 @@ fn server_options(options: &ServeOptions<'_>, addresses: Addresses) -> ServerOpt
                 passes: options.reads_on,
             },
             timeout: options.timeout,
+            asks: !options.no_ask,
         },
         clients: options.clients as usize,
     }
@@ -172,30 +228,4 @@ fn report_numbers(rt: &HostRuntime, options: &ServeOptions<'_>) -> io::Result<bo
         return Ok(true);
     }
     Ok(false)
-}
-
-/// The book of a service, which is read anew for each client that asks for it.
-#[derive(Clone, Copy)]
-struct ServedBook<'a> {
-    rt: &'a HostRuntime,
-    path: &'a str,
-}
-
-impl BookLines for ServedBook<'_> {
-    fn put(&mut self, alloc: Global, text: &mut Text) -> Result<(), BookUnread> {
-        let Ok(records) = read_book(self.rt, alloc, self.path).answer else {
-            return Err(BookUnread);
-        };
-        let Ok(recovered) = recovered_from(self.rt, records.as_slice()) else {
-            return Err(BookUnread);
-        };
-        let mut lines = Over::new(Vec::new(alloc));
-        if write_book(alloc, Form::Json, &recovered, &mut lines).is_err() {
-            return Err(BookUnread);
-        }
-        match text.word(lines.inner.as_slice()) {
-            Ok(()) => Ok(()),
-            Err(_) => Err(BookUnread),
-        }
-    }
 }

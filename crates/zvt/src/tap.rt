@@ -4,7 +4,7 @@ use crate::notes::{Counted, write_unfollowed};
 use crate::output::Output;
 use crate::reports::{report, report_invalid, report_tally};
 use crate::screen::Screen;
-use crate::trace_file;
+use crate::trace_file::{self, ReportedTrace};
 use crate::waiting::Waiting;
 use std::fmt::Display;
 use std::fs::File;
@@ -12,13 +12,12 @@ use std::io::{self, ErrorKind, Write};
 use std::net::TcpStream;
 use zvt_grammar::Lengths;
 use zvt_io::Over;
-use zvt_runs::Clocked;
 use zvt_runs::tcp::{SILENCE_SECONDS, connect, listen};
 use zvt_tap::{Found, SILENT_SECONDS, SocketTapped, TapFault, Tracing, new_log, tap_sockets};
 use zvt_tool::TapOptions;
 use zvt_tool::options::{connections_by, lengths_by};
 use zvt_tool::statuses::{BAD, DEVICE, DONE, MEMORY, WORDS};
-use zvt_trace::{Direction, Marking, Tally, TraceFault};
+use zvt_trace::{Direction, Tally, TraceFault};
 
 /// The file descriptor of standard output.
 const STANDARD_OUTPUT: i32 = 1;
@@ -59,11 +58,11 @@ impl<'a> Address<'a> {
     }
 }
 
-/// The file of a trace, whether its lines have time marks, and whether it failed and lines may go on without it.
+/// The file of a trace, whether its lines have no time marks, and whether it failed and lines may go on without it.
 #[derive(Drop)]
 struct TraceFile<'a> {
     file: Option<&'a File>,
-    marks_times: bool,
+    no_times: bool,
     required: bool,
     failed: bool,
 }
@@ -86,7 +85,7 @@ pub fn tap(rt: &HostRuntime, options: &TapOptions<'_>) -> Result<u8, Exit> {
     let file = trace_file::opened(rt, options.trace)?;
     let mut trace = TraceFile {
         file: file.as_ref(),
-        marks_times: !options.no_times,
+        no_times: options.no_times,
         required: options.trace_required,
         failed: false,
     };
@@ -191,16 +190,13 @@ fn tap_one<W: Write + Drop>(
     trace: &mut TraceFile<'_>,
     screen: &mut Screen<W>,
 ) -> u8 {
-    let device = match trace.file {
-        Some(file) => {
-            let file = Over::new(Noted {
-                rt,
-                file,
-                required: trace.required,
-            });
-            let times = trace.marks_times.then_some(Clocked { clock: rt });
-            Some(Marking::new(rt.alloc(), file, times))
-        }
+    let consequence = if trace.required {
+        "the line ends"
+    } else {
+        "the line goes on without it"
+    };
+    let device = match trace_file::run_trace(trace.file, trace.no_times) {
+        Some(trace) => Some(trace_file::reported(rt, trace, consequence)),
         None => None,
     };
     let Ok(tracing) = Tracing::new(rt.alloc(), device, trace.failed, trace.required) else {
@@ -211,44 +207,12 @@ fn tap_one<W: Write + Drop>(
     if failed { status.max(DEVICE) } else { status }
 }
 
-/// The device of a trace.
-type TraceDevice<'a> = Marking<Over<Noted<'a>>, Option<Clocked<'a, HostRuntime>>>;
-
-/// The file of a trace. A failed write is reported at once.
-#[derive(Drop)]
-struct Noted<'a> {
-    rt: &'a HostRuntime,
-    file: &'a File,
-    required: bool,
-}
-
-impl Write for Noted<'_> {
-    fn write(&mut self, bytes: &[u8]) -> io::Result<usize> {
-        let mut file = self.file;
-        let answer = file.write(bytes);
-        if let Err(error) = &answer {
-            let _ = if self.required {
-                eprintln!(self.rt; "zvt: cannot write the trace file, so the line ends: {error}")
-            } else {
-                eprintln!(self.rt;
-                    "zvt: cannot write the trace file, so the line goes on without it: {error}"
-                )
-            };
-        }
-        answer
-    }
-
-    fn flush(&mut self) -> io::Result<()> {
-        Ok(())
-    }
-}
-
 /// Passes on one line, and answers its exit status and whether its trace failed.
 fn tap_into<W: Write + Drop>(
     rt: &HostRuntime,
     line: &Line<'_>,
     waiting: &mut Waiting<'_>,
-    tracing: Tracing<TraceDevice<'_>>,
+    tracing: Tracing<ReportedTrace<'_>>,
     screen: &mut Screen<W>,
 ) -> (u8, bool) {
     let failed = tracing.failed;
@@ -350,7 +314,7 @@ fn why(error: Option<ErrorKind>) -> &'static str {
 /// Reports how much of a line is bad, and what of its text could not be written. Answers the exit status of that.
 fn report_found<W: Write + Drop>(
     rt: &HostRuntime,
-    found: Found<TraceDevice<'_>, Over<Output<W>>>,
+    found: Found<ReportedTrace<'_>, Over<Output<W>>>,
 ) -> u8 {
     let Found {
         shown,

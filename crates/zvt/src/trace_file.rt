@@ -5,9 +5,12 @@ use crate::exit::Exit;
 use crate::reports::{report_failed, report_on};
 use std::fs::{File, OpenOptions};
 use std::io::{self, Read, Seek, SeekFrom, Write};
+use zvt_io::Over;
+use zvt_runs::Clocked;
 use zvt_runs::tcp::RunTrace;
 use zvt_text::words::fits;
 use zvt_tool::statuses::{DEVICE, TRACE};
+use zvt_trace::Marking;
 
 /// The beginning of a journal's first line.
 const JOURNAL: [u8; 15] = *b"# zvt journal 1";
@@ -69,6 +72,51 @@ pub fn run_trace(file: Option<&File>, no_times: bool) -> Option<RunTrace<'_>>
         }),
         None => None,
     }
+}
+
+/// The device of a trace whose failed writes are reported at once.
+pub type ReportedTrace<'a> = Marking<Over<ReportedFile<'a>>, Option<Clocked<'a, HostRuntime>>>;
+
+/// The file of a trace. A failed write is reported at once.
+#[derive(Drop)]
+pub struct ReportedFile<'a> {
+    rt: &'a HostRuntime,
+    file: &'a File,
+    /// What follows from a failed write, for people.
+    consequence: &'static str,
+}
+
+impl Write for ReportedFile<'_> {
+    fn write(&mut self, bytes: &[u8]) -> io::Result<usize> {
+        let mut file = self.file;
+        let answer = file.write(bytes);
+        if let Err(error) = &answer {
+            let consequence = self.consequence;
+            let _ = eprintln!(self.rt;
+                "zvt: cannot write the trace file, so {consequence}: {error}"
+            );
+        }
+        answer
+    }
+
+    fn flush(&mut self) -> io::Result<()> {
+        Ok(())
+    }
+}
+
+/// Returns the device of a trace that reports a failed write at once, with its consequence.
+pub fn reported<'a>(
+    rt: &'a HostRuntime,
+    trace: RunTrace<'a>,
+    consequence: &'static str,
+) -> ReportedTrace<'a> {
+    let file = Over::new(ReportedFile {
+        rt,
+        file: trace.file,
+        consequence,
+    });
+    let times = trace.marks_times.then_some(Clocked { clock: rt });
+    Marking::new(rt.alloc(), file, times)
 }
 
 /// After a run that a device ended, removes an incomplete line from the end of its trace, so that the trace can be

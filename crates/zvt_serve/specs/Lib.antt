@@ -1,4 +1,5 @@
 pub mod Answers
+pub mod Asking
 pub mod Deciding
 pub mod Laws
 pub mod Outcomes

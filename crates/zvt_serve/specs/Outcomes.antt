@@ -1,5 +1,5 @@
 -- What clients are told about orders, and which orders they ask for.
-use Rattle.std.specs.Prelude.{◌≡◌, ◌==◌, ◌&&◌, ℕ, Bool, true, false, if◌then◌else◌, List, Option, Some, None, Result, Ok, Err, IsSomeAnd, option_map}
+use Rattle.std.specs.Prelude.{◌≡◌, ◌==◌, ◌&&◌, ◌||◌, ℕ, Bool, true, false, if◌then◌else◌, List, Option, Some, None, Result, Ok, Err, IsSomeAnd, option_map}
 use Rattle.std.specs.List.{list_any, position}
 use Rattle.zvt_till.specs.declared.entries.Entry.{Entry}
 use Rattle.zvt_till.specs.declared.keeper.BookFault.TheVariants.{Failed, NoSpace as NoRoom}
@@ -12,11 +12,13 @@ use Rattle.zvt_kept.specs.declared.past_orders.PastOrder.{PastOrder}
 use Rattle.zvt_kept.specs.Notes.{reference_in}
 use Rattle.zvt_service.specs.declared.service.Ungiven.{Ungiven}
 use Rattle.zvt_service.specs.declared.service.Ungiven.TheVariants.{Known, Memory as NoMemory, Till as TillRefused}
+use Rattle.zvt_service.specs.Books.{OrderIn}
+use Rattle.zvt_service.specs.Fates.{fate_as}
 use Rattle.zvt_serve.specs.Answers.{answer_text, event_text, outcome_status}
 use Rattle.zvt_serve.specs.Troubles.{trouble_body, trouble_status}
 use Rattle.zvt_serve.specs.declared.outcomes.Answer.{Answer}
 use Rattle.zvt_serve.specs.declared.troubles.Trouble.{Trouble}
-use Rattle.zvt_serve.specs.declared.troubles.Trouble.TheVariants.{Book, Interrupted, KeyReused, Memory, NoPayment, NoSpace, OtherCurrency, Refused, UnknownKey}
+use Rattle.zvt_serve.specs.declared.troubles.Trouble.TheVariants.{Book, Interrupted, KeyReused, Memory, NoPayment, NoSpace, OtherBook, OtherCurrency, Refused, UnknownKey}
 
 -- ---- facts of the book
 
@@ -55,40 +57,60 @@ abbrev pub reversal_by : List Entry → (trace : Option ℕ) → Result Order Tr
 reversal_by book None = Err NoPayment
 reversal_by book (Some trace) = reversal_at (place_in book trace)
 
--- the reversal of the payment that this order made
-abbrev pub reversal : List Entry → Option PastOrder → Result Order Trouble
-reversal book None = Err NoPayment
-reversal book (Some past) = reversal_by book (paid_trace past.outcome)
+-- a payment of an earlier book is reversed no more
+abbrev pub unless_earlier : (allowed : Bool) → Result Order Trouble → Result Order Trouble
+unless_earlier allowed (Err why) = Err why
+unless_earlier allowed (Ok order) = if allowed then Ok order else Err OtherBook
+
+-- The reversal of the payment that this order made. That of an earlier book is named only by a request whose key is
+-- known, which is answered and never given.
+abbrev pub reversal : (known : Bool) → Option OrderIn → Result Order Trouble
+reversal known None = Err NoPayment
+reversal known (Some found) = unless_earlier (found.is_own || known) (reversal_by found.entries (paid_trace found.past.outcome))
 
 -- ---- answers
 
 abbrev pub TellsTrouble : Trouble → Answer → Type 0
 TellsTrouble trouble answer = (answer.status ≡ trouble_status trouble) × (answer.body ≡ trouble_body trouble)
 
--- how the order with this key ended, or that it is running
-abbrev pub TellsOrder : (key : List ℕ) → List Entry → PastOrder → Answer → Type 0
-TellsOrder key book past answer =
-    (answer.status ≡ outcome_status past.outcome)
-    × (answer.body ≡ answer_text (Some key) past.order past.outcome (is_reversed book past.outcome))
+-- what became of the order with this key, or that it is running
+abbrev pub TellsOrder : (key : List ℕ) → OrderIn → Answer → Type 0
+TellsOrder key found answer =
+    let past = found.past in
+    (answer.status ≡ outcome_status found.fate)
+    × (answer.body ≡ answer_text (Some key) past.order found.fate (is_reversed found.entries past.outcome))
 
 abbrev pub TellsRunning : (failed : Bool) → Option Answer → Type 0
 TellsRunning true answer = IsSomeAnd answer (TellsTrouble Interrupted)
 TellsRunning false answer = answer ≡ None
 
-abbrev pub TellsEnd : (key : List ℕ) → List Entry → (failed : Bool) → PastOrder → (outcome : Option Outcome) → Option Answer → Type 0
-TellsEnd key book failed past None answer = TellsRunning failed answer
-TellsEnd key book failed past (Some outcome) answer = IsSomeAnd answer (TellsOrder key book past)
+abbrev pub TellsEnd : (key : List ℕ) → (failed : Bool) → OrderIn → (outcome : Option Outcome) → Option Answer → Type 0
+TellsEnd key failed found None answer = TellsRunning failed answer
+TellsEnd key failed found (Some outcome) answer = IsSomeAnd answer (TellsOrder key found)
 
--- The answer for a key is how its own order ended. There is none yet while the order is running, unless the book failed.
-abbrev pub TellsKey : (key : List ℕ) → List Entry → (failed : Bool) → Option PastOrder → Option Answer → Type 0
-TellsKey key book failed None answer = IsSomeAnd answer (TellsTrouble UnknownKey)
-TellsKey key book failed (Some past) answer = TellsEnd key book failed past past.outcome answer
+-- The answer for a key is what became of its own order. There is none yet while the order is running, unless the book failed.
+abbrev pub TellsKey : (key : List ℕ) → (failed : Bool) → Option OrderIn → Option Answer → Type 0
+TellsKey key failed None answer = IsSomeAnd answer (TellsTrouble UnknownKey)
+TellsKey key failed (Some found) answer = TellsEnd key failed found found.past.outcome answer
+
+abbrev pub TellsUnended : (key : List ℕ) → (failed : Bool) → OrderIn → Answer → Type 0
+TellsUnended key true found answer = TellsTrouble Interrupted answer
+TellsUnended key false found answer = TellsOrder key found answer
+
+abbrev pub TellsSoFar : (key : List ℕ) → (failed : Bool) → OrderIn → (outcome : Option Outcome) → Answer → Type 0
+TellsSoFar key failed found None answer = TellsUnended key failed found answer
+TellsSoFar key failed found (Some outcome) answer = TellsOrder key found answer
+
+-- The answer for a key now. Once the book failed, nobody learns from this till how a running order ends.
+abbrev pub TellsNow : (key : List ℕ) → (failed : Bool) → Option OrderIn → Answer → Type 0
+TellsNow key failed None answer = TellsTrouble UnknownKey answer
+TellsNow key failed (Some found) answer = TellsSoFar key failed found found.past.outcome answer
 
 -- ---- events
 
 -- what listeners are told of an order that ended, if it has a key
 abbrev pub event_of : PastOrder → Option (List ℕ)
-event_of past = option_map (λ key. event_text key past.outcome) (reference_in past.note)
+event_of past = option_map (λ key. event_text key (fate_as None past.outcome)) (reference_in past.note)
 
 -- ---- orders that were not given
 

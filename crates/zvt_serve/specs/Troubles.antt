@@ -3,12 +3,13 @@ use Rattle.std.specs.Prelude.{ℕ, Bool, true, false, Option, Some, None, List, 
 use Rattle.zvt_till.specs.Names.{refusal_name, refusal_words}
 use Rattle.zvt_serve.specs.Answers.{bool_text}
 use Rattle.zvt_serve.specs.declared.troubles.Trouble.{Trouble}
-use Rattle.zvt_serve.specs.declared.troubles.Trouble.TheVariants.{Book, Busy, Interrupted, KeyReused, Memory, NoPayment, NoSpace, NoTerminal, OtherCurrency, Refused, Stopping, UnknownKey}
+use Rattle.zvt_serve.specs.declared.troubles.Trouble.TheVariants.{Book, Busy, Interrupted, KeyReused, Memory, NoPayment, NoSpace, NoTerminal, OtherBook, OtherCurrency, Refused, Stopping, UnknownKey}
 
 abbrev pub trouble_status : Trouble → ℕ
 trouble_status KeyReused = 422
 trouble_status OtherCurrency = 422
 trouble_status NoPayment = 404
+trouble_status OtherBook = 409
 trouble_status UnknownKey = 404
 trouble_status Busy = 409
 trouble_status (Refused why) = 409
@@ -24,6 +25,7 @@ abbrev pub trouble_name : Trouble → List ℕ
 trouble_name KeyReused = codes "key_reused"
 trouble_name OtherCurrency = codes "other_currency"
 trouble_name NoPayment = codes "no_payment"
+trouble_name OtherBook = codes "other_book"
 trouble_name UnknownKey = codes "unknown_key"
 trouble_name Busy = codes "busy"
 trouble_name (Refused why) = refusal_name why
@@ -39,6 +41,7 @@ abbrev pub trouble_message : Trouble → List ℕ
 trouble_message KeyReused = codes "Another order has this key. Choose a new key for each order."
 trouble_message OtherCurrency = codes "The till takes another currency. Leave the currency out, or send the till's."
 trouble_message NoPayment = codes "No completed payment has this key. Look it up with GET /payments/KEY first."
+trouble_message OtherBook = codes "The payment is in the book of an earlier day, to which nothing is added. Give the money back at the terminal."
 trouble_message UnknownKey = codes "No order has this key, so nothing was sent for it. Check the key, or send the order."
 trouble_message Busy = codes "Another order is running. Ask again with the same key once it has ended."
 trouble_message (Refused why) = refusal_words why
@@ -54,6 +57,7 @@ abbrev pub trouble_sent : Trouble → Bool
 trouble_sent KeyReused = false
 trouble_sent OtherCurrency = false
 trouble_sent NoPayment = false
+trouble_sent OtherBook = false
 trouble_sent UnknownKey = false
 trouble_sent Busy = false
 trouble_sent (Refused why) = false
@@ -69,6 +73,7 @@ abbrev pub trouble_retry : Trouble → Option (List ℕ)
 trouble_retry KeyReused = None
 trouble_retry OtherCurrency = None
 trouble_retry NoPayment = None
+trouble_retry OtherBook = None
 trouble_retry UnknownKey = None
 trouble_retry Busy = Some (codes "1")
 trouble_retry (Refused why) = None

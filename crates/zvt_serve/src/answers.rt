@@ -2,29 +2,34 @@
 ghost use Rattle.std.specs.Prelude.{◌≡◌, ◌++◌, OnOk, Some, option_map};
 ghost use Rattle.std.specs.List.{flat_map};
 ghost use Rattle.zvt_text.specs.Meanings.{meaning_of};
-ghost use Rattle.zvt_till.specs.declared.outcomes.Outcome.TheVariants.{Paid, Unclear};
+ghost use Rattle.zvt_till.specs.declared.outcomes.Outcome.TheVariants.{Unclear};
+ghost use Rattle.zvt_service.specs.declared.fates.Fate.TheVariants.{Ended};
 ghost use Rattle.zvt_serve.specs.Answers.{advice_part, amount_part, answer_text, bool_text, cause_part, code_part};
 ghost use Rattle.zvt_serve.specs.Answers.{code_text};
 ghost use Rattle.zvt_serve.specs.Answers.{event_text, first_members, key_letter, key_part, meaning_part, order_name};
-ghost use Rattle.zvt_serve.specs.Answers.{names_part, outcome_name, outcome_status, paid_part, receipt_part, words_part};
+ghost use Rattle.zvt_serve.specs.Answers.{names_part, numbers_part, outcome_name, outcome_status, paid_part};
+ghost use Rattle.zvt_serve.specs.Answers.{receipt_part, settled_part, words_part};
 
 use std::alloc::AllocError;
 use zvt_bcd::Trace;
+use zvt_service::{Fate, Verdict};
 use zvt_text::Text;
 use zvt_till::{Cause, Order, Outcome};
 
-/// Returns the status of the answer for an order that ended like this, or is running.
+/// Returns the status of the answer for an order of which this is known.
 ///
 /// An unclear order is no success: a client that looks at the status alone hands out nothing for it.
-pub fn outcome_status(outcome: &Option<Outcome>) -> u16
-    ensures { result ≡ outcome_status outcome.now }
+pub fn outcome_status(fate: &Fate) -> u16
+    ensures { result ≡ outcome_status fate.now }
 {
-    match outcome {
-        None => 202,
-        Some(Outcome::Registered | Outcome::Paid { .. } | Outcome::Reversed | Outcome::DayClosed) =>
-            200,
-        Some(Outcome::Declined(_) | Outcome::Refused(_) | Outcome::Aborted(_)) => 402,
-        Some(Outcome::Unclear(_)) => 424,
+    match fate {
+        Fate::Running => 202,
+        Fate::Ended(Outcome::Registered | Outcome::Paid { .. }) => 200,
+        Fate::Ended(Outcome::Reversed | Outcome::DayClosed) => 200,
+        Fate::Ended(Outcome::Declined(_) | Outcome::Refused(_) | Outcome::Aborted(_)) => 402,
+        Fate::Ended(Outcome::Unclear(_)) => 424,
+        Fate::Settled(Verdict::Paid { .. }) => 200,
+        Fate::Settled(Verdict::NotPaid) => 402,
     }
 }
 
@@ -41,20 +46,22 @@ pub fn order_name(order: &Order) -> &'static str
     }
 }
 
-/// Returns the name of an outcome, or `running`.
-pub fn outcome_name(outcome: &Option<Outcome>) -> &'static str
-    ensures { result.now ≡ outcome_name outcome.now }
+/// Returns the name of an outcome or of a verdict, or `running`.
+pub fn outcome_name(fate: &Fate) -> &'static str
+    ensures { result.now ≡ outcome_name fate.now }
 {
-    match outcome {
-        None => "running",
-        Some(Outcome::Registered) => "registered",
-        Some(Outcome::Paid { .. }) => "paid",
-        Some(Outcome::Reversed) => "reversed",
-        Some(Outcome::DayClosed) => "day closed",
-        Some(Outcome::Declined(_)) => "declined",
-        Some(Outcome::Refused(_)) => "refused",
-        Some(Outcome::Aborted(_)) => "aborted",
-        Some(Outcome::Unclear(_)) => "unclear",
+    match fate {
+        Fate::Running => "running",
+        Fate::Ended(Outcome::Registered) => "registered",
+        Fate::Ended(Outcome::Paid { .. }) => "paid",
+        Fate::Ended(Outcome::Reversed) => "reversed",
+        Fate::Ended(Outcome::DayClosed) => "day closed",
+        Fate::Ended(Outcome::Declined(_)) => "declined",
+        Fate::Ended(Outcome::Refused(_)) => "refused",
+        Fate::Ended(Outcome::Aborted(_)) => "aborted",
+        Fate::Ended(Outcome::Unclear(_)) => "unclear",
+        Fate::Settled(Verdict::Paid { .. }) => "paid",
+        Fate::Settled(Verdict::NotPaid) => "not paid",
     }
 }
 
@@ -67,17 +74,17 @@ pub fn put_answer(
     text: &mut Text,
     key: Option<&[u8]>,
     order: &Order,
-    outcome: &Option<Outcome>,
+    fate: &Fate,
     reversed: bool,
 ) -> Result<(), AllocError>
     ensures { OnOk result (text.new ≡ text.old
-        ++ answer_text (option_map (λ k. k.now) key.entry) order.now outcome.now reversed) }
+        ++ answer_text (option_map (λ k. k.now) key.entry) order.now fate.now reversed) }
 {
     text.word(b"{")?;
-    put_first_members(text, key, order, outcome)?;
-    put_names(text, order, outcome)?;
-    put_paid(text, outcome, reversed)?;
-    put_words(text, outcome)?;
+    put_first_members(text, key, order, fate)?;
+    put_names(text, order, fate)?;
+    put_paid(text, fate, reversed)?;
+    put_words(text, fate)?;
     text.word(b"}\n")
 }
 
@@ -85,13 +92,13 @@ pub fn put_answer(
 ///
 /// Fails only if an allocation fails; the text is then incomplete.
 #[tactic(auto, unfolding(crate::specs::Answers::event_text))]
-pub fn put_end(text: &mut Text, key: &[u8], outcome: &Option<Outcome>) -> Result<(), AllocError>
-    ensures { OnOk result (text.new ≡ text.old ++ event_text key.now outcome.now) }
+pub fn put_end(text: &mut Text, key: &[u8], fate: &Fate) -> Result<(), AllocError>
+    ensures { OnOk result (text.new ≡ text.old ++ event_text key.now fate.now) }
 {
     text.word(b"{")?;
     put_key(text, Some(key))?;
     text.word(b"\"outcome\":\"")?;
-    text.word(outcome_name(outcome).as_bytes())?;
+    text.word(outcome_name(fate).as_bytes())?;
     text.word(b"\"}")
 }
 
@@ -101,35 +108,35 @@ fn put_first_members(
     text: &mut Text,
     key: Option<&[u8]>,
     order: &Order,
-    outcome: &Option<Outcome>,
+    fate: &Fate,
 ) -> Result<(), AllocError>
     ensures { OnOk result (text.new ≡ text.old
-        ++ first_members (option_map (λ k. k.now) key.entry) order.now outcome.now) }
+        ++ first_members (option_map (λ k. k.now) key.entry) order.now fate.now) }
 {
-    put_advice(text, outcome)?;
+    put_advice(text, fate)?;
     put_amount(text, order)?;
-    put_cause(text, outcome)?;
-    put_code(text, outcome)?;
+    put_cause(text, fate)?;
+    put_code(text, fate)?;
     put_key(text, key)
 }
 
 /// Writes the names of an order and its outcome.
 #[tactic(auto, unfolding(crate::specs::Answers::names_part))]
-fn put_names(text: &mut Text, order: &Order, outcome: &Option<Outcome>) -> Result<(), AllocError>
-    ensures { OnOk result (text.new ≡ text.old ++ names_part order.now outcome.now) }
+fn put_names(text: &mut Text, order: &Order, fate: &Fate) -> Result<(), AllocError>
+    ensures { OnOk result (text.new ≡ text.old ++ names_part order.now fate.now) }
 {
     text.word(b"\"order\":\"")?;
     text.word(order_name(order).as_bytes())?;
     text.word(b"\",\"outcome\":\"")?;
-    text.word(outcome_name(outcome).as_bytes())?;
+    text.word(outcome_name(fate).as_bytes())?;
     text.word(b"\"")
 }
 
-fn put_advice(text: &mut Text, outcome: &Option<Outcome>) -> Result<(), AllocError>
-    ensures { OnOk result (text.new ≡ text.old ++ advice_part outcome.now) }
+fn put_advice(text: &mut Text, fate: &Fate) -> Result<(), AllocError>
+    ensures { OnOk result (text.new ≡ text.old ++ advice_part fate.now) }
 {
-    match outcome {
-        Some(Outcome::Unclear(_)) => text.word(
+    match fate {
+        Fate::Ended(Outcome::Unclear(_)) => text.word(
             b"\"advice\":\"It is unknown whether the terminal took the order. Look at its receipts before \
 you send another.\",",
         ),
@@ -150,30 +157,30 @@ fn put_amount(text: &mut Text, order: &Order) -> Result<(), AllocError>
     }
 }
 
-fn put_cause(text: &mut Text, outcome: &Option<Outcome>) -> Result<(), AllocError>
-    ensures { OnOk result (text.new ≡ text.old ++ cause_part outcome.now) }
+fn put_cause(text: &mut Text, fate: &Fate) -> Result<(), AllocError>
+    ensures { OnOk result (text.new ≡ text.old ++ cause_part fate.now) }
 {
-    match outcome {
-        Some(Outcome::Unclear(cause)) => put_cause_name(text, *cause),
+    match fate {
+        Fate::Ended(Outcome::Unclear(cause)) => put_cause_name(text, *cause),
         _ => Ok(()),
     }
 }
 
 fn put_cause_name(text: &mut Text, cause: Cause) -> Result<(), AllocError>
-    ensures { OnOk result (text.new ≡ text.old ++ cause_part (Some (Unclear cause))) }
+    ensures { OnOk result (text.new ≡ text.old ++ cause_part (Ended (Unclear cause))) }
 {
     text.word(b"\"cause\":\"")?;
     text.word(cause.name().as_bytes())?;
     text.word(b"\",")
 }
 
-fn put_code(text: &mut Text, outcome: &Option<Outcome>) -> Result<(), AllocError>
-    ensures { OnOk result (text.new ≡ text.old ++ code_part outcome.now) }
+fn put_code(text: &mut Text, fate: &Fate) -> Result<(), AllocError>
+    ensures { OnOk result (text.new ≡ text.old ++ code_part fate.now) }
 {
-    match outcome {
-        Some(Outcome::Declined(code)) => put_code_digits(text, *code),
-        Some(Outcome::Refused(code)) => put_code_digits(text, *code),
-        Some(Outcome::Aborted(code)) => put_code_digits(text, *code),
+    match fate {
+        Fate::Ended(Outcome::Declined(code)) => put_code_digits(text, *code),
+        Fate::Ended(Outcome::Refused(code)) => put_code_digits(text, *code),
+        Fate::Ended(Outcome::Aborted(code)) => put_code_digits(text, *code),
         _ => Ok(()),
     }
 }
@@ -225,12 +232,19 @@ fn put_letter(text: &mut Text, letter: u8) -> Result<(), AllocError>
     }
 }
 
-/// Writes the numbers of a payment that was booked, and whether it was taken back.
-fn put_paid(text: &mut Text, outcome: &Option<Outcome>, reversed: bool) -> Result<(), AllocError>
-    ensures { OnOk result (text.new ≡ text.old ++ paid_part outcome.now reversed) }
+/// Writes the numbers of a payment that happened, and whether it was taken back, or that an ask settled that it did not
+/// happen.
+fn put_paid(text: &mut Text, fate: &Fate, reversed: bool) -> Result<(), AllocError>
+    ensures { OnOk result (text.new ≡ text.old ++ paid_part fate.now reversed) }
 {
-    match outcome {
-        Some(Outcome::Paid { trace, receipt }) => put_numbers(text, *trace, *receipt, reversed),
+    match fate {
+        Fate::Ended(Outcome::Paid { trace, receipt }) => {
+            put_numbers(text, *trace, *receipt, reversed, false)
+        }
+        Fate::Settled(Verdict::Paid { trace, receipt }) => {
+            put_numbers(text, *trace, *receipt, reversed, true)
+        }
+        Fate::Settled(Verdict::NotPaid) => put_settled(text, true),
         _ => Ok(()),
     }
 }
@@ -240,14 +254,27 @@ fn put_numbers(
     trace: Trace,
     receipt: Option<[u8; 2]>,
     reversed: bool,
+    settled: bool,
 ) -> Result<(), AllocError>
-    ensures { OnOk result (text.new ≡ text.old ++ paid_part (Some (Paid trace receipt)) reversed) }
+    ensures { OnOk result (text.new ≡ text.old ++ numbers_part trace receipt reversed settled) }
 {
     put_receipt(text, receipt)?;
     text.word(b",\"reversed\":")?;
     put_bool(text, reversed)?;
+    put_settled(text, settled)?;
     text.word(b",\"trace\":")?;
     text.number(trace.get())
+}
+
+/// Writes that an ask settled the payment, if one did.
+fn put_settled(text: &mut Text, settled: bool) -> Result<(), AllocError>
+    ensures { OnOk result (text.new ≡ text.old ++ settled_part settled) }
+{
+    if settled {
+        text.word(b",\"settled\":true")
+    } else {
+        Ok(())
+    }
 }
 
 fn put_receipt(text: &mut Text, receipt: Option<[u8; 2]>) -> Result<(), AllocError>
@@ -268,13 +295,13 @@ fn put_receipt_number(text: &mut Text, number: &[u8]) -> Result<(), AllocError>
 }
 
 /// Writes the meaning of the code with which the terminal ended an order.
-fn put_words(text: &mut Text, outcome: &Option<Outcome>) -> Result<(), AllocError>
-    ensures { OnOk result (text.new ≡ text.old ++ words_part outcome.now) }
+fn put_words(text: &mut Text, fate: &Fate) -> Result<(), AllocError>
+    ensures { OnOk result (text.new ≡ text.old ++ words_part fate.now) }
 {
-    match outcome {
-        Some(Outcome::Declined(code)) => put_meaning(text, *code),
-        Some(Outcome::Refused(code)) => put_meaning(text, *code),
-        Some(Outcome::Aborted(code)) => put_meaning(text, *code),
+    match fate {
+        Fate::Ended(Outcome::Declined(code)) => put_meaning(text, *code),
+        Fate::Ended(Outcome::Refused(code)) => put_meaning(text, *code),
+        Fate::Ended(Outcome::Aborted(code)) => put_meaning(text, *code),
         _ => Ok(()),
     }
 }

@@ -2,7 +2,7 @@
 
 use crate::clock::{Moment, keyed_note, timed_note};
 use crate::deciding::Decision;
-use crate::event_log::EventLog;
+use crate::host::{BookUnread, Host, Watch};
 use crate::line::Line;
 use crate::outcomes::{Answer, answer_for, end_of, look, payment, reversal, trouble_of};
 use crate::status::put_status;
@@ -39,47 +39,41 @@ pub(crate) struct Reacted {
     pub(crate) is_trusted: bool,
 }
 
-/// Supplies the lines of the book.
-pub trait BookLines {
-    /// Appends a JSON object for each line of the book, each with a line feed.
-    fn put(&mut self, alloc: Global, text: &mut Text) -> Result<(), BookUnread>;
-}
-
-/// The book could not be read, or an allocation failed.
-#[derive(Clone, Copy, Debug, Drop, PartialEq, Eq)]
-pub struct BookUnread;
-
-/// The till, its line to the terminal, and what its listeners are told.
+/// The till, its line to the terminal, and what is seen of the line.
 #[derive(Drop)]
-pub(crate) struct Desk<'s, 'b, D: Device, B> {
+pub(crate) struct Desk<'s, 'h, D: Device, H> {
     pub(crate) alloc: Global,
     pub(crate) service: &'s mut Service<D>,
-    pub(crate) book: &'b mut B,
     pub(crate) line: Line,
-    pub(crate) log: EventLog,
+    pub(crate) watch: Watch<'h, H>,
     /// The number of orders whose ends are in the log.
     reported: usize,
-    /// No more orders are taken.
-    pub(crate) is_stopping: bool,
+    /// A client asked the service to stop.
+    was_stopped: bool,
 }
 
-impl<'s, 'b, D: Device, B: BookLines> Desk<'s, 'b, D, B> {
+impl<'s, 'h, D: Device, H: Host> Desk<'s, 'h, D, H> {
     pub(crate) fn new(
         alloc: Global,
         service: &'s mut Service<D>,
-        book: &'b mut B,
         line: Line,
-    ) -> Desk<'s, 'b, D, B> {
+        watch: Watch<'h, H>,
+    ) -> Desk<'s, 'h, D, H> {
         let reported = service.orders().len();
         Desk {
             alloc,
             service,
-            book,
             line,
-            log: EventLog::new(alloc),
+            watch,
             reported,
-            is_stopping: false,
+            was_stopped: false,
         }
+    }
+
+    /// Returns whether no more orders are taken, because a client stopped the service, or because what passes on the
+    /// line cannot be recorded.
+    pub(crate) fn is_stopping(&self) -> bool {
+        self.was_stopped || self.watch.is_broken()
     }
 
     /// Reacts to a request, after the guards.
@@ -125,7 +119,7 @@ impl<'s, 'b, D: Device, B: BookLines> Desk<'s, 'b, D, B> {
             Ask::Book => self.book(),
             Ask::Status => self.status(),
             Ask::Events { after } => Ok(Reaction::Listen {
-                first: self.log.first_after(*after),
+                first: self.watch.log.first_after(*after),
             }),
             Ask::Stop => self.stop(),
             Ask::Page => Ok(Reaction::File(Kind::Html, PAGE)),
@@ -142,7 +136,7 @@ impl<'s, 'b, D: Device, B: BookLines> Desk<'s, 'b, D, B> {
                 currency,
                 ..
             } => payment(self.service.till(), *amount, *currency),
-            Ask::Reverse { payment, .. } => reversal(self.service, payment),
+            Ask::Reverse { key, payment } => reversal(self.service, key, payment),
             _ => Ok(Order::CloseDay),
         }
     }
@@ -157,7 +151,7 @@ impl<'s, 'b, D: Device, B: BookLines> Desk<'s, 'b, D, B> {
         now: Moment,
     ) -> Result<Reaction, AllocError> {
         let wanted = self.wanted(ask);
-        match Decision::about(self.service, self.is_stopping, key, wanted) {
+        match Decision::about(self.service, self.is_stopping(), key, wanted) {
             Decision::Refuse(trouble) => self.refused(trouble),
             Decision::Replay => self.replayed(key),
             Decision::Join => self.joined(key, is_async),
@@ -180,7 +174,7 @@ impl<'s, 'b, D: Device, B: BookLines> Desk<'s, 'b, D, B> {
         let Some(note) = keyed_note(clock, key) else {
             return Err(Trouble::UnknownKey);
         };
-        match self.line.order(self.alloc, self.service, order, &note, now) {
+        match self.line.order(self.alloc, self.service, &mut self.watch, order, &note, now) {
             Ok(()) => Ok(()),
             Err(why) => Err(trouble_of(why)),
         }
@@ -215,31 +209,36 @@ impl<'s, 'b, D: Device, B: BookLines> Desk<'s, 'b, D, B> {
     }
 
     fn ask_terminal<C: Clock>(&mut self, clock: &C, now: Moment) -> Result<Reaction, AllocError> {
-        if self.is_stopping {
+        if self.is_stopping() {
             return self.refused(Trouble::Stopping);
         }
-        match self.service.ask(self.alloc, &timed_note(clock)) {
-            Ok(message) => {
-                self.line.send(self.service, &message, now);
-                self.accepted()
-            }
+        let note = timed_note(clock);
+        match self
+            .line
+            .ask(self.alloc, self.service, &mut self.watch, &note, now)
+        {
+            Ok(()) => self.accepted(),
             Err(why) => self.refused(trouble_of(Ungiven::Till(why))),
         }
     }
 
     fn cancel(&mut self, now: Moment) -> Result<Reaction, AllocError> {
         let note = Note::none();
-        match self
-            .line
-            .order(self.alloc, self.service, &Order::Cancel, &note, now)
-        {
+        match self.line.order(
+            self.alloc,
+            self.service,
+            &mut self.watch,
+            &Order::Cancel,
+            &note,
+            now,
+        ) {
             Ok(()) => self.accepted(),
             Err(why) => self.refused(trouble_of(why)),
         }
     }
 
     fn stop(&mut self) -> Result<Reaction, AllocError> {
-        self.is_stopping = true;
+        self.was_stopped = true;
         self.accepted()
     }
 
@@ -251,7 +250,7 @@ impl<'s, 'b, D: Device, B: BookLines> Desk<'s, 'b, D, B> {
 
     fn book(&mut self) -> Result<Reaction, AllocError> {
         let mut body = Text::new(self.alloc);
-        match self.book.put(self.alloc, &mut body) {
+        match self.watch.host.put_book(self.alloc, &mut body) {
             Ok(()) => Ok(Reaction::Answer(Answer::new(200, body))),
             Err(BookUnread) => self.refused(Trouble::Book),
         }
@@ -270,7 +269,7 @@ impl<'s, 'b, D: Device, B: BookLines> Desk<'s, 'b, D, B> {
 
     /// Gives up the line to the terminal.
     pub(crate) fn close(&mut self) {
-        self.line.close(self.service);
+        self.line.close(self.service, &mut self.watch);
     }
 
     /// Returns whether an order runs whose end somebody may wait for.
@@ -293,7 +292,7 @@ impl<'s, 'b, D: Device, B: BookLines> Desk<'s, 'b, D, B> {
             let event = end_of(self.alloc, past);
             self.reported = at + 1;
             if let Ok(Some(line)) = event {
-                let _ = self.log.add(line);
+                let _ = self.watch.log.add(line);
             }
         }
     }

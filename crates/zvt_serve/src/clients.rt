@@ -3,8 +3,9 @@
 
 mod client;
 
-use crate::asks::{BookLines, Desk};
+use crate::asks::Desk;
 use crate::clock::Moment;
+use crate::host::Host;
 use bytes::BytesMut;
 use client::Client;
 use mio::net::{TcpListener, TcpStream};
@@ -103,11 +104,11 @@ impl Clients {
     }
 
     /// Serves each client, and closes the connections that are over.
-    pub(crate) fn turn<C: Clock, D: Device, B: BookLines>(
+    pub(crate) fn turn<C: Clock, D: Device, H: Host>(
         &mut self,
         clock: &C,
         guards: &Guards,
-        desk: &mut Desk<'_, '_, D, B>,
+        desk: &mut Desk<'_, '_, D, H>,
         now: Moment,
     ) {
         for place in self.places.iter_mut() {

@@ -105,7 +105,7 @@ impl Standing {
 
 impl Decision {
     ghost use Rattle.std.specs.Prelude.{◌≡◌, IsSome, IsSomeAnd, None, Ok};
-    ghost use Rattle.zvt_kept.specs.PastOrders.{first_noted};
+    ghost use Rattle.zvt_service.specs.Service.{found_by};
     ghost use Rattle.zvt_till.specs.declared.orders.Order.{Order};
     ghost use Rattle.zvt_serve.specs.declared.deciding.Decision.TheVariants.{Give, Hold, Join, Replay};
     ghost use Rattle.zvt_serve.specs.Deciding.{decided, decided_fresh, decided_running};
@@ -126,7 +126,7 @@ impl Decision {
 
     /// Decides about a request with this key, which asks for this order, or says why it asks for none.
     ///
-    /// An order is given only if no order of the book has the key, and the till is ready. An order that was given before
+    /// An order is given only if no order of the service's books has the key, and the till is ready. An order that was given before
     /// is answered or waited for only if it is the one that the request asks for.
     pub fn about<D: Device>(
         service: &Service<D>,
@@ -135,16 +135,16 @@ impl Decision {
         wanted: Result<Order, Trouble>,
     ) -> Decision
         ensures given { (order : Order) → result ≡ Give order
-            → (first_noted key.now service.now.past ≡ None) × (wanted ≡ Ok order) }
-        ensures replayed { result ≡ Replay → IsSomeAnd (first_noted key.now service.now.past)
-            (λ past. (wanted ≡ Ok past.order) × IsSome past.outcome) }
-        ensures joined { result ≡ Join → IsSomeAnd (first_noted key.now service.now.past)
-            (λ past. (wanted ≡ Ok past.order) × (past.outcome ≡ None)) }
-        ensures held { result ≡ Hold → first_noted key.now service.now.past ≡ None }
+            → (found_by key.now service.now ≡ None) × (wanted ≡ Ok order) }
+        ensures replayed { result ≡ Replay → IsSomeAnd (found_by key.now service.now)
+            (λ found. (wanted ≡ Ok found.past.order) × IsSome found.past.outcome) }
+        ensures joined { result ≡ Join → IsSomeAnd (found_by key.now service.now)
+            (λ found. (wanted ≡ Ok found.past.order) × (found.past.outcome ≡ None)) }
+        ensures held { result ≡ Hold → found_by key.now service.now ≡ None }
     {
         let standing = Standing::of(service, is_stopping);
         match service.find(key) {
-            Some(past) => Decision::of(Some(Known::of(past, &wanted)), standing, wanted),
+            Some(found) => Decision::of(Some(Known::of(found.past, &wanted)), standing, wanted),
             None => Decision::of(None, standing, wanted),
         }
     }

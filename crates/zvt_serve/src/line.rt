@@ -2,19 +2,24 @@
 //! the system's.
 ghost use Rattle.std.specs.Prelude.{◌≤◌, length};
 
+mod connection;
+
+use crate::asking::asks_by_itself;
 use crate::clock::{Moment, timed_note};
+use crate::host::{Host, Watch};
+use connection::{Connection, Received};
 use mio::net::TcpStream;
 use mio::{Interest, Poll, Token};
 use std::alloc::Global;
-use std::io::{ErrorKind, Read, Write};
 use std::net::{Net, SocketAddr};
 use std::rt::Clock;
 use zvt_apdu::MAX_BRIEF_LEN;
 use zvt_journal::Device;
 use zvt_kept::Note;
 use zvt_service::{Service, Ungiven};
-use zvt_stream::{FedView, LineForm, Machine, Stream};
-use zvt_till::Order;
+use zvt_stream::{LineForm, Machine, Stream};
+use zvt_till::{Order, Untaken};
+use zvt_trace::Direction;
 
 /// The token under which the line is registered.
 pub(crate) const TERMINAL: Token = Token(1);
@@ -39,27 +44,8 @@ pub struct TerminalOptions {
     pub form: LineForm,
     /// The seconds for which it may be silent while an order is running.
     pub timeout: u16,
-}
-
-/// A connection to the terminal.
-#[derive(Drop)]
-struct Connection {
-    socket: TcpStream,
-    stream: Stream,
-    /// Whether the terminal accepted the connection.
-    is_up: bool,
-    /// Whether there may be something to read.
-    is_ready: bool,
-    /// When it began to connect, was last heard, or was last sent something.
-    active: Moment,
-}
-
-/// What a read brought.
-enum Received {
-    Bytes(usize),
-    Nothing,
-    /// The terminal closed the connection, or the read failed.
-    Lost,
+    /// Whether the till asks it for the last transaction by itself.
+    pub asks: bool,
 }
 
 /// The line to the terminal, which is opened again whenever it was lost.
@@ -69,60 +55,6 @@ pub(crate) struct Line {
     connection: Option<Connection>,
     /// When the last connection was lost or could not be opened.
     lost: Option<Moment>,
-}
-
-impl Connection {
-    fn receive(&mut self, buffer: &mut [u8; 1024]) -> Received {
-        match self.socket.read(buffer) {
-            Ok(0) => Received::Lost,
-            Ok(count) => Received::Bytes(count),
-            Err(error) if error.kind() == ErrorKind::WouldBlock => Received::Nothing,
-            Err(error) if error.kind() == ErrorKind::Interrupted => Received::Nothing,
-            Err(_) => Received::Lost,
-        }
-    }
-
-    /// Sends these bytes, at most some hundred, at once. Returns `false` if that cannot be done.
-    fn send(&mut self, bytes: &[u8]) -> bool {
-        if bytes.is_empty() {
-            return true;
-        }
-        matches!(self.socket.write(bytes), Ok(count) if count == bytes.len())
-    }
-
-    /// Lets the till hear each message that ends in these bytes, and sends its answers before it hears the next. Returns
-    /// `false` if the line is of no use any more.
-    fn hear<D: Device>(&mut self, alloc: Global, service: &mut Service<D>, bytes: &[u8]) -> bool {
-        let mut rest = bytes;
-        for _message in 0..bytes.len() {
-            match self.stream.feed_view(rest) {
-                Ok(FedView::Message { taken }) => {
-                    if !self.answer(alloc, service) {
-                        return false;
-                    }
-                    rest = &rest[taken..];
-                }
-                Ok(FedView::More) => return true,
-                Ok(FedView::Refused { .. }) => {
-                    service.malformed();
-                    return false;
-                }
-                Err(_) => return false,
-            }
-        }
-        true
-    }
-
-    /// Lets the till hear the message that was found, and sends its answers.
-    fn answer<D: Device>(&mut self, alloc: Global, service: &mut Service<D>) -> bool {
-        let Some(message) = self.stream.lent() else {
-            return true;
-        };
-        match service.hear(alloc, &message) {
-            Ok(answers) => self.send(answers.bytes()),
-            Err(_) => false,
-        }
-    }
 }
 
 impl Line {
@@ -149,30 +81,33 @@ impl Line {
         }
     }
 
-    /// Connects if it is time to, reads what the terminal sent, and gives up a line that is silent for too long.
-    pub(crate) fn turn<R: Net + Clock, D: Device>(
+    /// Connects if it is time to, reads what the terminal sent, lets the till ask once it has registered, and gives up
+    /// a line that is silent for too long.
+    pub(crate) fn turn<R: Net + Clock, D: Device, H: Host>(
         &mut self,
         rt: &R,
         alloc: Global,
         poll: &Poll,
         service: &mut Service<D>,
+        watch: &mut Watch<'_, H>,
         now: Moment,
     ) {
         match &self.connection {
-            None if service.has_failed() => {}
+            None if service.has_failed() || watch.is_broken() => {}
             None => self.open(rt, alloc, poll, now),
             Some(connection) if !connection.is_up => {
                 if connection.is_ready {
-                    self.begin(rt, alloc, service, now);
+                    self.begin(rt, alloc, service, watch, now);
                 } else if now.is_late(connection.active, CONNECT_MS) {
-                    self.lose(service, now);
+                    self.lose(service, watch, now);
                 }
             }
             Some(connection) => {
                 if connection.is_ready {
-                    self.read(alloc, service, now);
+                    self.read(alloc, service, watch, now);
                 }
-                self.tend(service, now);
+                self.ask_by_itself(rt, alloc, service, watch, now);
+                self.tend(service, watch, now);
             }
         }
     }
@@ -201,28 +136,30 @@ impl Line {
             stream: Stream::reading(alloc, self.options.form),
             is_up: false,
             is_ready: false,
+            has_registered: false,
             active: now,
         });
     }
 
     /// Registers the till on a line that the terminal accepted.
-    fn begin<C: Clock, D: Device>(
+    fn begin<C: Clock, D: Device, H: Host>(
         &mut self,
         clock: &C,
         alloc: Global,
         service: &mut Service<D>,
+        watch: &mut Watch<'_, H>,
         now: Moment,
     ) {
         if !self.is_accepted(now) || service.connect(alloc).is_err() {
-            self.lose(service, now);
+            self.lose(service, watch, now);
             return;
         }
         let note = timed_note(clock);
         if self
-            .order(alloc, service, &Order::Register, &note, now)
+            .order(alloc, service, watch, &Order::Register, &note, now)
             .is_err()
         {
-            self.lose(service, now);
+            self.lose(service, watch, now);
         }
     }
 
@@ -241,20 +178,27 @@ impl Line {
     }
 
     /// Reads what the terminal sent.
-    fn read<D: Device>(&mut self, alloc: Global, service: &mut Service<D>, now: Moment) {
+    fn read<D: Device, H: Host>(
+        &mut self,
+        alloc: Global,
+        service: &mut Service<D>,
+        watch: &mut Watch<'_, H>,
+        now: Moment,
+    ) {
         let mut buffer = [0; 1024];
         for _read in 0..READS {
-            if !self.read_once(alloc, service, &mut buffer, now) {
+            if !self.read_once(alloc, service, watch, &mut buffer, now) {
                 return;
             }
         }
     }
 
     /// Reads once, and returns whether there may be more.
-    fn read_once<D: Device>(
+    fn read_once<D: Device, H: Host>(
         &mut self,
         alloc: Global,
         service: &mut Service<D>,
+        watch: &mut Watch<'_, H>,
         buffer: &mut [u8; 1024],
         now: Moment,
     ) -> bool {
@@ -268,19 +212,45 @@ impl Line {
             }
             Received::Bytes(count) => {
                 connection.active = now;
-                connection.hear(alloc, service, &buffer[..count.min(1024)])
+                let bytes = &buffer[..count.min(1024)];
+                let is_seen = watch.see(Direction::FromTerminal, bytes);
+                connection.hear(alloc, service, watch, bytes) && is_seen
             }
             Received::Lost => false,
         };
         if !is_sound {
-            self.lose(service, now);
+            self.lose(service, watch, now);
         }
         is_sound
     }
 
+    /// Lets the till ask its terminal when it has registered, if an answer can be of use.
+    fn ask_by_itself<C: Clock, D: Device, H: Host>(
+        &mut self,
+        clock: &C,
+        alloc: Global,
+        service: &mut Service<D>,
+        watch: &mut Watch<'_, H>,
+        now: Moment,
+    ) {
+        let Some(connection) = &mut self.connection else {
+            return;
+        };
+        let was_registered = connection.has_registered;
+        connection.has_registered = was_registered || service.till().registered();
+        if self.options.asks && asks_by_itself(was_registered, service.settling()) {
+            let _ = self.ask(alloc, service, watch, &timed_note(clock), now);
+        }
+    }
+
     /// Gives up a line on which the terminal is silent while an order or an ask is running, and one on which the till
     /// could not be registered.
-    fn tend<D: Device>(&mut self, service: &mut Service<D>, now: Moment) {
+    fn tend<D: Device, H: Host>(
+        &mut self,
+        service: &mut Service<D>,
+        watch: &mut Watch<'_, H>,
+        now: Moment,
+    ) {
         let Some(connection) = &self.connection else {
             return;
         };
@@ -292,16 +262,17 @@ impl Line {
             u64::MAX
         };
         if !service.till().line_up() || now.is_late(connection.active, limit) {
-            self.lose(service, now);
+            self.lose(service, watch, now);
         }
     }
 
     /// Gives the till an order, and sends its message. If that cannot be sent at once, the line is lost; the order was
     /// given nevertheless.
-    pub(crate) fn order<D: Device>(
+    pub(crate) fn order<D: Device, H: Host>(
         &mut self,
         alloc: Global,
         service: &mut Service<D>,
+        watch: &mut Watch<'_, H>,
         order: &Order,
         note: &Note,
         now: Moment,
@@ -312,32 +283,69 @@ impl Line {
         };
         let mut buffer = [0; MAX_BRIEF_LEN];
         let count = outgoing.put(&mut buffer);
-        self.send(service, &buffer[..count], now);
+        self.send(service, watch, &buffer[..count], now);
+        Ok(())
+    }
+
+    /// Lets the till ask its terminal for the last transaction. If the message cannot be sent at once, the line is lost.
+    pub(crate) fn ask<D: Device, H: Host>(
+        &mut self,
+        alloc: Global,
+        service: &mut Service<D>,
+        watch: &mut Watch<'_, H>,
+        note: &Note,
+        now: Moment,
+    ) -> Result<(), Untaken> {
+        let message = match service.ask(alloc, note) {
+            Ok(message) => message,
+            Err(why) => return Err(why),
+        };
+        self.send(service, watch, &message, now);
         Ok(())
     }
 
     /// Sends a message of the till. If that cannot be done at once, the line is lost.
-    pub(crate) fn send<D: Device>(&mut self, service: &mut Service<D>, bytes: &[u8], now: Moment) {
+    fn send<D: Device, H: Host>(
+        &mut self,
+        service: &mut Service<D>,
+        watch: &mut Watch<'_, H>,
+        bytes: &[u8],
+        now: Moment,
+    ) {
         let was_sent = match &mut self.connection {
             Some(connection) => {
                 connection.active = now;
-                connection.send(bytes)
+                connection.send(watch, bytes)
             }
             None => false,
         };
         if !was_sent {
-            self.lose(service, now);
+            self.lose(service, watch, now);
         }
     }
 
     /// Gives up the line, until the next try is due.
-    fn lose<D: Device>(&mut self, service: &mut Service<D>, now: Moment) {
+    fn lose<D: Device, H: Host>(
+        &mut self,
+        service: &mut Service<D>,
+        watch: &mut Watch<'_, H>,
+        now: Moment,
+    ) {
         self.lost = Some(now);
-        self.close(service);
+        self.close(service, watch);
     }
 
     /// Closes the connection, if there is one, and tells the till that its line is lost.
-    pub(crate) fn close<D: Device>(&mut self, service: &mut Service<D>) {
+    pub(crate) fn close<D: Device, H: Host>(
+        &mut self,
+        service: &mut Service<D>,
+        watch: &mut Watch<'_, H>,
+    ) {
+        if let Some(connection) = &self.connection
+            && connection.is_up
+        {
+            watch.see_loss();
+        }
         self.connection = None;
         service.lost();
     }

@@ -1,9 +1,9 @@
 //! What clients are told about orders, and which orders they ask for.
 ghost use Rattle.std.specs.Prelude.{◌≡◌, IfOk, option_map};
 ghost use Rattle.zvt_kept.specs.KeptTill.{has_failed};
-ghost use Rattle.zvt_kept.specs.PastOrders.{first_noted};
-ghost use Rattle.zvt_service.specs.Service.{state_of};
-ghost use Rattle.zvt_serve.specs.Outcomes.{TellsKey, TellsOrder, is_reversed, paid_trace, payment, place_in, reversal};
+ghost use Rattle.zvt_service.specs.Books.{order_found};
+ghost use Rattle.zvt_service.specs.Service.{found_by, is_known, state_of};
+ghost use Rattle.zvt_serve.specs.Outcomes.{TellsKey, TellsNow, TellsOrder, is_reversed, paid_trace, payment, place_in, reversal};
 ghost use Rattle.zvt_serve.specs.Outcomes.{event_of, is_taken_back, trouble_of};
 
 use crate::answers::{outcome_status, put_answer, put_end};
@@ -12,7 +12,7 @@ use std::alloc::{AllocError, Global};
 use zvt_bcd::{Amount, Currency, Trace};
 use zvt_journal::Device;
 use zvt_kept::PastOrder;
-use zvt_service::{Service, Ungiven};
+use zvt_service::{Fate, Found, Service, Ungiven};
 use zvt_text::Text;
 use zvt_till::{BookFault, Entry, Order, Outcome, Till, Untaken};
 
@@ -59,21 +59,20 @@ impl Answer {
     }
 }
 
-/// Returns the answer for a key: how its order ended, or that nobody learns it any more. Returns `None` while the order
-/// is running.
+/// Returns the answer for a key: what became of its order, or that nobody learns it any more. Returns `None` while the
+/// order is running.
 pub(crate) fn answer_for<D: Device>(
     alloc: Global,
     service: &Service<D>,
     key: &[u8],
 ) -> Result<Option<Answer>, AllocError>
-    ensures { IfOk result (TellsKey key.now (state_of service.now.kept).book (has_failed service.now.kept)
-        (first_noted key.now service.now.past)) }
+    ensures { IfOk result (TellsKey key.now (has_failed service.now.kept) (found_by key.now service.now)) }
 {
-    let Some(past) = service.find(key) else {
+    let Some(found) = service.find(key) else {
         return Ok(Some(Answer::of_trouble(alloc, Trouble::UnknownKey)?));
     };
-    if past.outcome.is_some() {
-        return Ok(Some(answer_of(alloc, service.till(), key, past)?));
+    if found.past.outcome.is_some() {
+        return Ok(Some(answer_of(alloc, key, &found)?));
     }
     if service.has_failed() {
         return Ok(Some(Answer::of_trouble(alloc, Trouble::Interrupted)?));
@@ -81,31 +80,35 @@ pub(crate) fn answer_for<D: Device>(
     Ok(None)
 }
 
-/// Returns the answer for a key now: how its order ended, that it is running, or that nobody learns its end any more.
+/// Returns the answer for a key now: what became of its order, that it is running, or that nobody learns its end any
+/// more.
 pub(crate) fn look<D: Device>(
     alloc: Global,
     service: &Service<D>,
     key: &[u8],
-) -> Result<Answer, AllocError> {
-    if let Some(answer) = answer_for(alloc, service, key)? {
-        return Ok(answer);
+) -> Result<Answer, AllocError>
+    ensures { IfOk result (TellsNow key.now (has_failed service.now.kept) (found_by key.now service.now)) }
+{
+    let Some(found) = service.find(key) else {
+        return Answer::of_trouble(alloc, Trouble::UnknownKey);
+    };
+    if found.past.outcome.is_none() && service.has_failed() {
+        return Answer::of_trouble(alloc, Trouble::Interrupted);
     }
-    match service.find(key) {
-        Some(past) => answer_of(alloc, service.till(), key, past),
-        None => Answer::of_trouble(alloc, Trouble::UnknownKey),
-    }
+    answer_of(alloc, key, &found)
 }
 
 /// Returns the answer for the order with this key.
-fn answer_of(alloc: Global, till: &Till, key: &[u8], past: &PastOrder) -> Result<Answer, AllocError>
-    ensures { IfOk result (TellsOrder key.now till.now.state.book past.now) }
+fn answer_of(alloc: Global, key: &[u8], found: &Found<'_>) -> Result<Answer, AllocError>
+    ensures { IfOk result (TellsOrder key.now (order_found found.now)) }
 {
+    let past = found.past;
     let mut body = Text::new(alloc);
-    let reversed = is_reversed(till, &past.outcome);
-    put_answer(&mut body, Some(key), &past.order, &past.outcome, reversed)?;
+    let reversed = is_reversed(found.entries, &past.outcome);
+    put_answer(&mut body, Some(key), &past.order, &found.fate, reversed)?;
     Ok(Answer {
         location: location_of(alloc, key, past)?,
-        ..Answer::new(outcome_status(&past.outcome), body)
+        ..Answer::new(outcome_status(&found.fate), body)
     })
 }
 
@@ -134,19 +137,29 @@ pub(crate) fn payment(
     }
 }
 
-/// Returns the reversal of the payment with this key.
-pub(crate) fn reversal<D: Device>(service: &Service<D>, key: &[u8]) -> Result<Order, Trouble>
-    ensures { result ≡ reversal (state_of service.now.kept).book (first_noted key.now service.now.past) }
+/// Returns the reversal of the payment with the key `payment`, which a request with this key asks for.
+///
+/// A payment of an earlier book can be reversed no more. It is named only to repeat the answer for a known key.
+pub(crate) fn reversal<D: Device>(
+    service: &Service<D>,
+    key: &[u8],
+    payment: &[u8],
+) -> Result<Order, Trouble>
+    ensures { result ≡ reversal (is_known key.now service.now) (found_by payment.now service.now) }
 {
-    let Some(past) = service.find(key) else {
+    let Some(found) = service.find(payment) else {
         return Err(Trouble::NoPayment);
     };
-    let Some(trace) = paid_trace(&past.outcome) else {
+    let Some(trace) = paid_trace(&found.past.outcome) else {
         return Err(Trouble::NoPayment);
     };
-    match place_in(service.till(), trace) {
-        Some(at) => Ok(Order::Reverse(at)),
-        None => Err(Trouble::NoPayment),
+    let Some(at) = place_in(found.entries, trace) else {
+        return Err(Trouble::NoPayment);
+    };
+    if found.is_own || service.find(key).is_some() {
+        Ok(Order::Reverse(at))
+    } else {
+        Err(Trouble::OtherBook)
     }
 }
 
@@ -158,7 +171,7 @@ pub(crate) fn end_of(alloc: Global, past: &PastOrder) -> Result<Option<Vec<u8>>,
         return Ok(None);
     };
     let mut text = Text::new(alloc);
-    put_end(&mut text, key, &past.outcome)?;
+    put_end(&mut text, key, &Fate::unsettled(past.outcome))?;
     Ok(Some(Vec::from_slice(alloc, text.bytes())?))
 }
 
@@ -173,20 +186,19 @@ fn paid_trace(outcome: &Option<Outcome>) -> Option<Trace>
 }
 
 /// Returns the index of the entry with this trace number.
-fn place_in(till: &Till, trace: Trace) -> Option<usize>
-    ensures { result ≡ place_in till.now.state.book trace }
+fn place_in(book: &[Entry], trace: Trace) -> Option<usize>
+    ensures { result ≡ place_in book.now trace }
 {
-    till.book()
-        .iter()
+    book.iter()
         .position(|entry| entry.trace.get() == trace.get())
 }
 
 /// Returns whether a completed reversal took this payment back.
-fn is_reversed(till: &Till, outcome: &Option<Outcome>) -> bool
-    ensures { result ≡ is_reversed till.now.state.book outcome.now }
+fn is_reversed(book: &[Entry], outcome: &Option<Outcome>) -> bool
+    ensures { result ≡ is_reversed book.now outcome.now }
 {
     match paid_trace(outcome) {
-        Some(trace) => is_taken_back(till.book(), trace),
+        Some(trace) => is_taken_back(book, trace),
         None => false,
     }
 }

@@ -1,8 +1,9 @@
 //! The loop over all sockets. The proofs of this module show that it is safe; the behaviour of sockets is the system's.
 
-use crate::asks::{BookLines, Desk};
+use crate::asks::Desk;
 use crate::clients::Clients;
 use crate::clock::{Moment, Stopwatch};
+use crate::host::{Host, Watch};
 use crate::line::{Line, TERMINAL, TerminalOptions};
 use mio::net::TcpListener;
 use mio::{Events, Interest, Poll, Token};
@@ -77,35 +78,36 @@ impl Server {
         self.listener.local_addr()
     }
 
-    /// Serves clients that pass the guards, until one sends `POST /stop`. Then the running order ends first, and what is
-    /// unsent is sent.
+    /// Serves clients that pass the guards, until one sends `POST /stop`, or the host cannot record what passes on the line
+    /// to the terminal. After `POST /stop` the running order ends first. What is unsent is sent.
     ///
     /// Fails if the system cannot say what is ready, or what time it is. Orders that were sent are in the book, so
     /// another server can go on with it.
-    pub fn run<R: Net + Clock, D: Device, B: BookLines>(
+    pub fn run<R: Net + Clock, D: Device, H: Host>(
         &mut self,
         rt: &R,
         guards: &Guards,
         service: &mut Service<D>,
-        book: &mut B,
+        host: &mut H,
     ) -> io::Result<()> {
         let stopwatch = Stopwatch::start(rt)?;
-        let mut desk = Desk::new(self.alloc, service, book, Line::new(self.terminal));
+        let watch = Watch::new(self.alloc, self.terminal.form, host);
+        let mut desk = Desk::new(self.alloc, service, Line::new(self.terminal), watch);
         let ended = self.serve(rt, guards, &mut desk, &stopwatch);
         desk.close();
         ended
     }
 
     /// Makes turns until the service stops.
-    fn serve<R: Net + Clock, D: Device, B: BookLines>(
+    fn serve<R: Net + Clock, D: Device, H: Host>(
         &mut self,
         rt: &R,
         guards: &Guards,
-        desk: &mut Desk<'_, '_, D, B>,
+        desk: &mut Desk<'_, '_, D, H>,
         stopwatch: &Stopwatch,
     ) -> io::Result<()> {
         for _turn in 0..u64::MAX {
-            self.wait(&mut desk.line, desk.log.last())?;
+            self.wait(&mut desk.line, desk.watch.log.last())?;
             let now = stopwatch.now(rt)?;
             self.turn(rt, guards, desk, now);
             if self.is_done(desk, now) {
@@ -134,25 +136,31 @@ impl Server {
     }
 
     /// Serves the terminal first, so that clients are told at once how their orders ended.
-    fn turn<R: Net + Clock, D: Device, B: BookLines>(
+    fn turn<R: Net + Clock, D: Device, H: Host>(
         &mut self,
         rt: &R,
         guards: &Guards,
-        desk: &mut Desk<'_, '_, D, B>,
+        desk: &mut Desk<'_, '_, D, H>,
         now: Moment,
     ) {
         if self.has_arrivals {
             self.has_arrivals = self.clients.accept(&self.poll, &self.listener, now);
         }
-        desk.line
-            .turn(rt, self.alloc, &self.poll, desk.service, now);
+        desk.line.turn(
+            rt,
+            self.alloc,
+            &self.poll,
+            desk.service,
+            &mut desk.watch,
+            now,
+        );
         desk.report_ends();
         self.clients.turn(rt, guards, desk, now);
     }
 
     /// Returns whether the service stops now: no order is running, and each client has its answer or had time for it.
-    fn is_done<D: Device, B: BookLines>(&mut self, desk: &Desk<'_, '_, D, B>, now: Moment) -> bool {
-        if !desk.is_stopping || desk.has_running() {
+    fn is_done<D: Device, H: Host>(&mut self, desk: &Desk<'_, '_, D, H>, now: Moment) -> bool {
+        if !desk.is_stopping() || desk.has_running() {
             return false;
         }
         if !self.clients.are_owed() {

@@ -14,6 +14,8 @@ pub enum Trouble {
     OtherCurrency,
     /// No payment with the key was completed.
     NoPayment,
+    /// The payment is in a book of an earlier day, to which nothing is added.
+    OtherBook,
     /// No order has the key.
     UnknownKey,
     /// Another order is running.
@@ -45,7 +47,7 @@ impl Trouble {
     {
         match self {
             Trouble::NoPayment | Trouble::UnknownKey => 404,
-            Trouble::Busy | Trouble::Refused(_) => 409,
+            Trouble::OtherBook | Trouble::Busy | Trouble::Refused(_) => 409,
             Trouble::KeyReused | Trouble::OtherCurrency => 422,
             Trouble::NoSpace | Trouble::Book | Trouble::Interrupted | Trouble::Memory => 500,
             Trouble::NoTerminal | Trouble::Stopping => 503,
@@ -60,6 +62,7 @@ impl Trouble {
             Trouble::KeyReused => "key_reused",
             Trouble::OtherCurrency => "other_currency",
             Trouble::NoPayment => "no_payment",
+            Trouble::OtherBook => "other_book",
             Trouble::UnknownKey => "unknown_key",
             Trouble::Busy => "busy",
             Trouble::NoTerminal => "no_terminal",
@@ -82,6 +85,10 @@ impl Trouble {
             }
             Trouble::NoPayment => {
                 "No completed payment has this key. Look it up with GET /payments/KEY first."
+            }
+            Trouble::OtherBook => {
+                "The payment is in the book of an earlier day, to which nothing is added. Give the \
+money back at the terminal."
             }
             Trouble::UnknownKey => {
                 "No order has this key, so nothing was sent for it. Check the key, or send the order."

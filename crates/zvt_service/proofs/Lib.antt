@@ -1,4 +1,7 @@
 pub mod Living
 mod Paid
+mod Rows
 mod Sent
+mod Settled
 mod Stays
+mod Verdicts

@@ -1,6 +1,7 @@
 -- No key is sent twice.
-use Rattle.std.specs.Prelude.{Ok, Err, IsSomeAnd}
-use Rattle.std.proofs.Common.{◌≡◌, ◌⊎◌, ⊎_elim, inl, inr, ℕ, Bool, true, false, cond, ◌||◌, ◌-◌, List, [], ◌∷◌, ◌++◌, All, append-nil, length, map, Option, Some, None, Result, slice_get, slice_set, refl, sym, ap, subst, ◌∙◌, append_assoc, true≢false}
+use Rattle.std.specs.Prelude.{Ok, Err, option_map}
+use Rattle.std.specs.Option.{option_or}
+use Rattle.std.proofs.Common.{◌≡◌, ◌⊎◌, ⊎_elim, inl, inr, ℕ, Bool, true, false, cond, ◌||◌, ◌-◌, List, [], ◌∷◌, ◌++◌, All, append-nil, length, map, Option, Some, None, is_some, Result, slice_get, slice_set, refl, sym, ap, subst, ◌∙◌, append_assoc, true≢false}
 use Rattle.std.specs.List.{AllByRecursion, IsDistinct, list_any}
 use Rattle.std.specs.Str.{bytes_eq}
 use Rattle.std.proofs.lemmas.List.Elements.{All-cons, All-nil}
@@ -20,7 +21,8 @@ use Rattle.zvt_till.specs.declared.keeper.BookFault.{BookFault}
 use Rattle.zvt_journal.specs.declared.device.DeviceError.{DeviceError}
 use Rattle.zvt_journal.specs.Text.{recovered, IsSettled}
 use Rattle.zvt_kept.specs.declared.past_orders.PastOrder.{PastOrder}
-use Rattle.zvt_kept.specs.KeptTill.{Connects as KeptConnects, Hears as KeptHears, KeptValue, Standing, Writes, has_failed, with_note}
+use Rattle.zvt_kept.specs.declared.recovery.Recovered.{Recovered}
+use Rattle.zvt_kept.specs.KeptTill.{Connects as KeptConnects, Hears as KeptHears, KeptValue, Standing, Writes, both_in, has_failed, with_note}
 use Rattle.zvt_kept.specs.Keeping.{kept_asks, kept_connects, kept_orders}
 use Rattle.zvt_kept.specs.Notes.{is_noted_by, reference_in}
 use Rattle.zvt_kept.specs.PastOrders.{ended, first_noted, followed, held, record_of, runs, starting, starts}
@@ -31,7 +33,8 @@ use Rattle.zvt_kept.proofs.PastOrderLemmas.{map_set, starting_one}
 use Rattle.zvt_kept.proofs.Steps.{asked_up, taken_up}
 use Rattle.zvt_service.specs.declared.service.Ungiven.{Ungiven}
 use Rattle.zvt_service.specs.declared.service.Ungiven.TheVariants.{Known, Memory, Till as TillRefused}
-use Rattle.zvt_service.specs.Service.{Asks, Gives, ServiceValue, holder, holder_of, state_of, unless_failed}
+use Rattle.zvt_service.specs.Books.{in_earlier, order_in}
+use Rattle.zvt_service.specs.Service.{Asks, Gives, ServiceValue, is_any_known, is_held, is_known, state_of, unless_failed}
 use Rattle.zvt_service.proofs.Living.{starting_while}
 use Rattle.zvt_service.specs.Lives.{Call, gives, asks, hears, loses, connects, Move, returns, ends_in, ends, IsKnown, IsWhole, Lives, Moves, Reopens, Returns, SentOnce, keys_in, keys_of, one_or_none}
 
@@ -51,13 +54,17 @@ any_has key kept = list_any (has_key key) kept
 abbrev pub records : {D : Type 0} → ServiceValue D → List Kept
 records s = map record_of s.past
 
-or-right : (a : Bool) → (a || true) ≡ true
+pub or-right : (a : Bool) → (a || true) ≡ true
 or-right true = refl
 or-right false = refl
 
-or-false : (a b : Bool) → (a || b) ≡ false → a ≡ false
-or-false true b is = is
-or-false false b is = refl
+or-split : (a b : Bool) → (a || b) ≡ true → (a ≡ true) ⊎ (b ≡ true)
+or-split true b is = inl refl
+or-split false b is = inr is
+
+or-only : (a : Bool) → (a || false) ≡ true → a ≡ true
+or-only true is = refl
+or-only false is = absurd cc
 
 any_more : (key : List ℕ) (kept more : List Kept) → any_has key kept ≡ true → any_has key (kept ++ more) ≡ true
 any_more key kept more is = list_any-append (has_key key) kept more ∙ ap (λ b. b || any_has key more) is
@@ -65,36 +72,32 @@ any_more key kept more is = list_any-append (has_key key) kept more ∙ ap (λ b
 any_last : (key : List ℕ) (kept more : List Kept) → any_has key more ≡ true → any_has key (kept ++ more) ≡ true
 any_last key kept more is = list_any-append (has_key key) kept more ∙ ap (λ b. any_has key kept || b) is ∙ or-right (any_has key kept)
 
-none_earlier : (key : List ℕ) (kept more : List Kept) → any_has key (kept ++ more) ≡ false → any_has key kept ≡ false
-none_earlier key kept more is = or-false (any_has key kept) (any_has key more) (sym (list_any-append (has_key key) kept more) ∙ is)
-
--- an order of the book has a key exactly if a record of the book has it
-known_first : (key : List ℕ) (past : List PastOrder) → any_has key (map record_of past) ≡ true → IsKnown key past
-known_first key [] is = absurd cc
-known_first key (one ∷ past) is = by_first (is_noted_by key one.note) is (known_first key past)
+-- an order of a book has a key exactly if a record of the book has it
+pub noted_any : (key : List ℕ) (past : List PastOrder) → is_some (first_noted key past) ≡ any_has key (map record_of past)
+noted_any key [] = refl
+noted_any key (one ∷ past) = by_first (is_noted_by key one.note) (noted_any key past)
   where
-    by_first : (b : Bool) → (b || any_has key (map record_of past)) ≡ true → (any_has key (map record_of past) ≡ true → IsKnown key past) → (x : PastOrder) × (cond b (Some one) (first_noted key past) ≡ Some x)
-    by_first true any more = (one, refl)
-    by_first false any more = more any
+    by_first : (b : Bool) → is_some (first_noted key past) ≡ any_has key (map record_of past) → is_some (cond b (Some one) (first_noted key past)) ≡ (b || any_has key (map record_of past))
+    by_first true more = refl
+    by_first false more = more
 
-unknown_first : (key : List ℕ) (past : List PastOrder) → first_noted key past ≡ None → any_has key (map record_of past) ≡ false
-unknown_first key [] none = refl
-unknown_first key (one ∷ past) none = by_first (is_noted_by key one.note) none (unknown_first key past)
+-- an order of a book of an earlier day has this key
+abbrev pub is_earlier : (key : List ℕ) → List Recovered → Bool
+is_earlier key earlier = is_some (in_earlier key earlier)
+
+-- a key is known exactly if a record of the service's own book has it, or an earlier book
+pub known_is : {D : Type 0} (key : List ℕ) (s : ServiceValue D) → is_known key s ≡ (any_has key (records s) || is_earlier key s.earlier)
+known_is key s = either (first_noted key s.past) ∙ ap (λ b. b || is_earlier key s.earlier) (noted_any key s.past)
   where
-    by_first : (b : Bool) → cond b (Some one) (first_noted key past) ≡ None → (first_noted key past ≡ None → any_has key (map record_of past) ≡ false) → (b || any_has key (map record_of past)) ≡ false
-    by_first true is more = absurd cc
-    by_first false is more = more is
+    either : (found : Option PastOrder) → is_some (option_or (option_map (order_in key true (both_in s.kept.standing) s.past) found) (in_earlier key s.earlier)) ≡ (is_some found || is_earlier key s.earlier)
+    either None = refl
+    either (Some one) = refl
 
-known_any : (key : List ℕ) (past : List PastOrder) → IsKnown key past → any_has key (map record_of past) ≡ true
-known_any key [] known = let none : None ≡ Some known.0 = known.1 in absurd cc
-known_any key (one ∷ past) known = by_first (is_noted_by key one.note) known.1 (λ more. known_any key past (known.0, more))
-  where
-    by_first : (b : Bool) → cond b (Some one) (first_noted key past) ≡ Some known.0 → (first_noted key past ≡ Some known.0 → any_has key (map record_of past) ≡ true) → (b || any_has key (map record_of past)) ≡ true
-    by_first true is more = refl
-    by_first false is more = more is
+known_by_record : {D : Type 0} (key : List ℕ) (s : ServiceValue D) → any_has key (records s) ≡ true → is_known key s ≡ true
+known_by_record key s has = known_is key s ∙ ap (λ b. b || is_earlier key s.earlier) has
 
-not_known : (key : List ℕ) (past : List PastOrder) → any_has key (map record_of past) ≡ false → IsKnown key past → ⊥
-not_known key past none known = true≢false (sym (known_any key past known) ∙ none)
+not_known : {D : Type 0} (key : List ℕ) (s : ServiceValue D) → is_known key s ≡ false → IsKnown key s → ⊥
+not_known key s unknown known = true≢false (sym known ∙ unknown)
 
 same_bytes : (key : List ℕ) → bytes_eq key key ≡ true
 same_bytes key = (bytes_eq-Decides key key).1 refl
@@ -103,6 +106,20 @@ own_key : (key note : List ℕ) → reference_in note ≡ Some key → is_noted_
 own_key key note is = ap (λ found. elim found [ None ↦ false | Some x ↦ bytes_eq x key ]) is ∙ same_bytes key
 
 -- ---- what one move adds to the records
+
+-- no order of some book has the key of this record
+abbrev pub IsFresh : {D : Type 0} → ServiceValue D → Kept → Type 0
+IsFresh old one = (key : List ℕ) → has_key key one ≡ true → is_known key old ≡ false
+
+keyless : {D : Type 0} (old : ServiceValue D) (one : Kept) → ((key : List ℕ) → has_key key one ≡ false) → IsFresh old one
+keyless old one none key has = absurd (true≢false (sym has ∙ none key))
+
+pub order_fresh : {D : Type 0} (order : Order) (note : List ℕ) (old : ServiceValue D) → is_held note old ≡ false → IsFresh old (ordered order note)
+order_fresh order note old free key has = by_reference (reference_in note) free has
+  where
+    by_reference : (found : Option (List ℕ)) → is_any_known found old ≡ false → elim found [ None ↦ false | Some x ↦ bytes_eq x key ] ≡ true → is_known key old ≡ false
+    by_reference None held noted = absurd cc
+    by_reference (Some x) held noted = subst (λ k. is_known k old ≡ false) ((bytes_eq-Decides x key).0 noted) held
 
 -- what the till lives through changes no record
 followed_records : (past : List PastOrder) (state : TillState) → map record_of (followed past state) ≡ map record_of past
@@ -120,37 +137,48 @@ held_records past order note = by_run (runs order)
     by_run true = map-append record_of past _
     by_run false = sym (append-nil (map record_of past))
 
--- The records after a move are those before it and some more. At most one key was sent: no record had it before, and
--- one of the new ones has it.
+-- The records after a move are those before it and some more, and the earlier books are the same. No key of the new
+-- records was known before. At most one key was sent, and one of the new records has it.
 pub record Adds {D : Type 0} (old new : ServiceValue D) (sent : List (List ℕ)) : Type 0 where
   pub more : List Kept
   pub is : records new ≡ records old ++ more
-  pub none_or_one : (sent ≡ []) ⊎ ((key : List ℕ) × (sent ≡ key ∷ []) × (any_has key (records old) ≡ false) × (any_has key more ≡ true))
+  pub earlier : new.earlier ≡ old.earlier
+  pub fresh : (key : List ℕ) → any_has key more ≡ true → is_known key old ≡ false
+  pub none_or_one : (sent ≡ []) ⊎ ((key : List ℕ) × (sent ≡ key ∷ []) × (any_has key more ≡ true))
 
-adds_none : {D : Type 0} (old new : ServiceValue D) (sent : List (List ℕ)) → records new ≡ records old → sent ≡ [] → Adds old new sent
-adds_none old new sent same none = record { more = []; is = same ∙ sym (append-nil (records old)); none_or_one = inl none }
+adds_none : {D : Type 0} (old new : ServiceValue D) (sent : List (List ℕ)) → records new ≡ records old → new.earlier ≡ old.earlier → sent ≡ [] → Adds old new sent
+adds_none old new sent same earlier none = record { more = []; is = same ∙ sym (append-nil (records old)); earlier = earlier; fresh = λ key has. absurd cc; none_or_one = inl none }
+
+-- a record is added if it starts an order
+fresh_if : {D : Type 0} (old : ServiceValue D) (one : Kept) (b : Bool) → IsFresh old one → (key : List ℕ) → any_has key (cond b (one ∷ []) []) ≡ true → is_known key old ≡ false
+fresh_if old one true fresh key has = fresh key (or-only (has_key key one) has)
+fresh_if old one false fresh key has = absurd cc
 
 -- an order that was sent
-sent_key : {D : Type 0} (order : Order) (note : List ℕ) (old : ServiceValue D) (runs_is : Bool) (found : Option (List ℕ)) → reference_in note ≡ found
-    → holder_of found old.past ≡ None → (sent : List (List ℕ)) → sent ≡ cond runs_is (one_or_none found) []
-    → (sent ≡ []) ⊎ ((key : List ℕ) × (sent ≡ key ∷ []) × (any_has key (records old) ≡ false) × (any_has key (cond runs_is (ordered order note ∷ []) []) ≡ true))
-sent_key order note old false found is free sent sent_is = inl sent_is
-sent_key order note old true None is free sent sent_is = inl sent_is
-sent_key order note old true (Some key) is free sent sent_is = inr (key, sent_is, unknown_first key old.past free, ap (λ b. b || false) (own_key key note is))
+sent_key : (order : Order) (note : List ℕ) (runs_is : Bool) (found : Option (List ℕ)) → reference_in note ≡ found → (sent : List (List ℕ)) → sent ≡ cond runs_is (one_or_none found) []
+    → (sent ≡ []) ⊎ ((key : List ℕ) × (sent ≡ key ∷ []) × (any_has key (cond runs_is (ordered order note ∷ []) []) ≡ true))
+sent_key order note false found is sent sent_is = inl sent_is
+sent_key order note true None is sent sent_is = inl sent_is
+sent_key order note true (Some key) is sent sent_is = inr (key, sent_is, ap (λ b. b || false) (own_key key note is))
 
-given_adds : {D : Type 0} (order : Order) (note : List ℕ) (old new : ServiceValue D) (sent : List (List ℕ)) → holder note old.past ≡ None → new.past ≡ followed (held old.past (ordered order note)) (state_of new.kept)
-    → sent ≡ cond (runs order) (keys_in note) [] → Adds old new sent
-given_adds order note old new sent free is sent_is = record {
+given_adds : {D : Type 0} (order : Order) (note : List ℕ) (old new : ServiceValue D) (sent : List (List ℕ)) → is_held note old ≡ false → new.past ≡ followed (held old.past (ordered order note)) (state_of new.kept)
+    → new.earlier ≡ old.earlier → sent ≡ cond (runs order) (keys_in note) [] → Adds old new sent
+given_adds order note old new sent free is earlier sent_is = record {
   more = cond (runs order) (ordered order note ∷ []) [];
   is = ap (map record_of) is ∙ followed_records (held old.past (ordered order note)) (state_of new.kept) ∙ held_records old.past order note;
-  none_or_one = sent_key order note old (runs order) (reference_in note) refl free sent sent_is;
+  earlier = earlier;
+  fresh = fresh_if old (ordered order note) (runs order) (order_fresh order note old free);
+  none_or_one = sent_key order note (runs order) (reference_in note) refl sent sent_is;
 }
 
-followed_adds : {D : Type 0} (old new : ServiceValue D) (sent : List (List ℕ)) → new.past ≡ followed old.past (state_of new.kept) → sent ≡ [] → Adds old new sent
-followed_adds old new sent is none = adds_none old new sent (ap (map record_of) is ∙ followed_records old.past (state_of new.kept)) none
+followed_adds : {D : Type 0} (old new : ServiceValue D) (sent : List (List ℕ)) → new.past ≡ followed old.past (state_of new.kept) → new.earlier ≡ old.earlier → sent ≡ [] → Adds old new sent
+followed_adds old new sent is earlier none = adds_none old new sent (ap (map record_of) is ∙ followed_records old.past (state_of new.kept)) earlier none
 
-same_adds : {D : Type 0} (old new : ServiceValue D) (sent : List (List ℕ)) → new.past ≡ old.past → sent ≡ [] → Adds old new sent
-same_adds old new sent is none = adds_none old new sent (ap (map record_of) is) none
+same_adds : {D : Type 0} (old new : ServiceValue D) (sent : List (List ℕ)) → new.past ≡ old.past → new.earlier ≡ old.earlier → sent ≡ [] → Adds old new sent
+same_adds old new sent is earlier none = adds_none old new sent (ap (map record_of) is) earlier none
+
+earlier_in : {D : Type 0} → ServiceValue D → List Recovered
+earlier_in s = s.earlier
 
 no_keys : IsDistinct bytes_eq []
 unfolding IsDistinct
@@ -160,47 +188,44 @@ no_keys = tt
 
 module _ {D : Type 0} (seen : D → List ℕ) (may_leave : D → List ℕ → Type 0) (moment : D → ℕ) (left_since : D → ℕ → List ℕ → Type 0) (faults : D → ℕ) where
   gives_adds : (order : Order) (note : List ℕ) (old new : ServiceValue D) (result : Result Outgoing Ungiven) (sent : List (List ℕ)) → Gives seen may_leave moment left_since faults order note old result new → sent ≡ keys_of order note result → Adds old new sent
-  gives_adds order note old new (Ok outgoing) sent g is = given_adds order note old new sent g.0 g.2 is
-  gives_adds order note old new (Err Known) sent g is = adds_none old new sent (same_after (holder note old.past) g) is
-    where
-      same_after : (found : Option PastOrder) → IsSomeAnd found (λ past. new ≡ old) → records new ≡ records old
-      same_after None absent = absurd absent
-      same_after (Some one) same = ap records same
-  gives_adds order note old new (Err Memory) sent g is = adds_none old new sent (ap records g.1) is
-  gives_adds order note old new (Err (TillRefused why)) sent g is = same_adds old new sent g.2 is
+  gives_adds order note old new (Ok outgoing) sent g is = given_adds order note old new sent g.0 g.2 g.3 is
+  gives_adds order note old new (Err Known) sent g is = adds_none old new sent (ap records g.1) (ap earlier_in g.1) is
+  gives_adds order note old new (Err Memory) sent g is = adds_none old new sent (ap records g.1) (ap earlier_in g.1) is
+  gives_adds order note old new (Err (TillRefused why)) sent g is = same_adds old new sent g.2 g.3 is
 
   asks_adds : (note : List ℕ) (old new : ServiceValue D) (result : Result (List ℕ) Untaken) (sent : List (List ℕ)) → Asks seen may_leave moment left_since faults note old result new → sent ≡ [] → Adds old new sent
-  asks_adds note old new (Ok bytes) sent a none = followed_adds old new sent a.1 none
-  asks_adds note old new (Err why) sent a none = same_adds old new sent a.1 none
+  asks_adds note old new (Ok bytes) sent a none = followed_adds old new sent a.1 a.2 none
+  asks_adds note old new (Err why) sent a none = same_adds old new sent a.1 a.2 none
 
-  unless_adds : (old new : ServiceValue D) (sent : List (List ℕ)) (failed : Bool) → new.past ≡ unless_failed failed old.past (followed old.past (state_of new.kept)) → sent ≡ [] → Adds old new sent
-  unless_adds old new sent true is none = same_adds old new sent is none
-  unless_adds old new sent false is none = followed_adds old new sent is none
+  unless_adds : (old new : ServiceValue D) (sent : List (List ℕ)) (failed : Bool) → new.past ≡ unless_failed failed old.past (followed old.past (state_of new.kept)) → new.earlier ≡ old.earlier → sent ≡ [] → Adds old new sent
+  unless_adds old new sent true is earlier none = same_adds old new sent is earlier none
+  unless_adds old new sent false is earlier none = followed_adds old new sent is earlier none
 
   returned_adds : (call : Call) (old new : ServiceValue D) (sent : List (List ℕ)) → Returns seen may_leave moment left_since faults call old new sent → Adds old new sent
   returned_adds (gives order note) old new sent r = gives_adds order note old new r.0 sent r.1 r.2
   returned_adds (asks note) old new sent r = asks_adds note old new r.0 sent r.1 r.2
   returned_adds hears old new sent r = ⊎_elim
-      (λ still. adds_none old new sent (ap records still.1) r.3)
-      (λ more. unless_adds old new sent (has_failed new.kept) more.2 r.3)
+      (λ still. adds_none old new sent (ap records still.1) (ap earlier_in still.1) r.3)
+      (λ more. unless_adds old new sent (has_failed new.kept) more.2 more.3 r.3)
       r.2
   returned_adds loses old new sent r = ⊎_elim
-      (λ still. adds_none old new sent (ap records still.1) r.1)
-      (λ more. followed_adds old new sent more.2 r.1)
+      (λ still. adds_none old new sent (ap records still.1) (ap earlier_in still.1) r.1)
+      (λ more. followed_adds old new sent more.2 more.3 r.1)
       r.0
-  returned_adds connects old new sent r = same_adds old new sent r.1.1 r.2
+  returned_adds connects old new sent r = same_adds old new sent r.1.1 r.1.2 r.2
 
   -- ---- what a crash leaves
 
-  -- The file has the records of a till's journal, or one more. While the line is down, that is the record of its loss.
-  abbrev pub Leaves : (old : Standing D) (file : List ℕ) → Type 0
+  -- The file has the records of a service's journal, or one more, whose key is new. While the line is down, that is the
+  -- record of its loss.
+  abbrev pub Leaves : (old : ServiceValue D) (file : List ℕ) → Type 0
   Leaves old file =
-      (recovered file ≡ recovered (seen old.device))
-      ⊎ ((one : Kept) × (added : List ℕ) × IsRecordOf one added × (recovered file ≡ recovered (seen old.device) ++ added) × (old.till.state.line_up ≡ false → one ≡ lost))
+      (recovered file ≡ recovered (seen old.kept.standing.device))
+      ⊎ ((one : Kept) × (added : List ℕ) × IsRecordOf one added × (recovered file ≡ recovered (seen old.kept.standing.device) ++ added) × ((state_of old.kept).line_up ≡ false → one ≡ lost) × IsFresh old one)
 
-  with_or_without : (one : Kept) (old new : Standing D) (result : Result Unit DeviceError) (file : List ℕ) → Writes seen may_leave moment left_since faults one old new result → (old.till.state.line_up ≡ false → one ≡ lost)
-      → left_since new.device (moment old.device) file → Leaves old file
-  with_or_without one old new result file w down left = ⊎_elim (λ same. inl same) (λ more. inr (one, w.added, w.is, more, down)) (w.adds.leaves.here file left)
+  with_or_without : (one : Kept) (old : ServiceValue D) (new : Standing D) (result : Result Unit DeviceError) (file : List ℕ) → Writes seen may_leave moment left_since faults one old.kept.standing new result
+      → ((state_of old.kept).line_up ≡ false → one ≡ lost) → IsFresh old one → left_since new.device (moment old.kept.standing.device) file → Leaves old file
+  with_or_without one old new result file w down fresh left = ⊎_elim (λ same. inl same) (λ more. inr (one, w.added, w.is, more, down, fresh)) (w.adds.leaves.here file left)
 
   -- a line that is up is not down
   not_down : (up : Bool) (one : Kept) → up ≡ true → up ≡ false → one ≡ lost
@@ -212,69 +237,65 @@ module _ {D : Type 0} (seen : D → List ℕ) (may_leave : D → List ℕ → Ty
 
     -- nothing was written
     pub at_rest : (service : ServiceValue D) (device : D) (file : List ℕ) → IsWhole seen may_leave moment left_since faults service → device ≡ service.kept.standing.device
-        → left_since device (moment service.kept.standing.device) file → Leaves service.kept.standing file
+        → left_since device (moment service.kept.standing.device) file → Leaves service file
     at_rest service device file is same left =
         let here = service.kept.standing.device in
         inl (ap recovered ((settled_in service is).durable file (only_now here file (subst (λ d. left_since d (moment here) file) same left))))
 
-    order_leaves : (order : Order) (note : List ℕ) (old last : ServiceValue D) (result : Result Outgoing Untaken) (file : List ℕ) → IsWhole seen may_leave moment left_since faults old
-        → kept_orders seen may_leave moment left_since faults (with_note old.kept note) order result last.kept → left_since last.kept.standing.device (moment old.kept.standing.device) file → Leaves old.kept.standing file
-    order_leaves order note old last (Ok outgoing) file is o left = with_or_without (ordered order note) old.kept.standing last.kept.standing (Ok tt) file o.0.3 (not_down (state_of old.kept).line_up (ordered order note) (taken_up (state_of old.kept) order o.0.0.taken)) left
-    order_leaves order note old last (Err (Refused why)) file is o left = at_rest old last.kept.standing.device file is (ap (λ (k : KeptValue D). k.standing.device) o.1) left
-    order_leaves order note old last (Err (Unkept NoSpace)) file is o left = inl (ap recovered (o.0.full.leaves.here file left))
-    order_leaves order note old last (Err (Unkept BookFailed)) file is o left = with_or_without (ordered order note) old.kept.standing last.kept.standing (Err o.0) file o.3 (not_down (state_of old.kept).line_up (ordered order note) (taken_up (state_of old.kept) order o.2.taken)) left
+    order_leaves : (order : Order) (note : List ℕ) (old last : ServiceValue D) (result : Result Outgoing Untaken) (file : List ℕ) → is_held note old ≡ false → IsWhole seen may_leave moment left_since faults old
+        → kept_orders seen may_leave moment left_since faults (with_note old.kept note) order result last.kept → left_since last.kept.standing.device (moment old.kept.standing.device) file → Leaves old file
+    order_leaves order note old last (Ok outgoing) file free is o left = with_or_without (ordered order note) old last.kept.standing (Ok tt) file o.0.3 (not_down (state_of old.kept).line_up (ordered order note) (taken_up (state_of old.kept) order o.0.0.taken)) (order_fresh order note old free) left
+    order_leaves order note old last (Err (Refused why)) file free is o left = at_rest old last.kept.standing.device file is (ap (λ (k : KeptValue D). k.standing.device) o.1) left
+    order_leaves order note old last (Err (Unkept NoSpace)) file free is o left = inl (ap recovered (o.0.full.leaves.here file left))
+    order_leaves order note old last (Err (Unkept BookFailed)) file free is o left = with_or_without (ordered order note) old last.kept.standing (Err o.0) file o.3 (not_down (state_of old.kept).line_up (ordered order note) (taken_up (state_of old.kept) order o.2.taken)) (order_fresh order note old free) left
 
     gives_leaves : (order : Order) (note : List ℕ) (old last : ServiceValue D) (result : Result Outgoing Ungiven) (file : List ℕ) → IsWhole seen may_leave moment left_since faults old → Gives seen may_leave moment left_since faults order note old result last
-        → left_since last.kept.standing.device (moment old.kept.standing.device) file → Leaves old.kept.standing file
-    gives_leaves order note old last (Ok outgoing) file is g left = order_leaves order note old last (Ok outgoing) file is g.1 left
-    gives_leaves order note old last (Err Known) file is g left = by_holder (holder note old.past) g
-      where
-        by_holder : (found : Option PastOrder) → IsSomeAnd found (λ past. last ≡ old) → Leaves old.kept.standing file
-        by_holder None absent = absurd absent
-        by_holder (Some one) same = at_rest old last.kept.standing.device file is (ap (λ (s : ServiceValue D). s.kept.standing.device) same) left
+        → left_since last.kept.standing.device (moment old.kept.standing.device) file → Leaves old file
+    gives_leaves order note old last (Ok outgoing) file is g left = order_leaves order note old last (Ok outgoing) file g.0 is g.1 left
+    gives_leaves order note old last (Err Known) file is g left = at_rest old last.kept.standing.device file is (ap (λ (s : ServiceValue D). s.kept.standing.device) g.1) left
     gives_leaves order note old last (Err Memory) file is g left = at_rest old last.kept.standing.device file is (ap (λ (s : ServiceValue D). s.kept.standing.device) g.1) left
-    gives_leaves order note old last (Err (TillRefused why)) file is g left = order_leaves order note old last (Err why) file is g.1 left
+    gives_leaves order note old last (Err (TillRefused why)) file is g left = order_leaves order note old last (Err why) file g.0 is g.1 left
 
     asks_leaves : (note : List ℕ) (old last : ServiceValue D) (result : Result (List ℕ) Untaken) (file : List ℕ) → IsWhole seen may_leave moment left_since faults old → kept_asks seen may_leave moment left_since faults (with_note old.kept note) result last.kept
-        → left_since last.kept.standing.device (moment old.kept.standing.device) file → Leaves old.kept.standing file
-    asks_leaves note old last (Ok bytes) file is a left = with_or_without (asked note) old.kept.standing last.kept.standing (Ok tt) file a.0.2 (not_down (state_of old.kept).line_up (asked note) (asked_up (state_of old.kept) old.kept.standing.settling.asking a.0.0.accepts.taken)) left
+        → left_since last.kept.standing.device (moment old.kept.standing.device) file → Leaves old file
+    asks_leaves note old last (Ok bytes) file is a left = with_or_without (asked note) old last.kept.standing (Ok tt) file a.0.2 (not_down (state_of old.kept).line_up (asked note) (asked_up (state_of old.kept) old.kept.standing.settling.asking a.0.0.accepts.taken)) (keyless old (asked note) (λ key. refl)) left
     asks_leaves note old last (Err (Refused why)) file is a left = at_rest old last.kept.standing.device file is (ap (λ (k : KeptValue D). k.standing.device) a.1) left
     asks_leaves note old last (Err (Unkept NoSpace)) file is a left = inl (ap recovered (a.0.full.leaves.here file left))
-    asks_leaves note old last (Err (Unkept BookFailed)) file is a left = with_or_without (asked note) old.kept.standing last.kept.standing (Err a.0) file a.3 (not_down (state_of old.kept).line_up (asked note) (asked_up (state_of old.kept) old.kept.standing.settling.asking a.2.loses.taken)) left
+    asks_leaves note old last (Err (Unkept BookFailed)) file is a left = with_or_without (asked note) old last.kept.standing (Err a.0) file a.3 (not_down (state_of old.kept).line_up (asked note) (asked_up (state_of old.kept) old.kept.standing.settling.asking a.2.loses.taken)) (keyless old (asked note) (λ key. refl)) left
 
     hears_leaves : (old last : ServiceValue D) (message : Message) (answered : Answered) (file : List ℕ) → IsWhole seen may_leave moment left_since faults old → KeptHears seen may_leave moment left_since faults old.kept message answered last.kept
-        → left_since last.kept.standing.device (moment old.kept.standing.device) file → Leaves old.kept.standing file
+        → left_since last.kept.standing.device (moment old.kept.standing.device) file → Leaves old file
     hears_leaves old last message answered file is h left = ⊎_elim
         (λ still. at_rest old last.kept.standing.device file is (ap (λ (k : KeptValue D). k.standing.device) still.1) left)
         (λ more. ⊎_elim
-        (λ kept. with_or_without (heard kept.1.recorded.0) old.kept.standing last.kept.standing (Ok tt) file kept.1.recorded.1 (not_down (state_of old.kept).line_up (heard kept.1.recorded.0) kept.1.up) left)
-        (λ broke. with_or_without (heard broke.3.recorded.0) old.kept.standing last.kept.standing (Err broke.0) file broke.3.recorded.1 (not_down (state_of old.kept).line_up (heard broke.3.recorded.0) broke.3.up) left)
+        (λ kept. with_or_without (heard kept.1.recorded.0) old last.kept.standing (Ok tt) file kept.1.recorded.1 (not_down (state_of old.kept).line_up (heard kept.1.recorded.0) kept.1.up) (keyless old (heard kept.1.recorded.0) (λ key. refl)) left)
+        (λ broke. with_or_without (heard broke.3.recorded.0) old last.kept.standing (Err broke.0) file broke.3.recorded.1 (not_down (state_of old.kept).line_up (heard broke.3.recorded.0) broke.3.up) (keyless old (heard broke.3.recorded.0) (λ key. refl)) left)
         more)
         h
 
     line_leaves : (old last : ServiceValue D) (result : Result Unit DeviceError) (file : List ℕ) → IsWhole seen may_leave moment left_since faults old → KeptConnects seen may_leave moment left_since faults old.kept last.kept result
-        → left_since last.kept.standing.device (moment old.kept.standing.device) file → Leaves old.kept.standing file
+        → left_since last.kept.standing.device (moment old.kept.standing.device) file → Leaves old file
     line_leaves old last (Ok up) file is k left = ⊎_elim
         (λ still. at_rest old last.kept.standing.device file is (ap (λ (k : KeptValue D). k.standing.device) still.1) left)
-        (λ more. with_or_without lost old.kept.standing last.kept.standing (Ok tt) file more.2.recorded (λ down. refl) left)
+        (λ more. with_or_without lost old last.kept.standing (Ok tt) file more.2.recorded (λ down. refl) (keyless old lost (λ key. refl)) left)
         k
     line_leaves old last (Err why) file is k left = ⊎_elim
         (λ failed. absurd (true≢false (sym failed.0 ∙ is.whole)))
-        (λ more. with_or_without lost old.kept.standing last.kept.standing (Err why) file more.7 (λ down. refl) left)
+        (λ more. with_or_without lost old last.kept.standing (Err why) file more.7 (λ down. refl) (keyless old lost (λ key. refl)) left)
         k
 
     connects_leaves : (old last : ServiceValue D) (result : Result Unit BookFault) (file : List ℕ) → IsWhole seen may_leave moment left_since faults old → kept_connects seen may_leave moment left_since faults old.kept result last.kept
-        → left_since last.kept.standing.device (moment old.kept.standing.device) file → Leaves old.kept.standing file
+        → left_since last.kept.standing.device (moment old.kept.standing.device) file → Leaves old file
     connects_leaves old last (Ok up) file is k left = line_leaves old last (Ok up) file is k left
     connects_leaves old last (Err NoSpace) file is k left = absurd k
     connects_leaves old last (Err BookFailed) file is k left = line_leaves old last (Err k.0) file is k.1 left
 
     pub returned_leaves : (call : Call) (old last : ServiceValue D) (sent : List (List ℕ)) (file : List ℕ) → IsWhole seen may_leave moment left_since faults old → Returns seen may_leave moment left_since faults call old last sent
-        → left_since last.kept.standing.device (moment old.kept.standing.device) file → Leaves old.kept.standing file
+        → left_since last.kept.standing.device (moment old.kept.standing.device) file → Leaves old file
     returned_leaves (gives order note) old last sent file is r left = gives_leaves order note old last r.0 file is r.1 left
     returned_leaves (asks note) old last sent file is r left = asks_so r.0 r.1
       where
-        asks_so : (result : Result (List ℕ) Untaken) → Asks seen may_leave moment left_since faults note old result last → Leaves old.kept.standing file
+        asks_so : (result : Result (List ℕ) Untaken) → Asks seen may_leave moment left_since faults note old result last → Leaves old file
         asks_so (Ok bytes) a = asks_leaves note old last (Ok bytes) file is a.0 left
         asks_so (Err why) a = asks_leaves note old last (Err why) file is a.0 left
     returned_leaves hears old last sent file is r left = ⊎_elim
@@ -296,7 +317,7 @@ module _ {D : Type 0} (seen : D → List ℕ) (may_leave : D → List ℕ → Ty
     one_text a b x y is_x is_y same = let both : Some x ≡ Some y = sym is_x ∙ ap kept_in same ∙ is_y in cc both
 
     reopened_adds : (old by new : ServiceValue D) (sent : List (List ℕ)) → IsWhole seen may_leave moment left_since faults old → (r : Reopens seen may_leave moment left_since faults old by new)
-        → Leaves old.kept.standing r.file → sent ≡ [] → Adds old new sent
+        → Leaves old r.file → sent ≡ [] → Adds old new sent
     reopened_adds old by new sent is r leaves none = ⊎_elim same one_more leaves
       where
         text_old : List ℕ
@@ -314,15 +335,17 @@ module _ {D : Type 0} (seen : D → List ℕ) (may_leave : D → List ℕ → Ty
         same : recovered r.file ≡ text_old → Adds old new sent
         same as_before =
             let kept : after ≡ before = one_text text_new text_old after before (r.is_whole.served r.is_whole.whole).read (is.served is.whole).read (r.found ∙ as_before) in
-            adds_none old new sent (records_of new r.is_whole ∙ ap starting kept ∙ sym (records_of old is)) none
+            adds_none old new sent (records_of new r.is_whole ∙ ap starting kept ∙ sym (records_of old is)) r.earlier none
 
-        one_more : (one : Kept) × (added : List ℕ) × IsRecordOf one added × (recovered r.file ≡ text_old ++ added) × ((state_of old.kept).line_up ≡ false → one ≡ lost) → Adds old new sent
+        one_more : (one : Kept) × (added : List ℕ) × IsRecordOf one added × (recovered r.file ≡ text_old ++ added) × ((state_of old.kept).line_up ≡ false → one ≡ lost) × IsFresh old one → Adds old new sent
         one_more found =
             let read : kept_in (text_old ++ found.1) ≡ Some (before ++ found.0 ∷ []) = records_are_kept text_old before found.0 found.1 (whole_text (seen old.kept.standing.device)) (is.served is.whole).read found.2 in
             let kept : after ≡ before ++ found.0 ∷ [] = one_text text_new (text_old ++ found.1) after (before ++ found.0 ∷ []) (r.is_whole.served r.is_whole.whole).read read (r.found ∙ found.3) in
             record {
               more = cond (starts found.0) (found.0 ∷ []) [];
               is = records_of new r.is_whole ∙ ap starting kept ∙ starting_one before found.0 (starts found.0) refl ∙ ap (λ l. l ++ cond (starts found.0) (found.0 ∷ []) []) (sym (records_of old is));
+              earlier = r.earlier;
+              fresh = fresh_if old found.0 (starts found.0) found.5;
               none_or_one = inl none;
             }
 
@@ -340,20 +363,34 @@ module _ {D : Type 0} (seen : D → List ℕ) (may_leave : D → List ℕ → Ty
       is : records new ≡ records old ++ more
       once : IsDistinct bytes_eq sent
       known : AllByRecursion (λ key. any_has key (records new) ≡ true) sent
-      fresh : AllByRecursion (λ key. any_has key (records old) ≡ false) sent
+      fresh : AllByRecursion (λ key. is_known key old ≡ false) sent
 
-    fresher : (old middle : ServiceValue D) (more : List Kept) (keys : List (List ℕ)) → records middle ≡ records old ++ more → AllByRecursion (λ key. any_has key (records middle) ≡ false) keys → AllByRecursion (λ key. any_has key (records old) ≡ false) keys
-    fresher old middle more [] is fresh = tt
-    fresher old middle more (key ∷ keys) is fresh = (none_earlier key (records old) more (sym (ap (any_has key) is) ∙ fresh.0), fresher old middle more keys is fresh.1)
+    -- a key that is known stays known
+    stays_known : (old middle : ServiceValue D) (sent : List (List ℕ)) → Adds old middle sent → (key : List ℕ) → is_known key middle ≡ false → is_known key old ≡ false
+    stays_known old middle sent a key unknown = by_known (is_known key old) refl
+      where
+        grown : (any_has key (records old) ≡ true) ⊎ (is_earlier key old.earlier ≡ true) → is_known key middle ≡ true
+        grown either = known_is key middle ∙ ⊎_elim
+            (λ has. ap (λ b. b || is_earlier key middle.earlier) (ap (any_has key) a.is ∙ any_more key (records old) a.more has))
+            (λ has. ap (λ b. any_has key (records middle) || b) (ap (is_earlier key) a.earlier ∙ has) ∙ or-right (any_has key (records middle)))
+            either
+
+        by_known : (b : Bool) → is_known key old ≡ b → b ≡ false
+        by_known false is = refl
+        by_known true is = absurd (true≢false (sym (grown (or-split (any_has key (records old)) (is_earlier key old.earlier) (sym (known_is key old) ∙ is))) ∙ unknown))
+
+    fresher : (old middle : ServiceValue D) (sent : List (List ℕ)) (keys : List (List ℕ)) → Adds old middle sent → AllByRecursion (λ key. is_known key middle ≡ false) keys → AllByRecursion (λ key. is_known key old ≡ false) keys
+    fresher old middle sent [] a fresh = tt
+    fresher old middle sent (key ∷ keys) a fresh = (stays_known old middle sent a key fresh.0, fresher old middle sent keys a fresh.1)
 
     -- a key that was known is none of the keys that were sent later
-    no_other : (middle : ServiceValue D) (key : List ℕ) (keys : List (List ℕ)) → any_has key (records middle) ≡ true → AllByRecursion (λ k. any_has k (records middle) ≡ false) keys → AllByRecursion (λ k. bytes_eq key k ≡ false) keys
+    no_other : (middle : ServiceValue D) (key : List ℕ) (keys : List (List ℕ)) → any_has key (records middle) ≡ true → AllByRecursion (λ k. is_known k middle ≡ false) keys → AllByRecursion (λ k. bytes_eq key k ≡ false) keys
     no_other middle key [] known fresh = tt
     no_other middle key (other ∷ keys) known fresh = (by_test (bytes_eq key other) refl, no_other middle key keys known fresh.1)
       where
         by_test : (b : Bool) → bytes_eq key other ≡ b → b ≡ false
         by_test false is = refl
-        by_test true is = absurd (true≢false (sym known ∙ ap (λ k. any_has k (records middle)) ((bytes_eq-Decides key other).0 is) ∙ fresh.0))
+        by_test true is = absurd (true≢false (sym (known_by_record key middle known) ∙ ap (λ k. is_known k middle) ((bytes_eq-Decides key other).0 is) ∙ fresh.0))
 
     joined : (old middle new : ServiceValue D) (first rest sent : List (List ℕ)) → Adds old middle first → Sound middle new rest → sent ≡ first ++ rest → Sound old new sent
     joined old middle new first rest sent a s sent_is = ⊎_elim none one a.none_or_one
@@ -362,18 +399,18 @@ module _ {D : Type 0} (seen : D → List ℕ) (may_leave : D → List ℕ → Ty
         all = s.is ∙ ap (λ l. l ++ s.more) a.is ∙ append_assoc (records old) a.more s.more
 
         none : first ≡ [] → Sound old new sent
-        none is = subst (Sound old new) (sym (sent_is ∙ ap (λ l. l ++ rest) is)) (record { more = a.more ++ s.more; is = all; once = s.once; known = s.known; fresh = fresher old middle a.more rest a.is s.fresh })
+        none is = subst (Sound old new) (sym (sent_is ∙ ap (λ l. l ++ rest) is)) (record { more = a.more ++ s.more; is = all; once = s.once; known = s.known; fresh = fresher old middle first rest a s.fresh })
 
-        one : (key : List ℕ) × (first ≡ key ∷ []) × (any_has key (records old) ≡ false) × (any_has key a.more ≡ true) → Sound old new sent
+        one : (key : List ℕ) × (first ≡ key ∷ []) × (any_has key a.more ≡ true) → Sound old new sent
         one found =
             let key = found.0 in
-            let in_middle : any_has key (records middle) ≡ true = ap (any_has key) a.is ∙ any_last key (records old) a.more found.3 in
+            let in_middle : any_has key (records middle) ≡ true = ap (any_has key) a.is ∙ any_last key (records old) a.more found.2 in
             subst (Sound old new) (sym (sent_is ∙ ap (λ l. l ++ rest) found.1)) (record {
               more = a.more ++ s.more;
               is = all;
               once = IsDistinct-cons bytes_eq key rest (no_other middle key rest in_middle s.fresh) s.once;
               known = (ap (any_has key) s.is ∙ any_more key (records middle) s.more in_middle, s.known);
-              fresh = (found.2, fresher old middle a.more rest a.is s.fresh);
+              fresh = (a.fresh key found.2, fresher old middle first rest a s.fresh);
             })
 
     sound : (moves : List Move) (old new : ServiceValue D) (sent : List (List ℕ)) → IsWhole seen may_leave moment left_since faults old → Lives seen may_leave moment left_since faults moves old new sent → Sound old new sent
@@ -383,15 +420,15 @@ module _ {D : Type 0} (seen : D → List ℕ) (may_leave : D → List ℕ → Ty
         let one = moved move old middle lives.1 is lives.3 in
         joined old middle new lives.1 lives.2 sent one.0 (sound more middle new lives.2 one.1 lives.4) lives.5
 
-    all_known : (past : List PastOrder) (keys : List (List ℕ)) → AllByRecursion (λ key. any_has key (map record_of past) ≡ true) keys → All (λ key. IsKnown key past) keys
-    all_known past [] known = All-nil (λ key. IsKnown key past)
-    all_known past (key ∷ keys) known = All-cons (λ key. IsKnown key past) key keys (known_first key past known.0) (all_known past keys known.1)
+    all_known : (s : ServiceValue D) (keys : List (List ℕ)) → AllByRecursion (λ key. any_has key (records s) ≡ true) keys → All (λ key. IsKnown key s) keys
+    all_known s [] known = All-nil (λ key. IsKnown key s)
+    all_known s (key ∷ keys) known = All-cons (λ key. IsKnown key s) key keys (known_by_record key s known.0) (all_known s keys known.1)
 
-    all_fresh : (past : List PastOrder) (keys : List (List ℕ)) → AllByRecursion (λ key. any_has key (map record_of past) ≡ false) keys → All (λ key. IsKnown key past → ⊥) keys
-    all_fresh past [] fresh = All-nil (λ key. IsKnown key past → ⊥)
-    all_fresh past (key ∷ keys) fresh = All-cons (λ key. IsKnown key past → ⊥) key keys (not_known key past fresh.0) (all_fresh past keys fresh.1)
+    all_fresh : (s : ServiceValue D) (keys : List (List ℕ)) → AllByRecursion (λ key. is_known key s ≡ false) keys → All (λ key. IsKnown key s → ⊥) keys
+    all_fresh s [] fresh = All-nil (λ key. IsKnown key s → ⊥)
+    all_fresh s (key ∷ keys) fresh = All-cons (λ key. IsKnown key s → ⊥) key keys (not_known key s fresh.0) (all_fresh s keys fresh.1)
 
     pub sent_once : SentOnce seen may_leave moment left_since faults
     sent_once moves old new sent is lives =
         let s = sound moves old new sent is lives in
-        (s.once, all_known new.past sent s.known, all_fresh old.past sent s.fresh)
+        (s.once, all_known new sent s.known, all_fresh old sent s.fresh)

@@ -1,6 +1,8 @@
 -- How an order ended stays.
-use Rattle.std.specs.Prelude.{Ok, Err, IsSomeAnd}
-use Rattle.std.proofs.Common.{◌≡◌, ◌⊎◌, ⊎_elim, inl, inr, ℕ, suc, Bool, true, false, cond, is_some, List, [], ◌∷◌, ◌++◌, append-nil, Option, Some, None, Result, slice_get, refl, sym, ap, subst, ◌∙◌, append_assoc, true≢false}
+use Rattle.std.specs.Prelude.{Ok, Err, option_map}
+use Rattle.std.specs.Option.{option_or}
+use Rattle.std.proofs.lemmas.List.Folds.{list_any-append}
+use Rattle.std.proofs.Common.{◌≡◌, ◌⊎◌, ⊎_elim, inl, inr, ℕ, suc, Bool, true, false, cond, is_some, ◌||◌, List, [], ◌∷◌, ◌++◌, append-nil, Option, Some, None, Result, slice_get, refl, sym, ap, subst, ◌∙◌, append_assoc, true≢false}
 use Rattle.zvt_till.specs.declared.happenings.Happening.TheVariants.{Lost}
 use Rattle.zvt_till.specs.declared.keeper.BookFault.{BookFault}
 use Rattle.zvt_till.specs.declared.keeper.BookFault.TheVariants.{NoSpace, Failed as BookFailed}
@@ -17,7 +19,7 @@ use Rattle.zvt_stream.specs.Answered.{Answered}
 use Rattle.zvt_journal.specs.declared.device.DeviceError.{DeviceError}
 use Rattle.zvt_journal.specs.Text.{recovered}
 use Rattle.zvt_kept.specs.declared.past_orders.PastOrder.{PastOrder}
-use Rattle.zvt_kept.specs.KeptTill.{Hears as KeptHears, KeptValue, Standing, has_failed, with_note}
+use Rattle.zvt_kept.specs.KeptTill.{Hears as KeptHears, KeptValue, Standing, both_in, has_failed, with_note}
 use Rattle.zvt_kept.specs.Keeping.{kept_asks, kept_connects, kept_orders}
 use Rattle.zvt_kept.specs.Notes.{is_noted_by}
 use Rattle.zvt_kept.specs.PastOrders.{ArePast, StaysAs, first_noted}
@@ -28,20 +30,22 @@ use Rattle.zvt_kept.proofs.PastOrdersStay.{past_orders_stay}
 use Rattle.zvt_kept.proofs.Steps.{asked_up, taken_up}
 use Rattle.zvt_service.specs.declared.service.Ungiven.{Ungiven}
 use Rattle.zvt_service.specs.declared.service.Ungiven.TheVariants.{Known, Memory, Till as TillRefused}
-use Rattle.zvt_service.specs.Service.{Asks, Gives, ServiceValue, holder, state_of, unless_lost}
+use Rattle.zvt_settle.specs.Settling.{Both}
+use Rattle.zvt_service.specs.Books.{OrderIn, in_earlier, order_in}
+use Rattle.zvt_service.specs.Service.{Asks, Gives, ServiceValue, found_by, is_known, state_of, unless_lost}
 use Rattle.zvt_service.proofs.Living.{heard_settings}
-use Rattle.zvt_service.proofs.Sent.{Leaves, at_rest, moved, one_text, returned_leaves}
-use Rattle.zvt_service.specs.Lives.{AnswersStay, Call, gives, asks, hears, loses, connects, Move, returns, ends_in, ends, IsWhole, Moves, Reopens, Returns}
+use Rattle.zvt_service.proofs.Sent.{Adds, Leaves, any_has, at_rest, has_key, known_is, moved, noted_any, one_text, or-right, records, returned_leaves}
+use Rattle.zvt_service.specs.Lives.{AnswersStay, StaysIn, Call, gives, asks, hears, loses, connects, Move, returns, ends_in, ends, IsWhole, Moves, Reopens, Returns}
 
 -- ---- the first order with a key
 
-abbrev EachStays : List PastOrder → List PastOrder → Type 0
+abbrev pub EachStays : List PastOrder → List PastOrder → Type 0
 EachStays old new = (index : ℕ) (one : PastOrder) → slice_get old index ≡ Some one → (later : PastOrder) × (slice_get new index ≡ Some later) × StaysAs one later
 
-same_one : (a b : PastOrder) → Some a ≡ Some b → a ≡ b
+pub same_one : (a b : PastOrder) → Some a ≡ Some b → a ≡ b
 same_one a b is = cc is
 
-first_stays : (key : List ℕ) (old new : List PastOrder) (one : PastOrder) → EachStays old new → first_noted key old ≡ Some one → (later : PastOrder) × (first_noted key new ≡ Some later) × StaysAs one later
+pub first_stays : (key : List ℕ) (old new : List PastOrder) (one : PastOrder) → EachStays old new → first_noted key old ≡ Some one → (later : PastOrder) × (first_noted key new ≡ Some later) × StaysAs one later
 first_stays key [] new one each is = absurd cc
 first_stays key (x ∷ old) [] one each is = let none : None ≡ Some (each 0 x refl).0 = (each 0 x refl).1 in absurd cc
 first_stays key (x ∷ old) (y ∷ new) one each is =
@@ -60,7 +64,7 @@ first_stays key (x ∷ old) (y ∷ new) one each is =
 all_stay : (a b c : PastOrder) → StaysAs a b → StaysAs b c → StaysAs a c
 all_stay a b c p q = record { order = q.order ∙ p.order; note = q.note ∙ p.note; outcome = λ outcome is. q.outcome outcome (p.outcome outcome is) }
 
-itself : (a : PastOrder) → StaysAs a a
+pub itself : (a : PastOrder) → StaysAs a a
 itself a = record { order = refl; note = refl; outcome = λ outcome is. is }
 
 -- ---- the records after a move
@@ -75,14 +79,14 @@ grown false now kept added down = ⊎_elim
     (down refl)
 
 -- what was lived through after a move goes on from what was lived through before it
-abbrev LivesOn : (before after : List Kept) → (up now : Bool) → Type 0
+abbrev pub LivesOn : (before after : List Kept) → (up now : Bool) → Type 0
 LivesOn before after up now = (more : List Kept) × (after ++ unless_lost now ≡ (before ++ unless_lost up) ++ more)
 
 module _ {D : Type 0} (seen : D → List ℕ) (may_leave : D → List ℕ → Type 0) (moment : D → ℕ) (left_since : D → ℕ → List ℕ → Type 0) (faults : D → ℕ) where
   -- The text is as before, or has one record more. While the line is down, that is the record of its loss.
-  record Grows (old new : ServiceValue D) : Type 0 where
-    settings : (state_of new.kept).settings ≡ (state_of old.kept).settings
-    text :
+  pub record Grows (old new : ServiceValue D) : Type 0 where
+    pub settings : (state_of new.kept).settings ≡ (state_of old.kept).settings
+    pub text :
         ((recovered (seen new.kept.standing.device) ≡ recovered (seen old.kept.standing.device)) × ((state_of old.kept).line_up ≡ false → (state_of new.kept).line_up ≡ false))
         ⊎ ((one : Kept) × (added : List ℕ) × IsRecordOf one added × (recovered (seen new.kept.standing.device) ≡ recovered (seen old.kept.standing.device) ++ added) × ((state_of old.kept).line_up ≡ false → one ≡ lost))
 
@@ -109,11 +113,7 @@ module _ {D : Type 0} (seen : D → List ℕ) (may_leave : D → List ℕ → Ty
 
   gives_grows : (order : Order) (note : List ℕ) (old new : ServiceValue D) (result : Result Outgoing Ungiven) → has_failed new.kept ≡ false → Gives seen may_leave moment left_since faults order note old result new → Grows old new
   gives_grows order note old new (Ok outgoing) whole g = order_grows order note old new (Ok outgoing) whole g.1
-  gives_grows order note old new (Err Known) whole g = by_holder (holder note old.past) g
-    where
-      by_holder : (found : Option PastOrder) → IsSomeAnd found (λ past. new ≡ old) → Grows old new
-      by_holder None absent = absurd absent
-      by_holder (Some one) same = same_grows old new (ap (λ (s : ServiceValue D). s.kept.standing) same)
+  gives_grows order note old new (Err Known) whole g = same_grows old new (ap (λ (s : ServiceValue D). s.kept.standing) g.1)
   gives_grows order note old new (Err Memory) whole g = same_grows old new (ap (λ (s : ServiceValue D). s.kept.standing) g.1)
   gives_grows order note old new (Err (TillRefused why)) whole g = order_grows order note old new (Err why) whole g.1
 
@@ -173,13 +173,13 @@ module _ {D : Type 0} (seen : D → List ℕ) (may_leave : D → List ℕ → Ty
   returned_grows connects old new sent was whole r = connects_grows old new r.0 was whole r.1.0
 
   module _ (only_now : (device : D) (file : List ℕ) → left_since device (moment device) file → may_leave device file) where
-    reopened_grows : (old by new : ServiceValue D) → (r : Reopens seen may_leave moment left_since faults old by new) → Leaves seen may_leave moment left_since faults old.kept.standing r.file → Grows old new
+    reopened_grows : (old by new : ServiceValue D) → (r : Reopens seen may_leave moment left_since faults old by new) → Leaves seen may_leave moment left_since faults old r.file → Grows old new
     reopened_grows old by new r leaves = record {
       settings = r.settings;
       text = ⊎_elim (λ same. inl (r.found ∙ same, λ down. r.down)) (λ more. inr (more.0, more.1, more.2, r.found ∙ more.3, more.4)) leaves;
     }
 
-    moved_grows : (move : Move) (old new : ServiceValue D) (sent : List (List ℕ)) → IsWhole seen may_leave moment left_since faults old → Moves seen may_leave moment left_since faults move old new sent → Grows old new
+    pub moved_grows : (move : Move) (old new : ServiceValue D) (sent : List (List ℕ)) → IsWhole seen may_leave moment left_since faults old → Moves seen may_leave moment left_since faults move old new sent → Grows old new
     moved_grows (returns call) old new sent is m = returned_grows call old new sent is.whole m.1.whole m.0
     moved_grows (ends_in call) old new sent is m = reopened_grows old m.0 new m.3 (returned_leaves seen may_leave moment left_since faults only_now call old m.0 m.1 m.3.file is m.2 m.3.left)
     moved_grows ends old new sent is m = reopened_grows old old new m.0 (at_rest seen may_leave moment left_since faults only_now old old.kept.standing.device m.0.file is refl m.0.left)
@@ -187,7 +187,7 @@ module _ {D : Type 0} (seen : D → List ℕ) (may_leave : D → List ℕ → Ty
     -- ---- one move
 
     -- what was lived through before is lived through after it
-    lived_more : (old new : ServiceValue D) (is : IsWhole seen may_leave moment left_since faults old) (then : IsWhole seen may_leave moment left_since faults new) → Grows old new
+    pub lived_more : (old new : ServiceValue D) (is : IsWhole seen may_leave moment left_since faults old) (then : IsWhole seen may_leave moment left_since faults new) → Grows old new
         → LivesOn (is.served is.whole).kept (then.served then.whole).kept (state_of old.kept).line_up (state_of new.kept).line_up
     lived_more old new is then g = ⊎_elim same one_more g.text
       where
@@ -214,7 +214,7 @@ module _ {D : Type 0} (seen : D → List ℕ) (may_leave : D → List ℕ → Ty
             let kept : after ≡ before ++ found.0 ∷ [] = one_text seen may_leave moment left_since faults only_now (recovered (seen new.kept.standing.device)) (text ++ found.1) after (before ++ found.0 ∷ []) (then.served then.whole).read read found.3 in
             by_records (found.0 ∷ []) kept (λ down. inr ([], ap (λ k. k ∷ []) (found.4 down)))
 
-    one_stays : (move : Move) (old new : ServiceValue D) (sent : List (List ℕ)) → IsWhole seen may_leave moment left_since faults old → Moves seen may_leave moment left_since faults move old new sent → EachStays old.past new.past
+    pub one_stays : (move : Move) (old new : ServiceValue D) (sent : List (List ℕ)) → IsWhole seen may_leave moment left_since faults old → Moves seen may_leave moment left_since faults move old new sent → EachStays old.past new.past
     one_stays move old new sent is m =
         let then = (moved seen may_leave moment left_since faults only_now move old new sent is m).1 in
         let g = moved_grows move old new sent is m in
@@ -225,11 +225,53 @@ module _ {D : Type 0} (seen : D → List ℕ) (may_leave : D → List ℕ → Ty
         past_orders_stay settings (p.kept ++ unless_lost (state_of old.kept).line_up) more.0 old.past new.past p.are
         (subst (λ k. ArePast settings k new.past) more.1 (subst (λ s. ArePast s (q.kept ++ unless_lost (state_of new.kept).line_up) new.past) g.settings q.are))
 
+    -- ---- the order with a key
+
+    -- the own book still has no order with a key of an earlier book
+    pub still_none : (key : List ℕ) (old new : ServiceValue D) (sent : List (List ℕ)) → Adds old new sent → is_known key old ≡ true → first_noted key old.past ≡ None → first_noted key new.past ≡ None
+    still_none key old new sent a known own = none_of (first_noted key new.past) (noted_any key new.past ∙ ap (any_has key) a.is ∙ list_any-append (has_key key) (records old) a.more ∙ by_new (any_has key a.more) refl)
+      where
+        none_of : (found : Option PastOrder) → is_some found ≡ false → found ≡ None
+        none_of None is = refl
+        none_of (Some one) is = absurd (true≢false is)
+
+        by_new : (b : Bool) → any_has key a.more ≡ b → (any_has key (records old) || any_has key a.more) ≡ false
+        by_new true is = absurd (true≢false (sym known ∙ a.fresh key is))
+        by_new false is = ap (λ x. x || any_has key a.more) (sym (noted_any key old.past) ∙ ap is_some own) ∙ is
+
+    pub same_found : (a b : OrderIn) → Some a ≡ Some b → a ≡ b
+    same_found a b is = cc is
+
+    found_stays : (key : List ℕ) (old new : ServiceValue D) (sent : List (List ℕ)) (one : OrderIn) → Adds old new sent → EachStays old.past new.past → found_by key old ≡ Some one → (later : OrderIn) × (found_by key new ≡ Some later) × StaysIn one later
+    found_stays key old new sent one a each found = by_own (first_noted key old.past) refl found
+      where
+        before : Both
+        before = both_in old.kept.standing
+
+        after : Both
+        after = both_in new.kept.standing
+
+        by_own : (own : Option PastOrder) → first_noted key old.past ≡ own → option_or (option_map (order_in key true before old.past) own) (in_earlier key old.earlier) ≡ Some one → (later : OrderIn) × (found_by key new ≡ Some later) × StaysIn one later
+        by_own (Some past) own is =
+            let stays = first_stays key old.past new.past past each own in
+            let same = same_found (order_in key true before old.past past) one is in (
+              order_in key true after new.past stays.0,
+              ap (λ f. option_or (option_map (order_in key true after new.past) f) (in_earlier key new.earlier)) stays.1,
+              record { past = subst (λ (o : OrderIn). StaysAs o.past stays.0) same stays.2; book = ap (λ (o : OrderIn). o.is_own) same },
+            )
+        by_own None own is =
+            let known : is_known key old ≡ true = known_is key old ∙ ap (λ b. any_has key (records old) || b) (ap is_some is) ∙ or-right (any_has key (records old)) in
+            let none = still_none key old new sent a known own in (
+              one,
+              ap (λ f. option_or (option_map (order_in key true after new.past) f) (in_earlier key new.earlier)) none ∙ ap (in_earlier key) a.earlier ∙ is,
+              record { past = itself one.past; book = refl },
+            )
+
     pub answers_stay : AnswersStay seen may_leave moment left_since faults
-    answers_stay [] old new sent key one is lives found = (one, ap (λ (s : ServiceValue D). first_noted key s.past) (sym lives.0) ∙ found, itself one)
+    answers_stay [] old new sent key one is lives found = (one, ap (found_by key) (sym lives.0) ∙ found, record { past = itself one.past; book = refl })
     answers_stay (move ∷ more) old new sent key one is lives found =
         let middle = lives.0 in
-        let first = first_stays key old.past middle.past one (one_stays move old middle lives.1 is lives.3) found in
-        let then = (moved seen may_leave moment left_since faults only_now move old middle lives.1 is lives.3).1 in
-        let rest = answers_stay more middle new lives.2 key first.0 then lives.4 first.1 in
-        (rest.0, rest.1, all_stay one first.0 rest.0 first.2 rest.2)
+        let next = moved seen may_leave moment left_since faults only_now move old middle lives.1 is lives.3 in
+        let first = found_stays key old middle lives.1 one next.0 (one_stays move old middle lives.1 is lives.3) found in
+        let rest = answers_stay more middle new lives.2 key first.0 next.1 lives.4 first.1 in
+        (rest.0, rest.1, record { past = all_stay one.past first.0.past rest.0.past first.2.past rest.2.past; book = rest.2.book ∙ first.2.book })

@@ -1,2 +1,4 @@
+pub mod Books
+pub mod Fates
 pub mod Lives
 pub mod Service

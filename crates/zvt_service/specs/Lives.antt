@@ -1,5 +1,5 @@
 -- The lives of a service: its calls, the ends of its process during a call and between calls, and what was sent.
-use Rattle.std.specs.Prelude.{◌≡◌, ℕ, false, cond, List, [], ◌∷◌, ◌++◌, All, map, Option, Some, None, Result, Ok, Err}
+use Rattle.std.specs.Prelude.{◌≡◌, ℕ, true, false, cond, List, [], ◌∷◌, ◌++◌, All, map, Option, Some, None, Result, Ok, Err}
 use Rattle.std.specs.List.{IsDistinct}
 use Rattle.std.specs.Str.{bytes_eq}
 use Rattle.zvt_apdu.specs.Message.{Message}
@@ -18,7 +18,10 @@ use Rattle.zvt_kept.specs.KeptTill.{IsKept, both_in, has_failed}
 use Rattle.zvt_kept.specs.Notes.{reference_in}
 use Rattle.zvt_kept.specs.PastOrders.{StaysAs, first_noted, runs}
 use Rattle.zvt_service.specs.declared.service.Ungiven.{Ungiven}
-use Rattle.zvt_service.specs.Service.{Asks, Connects, Gives, Hears, IsServed, Loses, ServiceValue, state_of}
+use Rattle.zvt_service.specs.declared.fates.Fate.TheVariants.{Settled}
+use Rattle.zvt_service.specs.declared.fates.Verdict.{Verdict}
+use Rattle.zvt_service.specs.Books.{OrderIn}
+use Rattle.zvt_service.specs.Service.{Asks, Connects, Gives, Hears, IsServed, Loses, ServiceValue, found_by, is_known, state_of}
 
 -- A call of a service. An order and an ask have a note.
 pub data Call : Type 0 where
@@ -42,9 +45,14 @@ abbrev pub keys_of : Order → (note : List ℕ) → Result Outgoing Ungiven →
 keys_of order note (Ok outgoing) = cond (runs order) (keys_in note) []
 keys_of order note (Err why) = []
 
--- an order of the book has this key
-abbrev pub IsKnown : (key : List ℕ) → List PastOrder → Type 0
-IsKnown key past = (one : PastOrder) × (first_noted key past ≡ Some one)
+-- an order of some book has this key
+abbrev pub IsKnown : {D : Type 0} (key : List ℕ) → ServiceValue D → Type 0
+IsKnown key service = is_known key service ≡ true
+
+-- An order stays the same, and its outcome too once it has ended. It stays in its book.
+pub record StaysIn (old new : OrderIn) : Type 0 where
+  pub past : StaysAs old.past new.past
+  pub book : new.is_own ≡ old.is_own
 
 -- What happens: a call returns, or the process ends during a call, or between calls. After its end a new process opens
 -- the book that the old one left.
@@ -69,12 +77,13 @@ module _ {D : Type 0} (seen : D → List ℕ) (may_leave : D → List ℕ → Ty
     pub served : IsServed seen service.kept service.past
 
   -- The process ended at a moment since the first of these services, and by the last of them. A new one, with the same
-  -- settings, opened the file that this left.
+  -- settings and the same books of earlier days, opened the file that this left.
   pub record Reopens (since by new : ServiceValue D) : Type 0 where
     pub file : List ℕ
     pub left : left_since by.kept.standing.device (moment since.kept.standing.device) file
     pub found : recovered (seen new.kept.standing.device) ≡ recovered file
     pub settings : (state_of new.kept).settings ≡ (state_of since.kept).settings
+    pub earlier : new.earlier ≡ since.earlier
     pub down : (state_of new.kept).line_up ≡ false
     pub is_whole : IsWhole new
 
@@ -90,12 +99,12 @@ module _ {D : Type 0} (seen : D → List ℕ) (may_leave : D → List ℕ → Ty
       (middle : ServiceValue D) × (first rest : List (List ℕ)) × Moves move old middle first × Lives more middle new rest × (sent ≡ first ++ rest)
 
   -- Whatever clients ask, however often, and whenever the process ends: no order is sent twice for a key, and none for
-  -- a key that the book knew before. Each key that was sent is in the book.
+  -- a key that the service's own book or an earlier one knew before. Each key that was sent is known.
   abbrev pub SentOnce : Type 0
   SentOnce =
       (moves : List Move) (old new : ServiceValue D) (sent : List (List ℕ))
       → IsWhole old → Lives moves old new sent
-      → IsDistinct bytes_eq sent × All (λ key. IsKnown key new.past) sent × All (λ key. IsKnown key old.past → ⊥) sent
+      → IsDistinct bytes_eq sent × All (λ key. IsKnown key new) sent × All (λ key. IsKnown key old → ⊥) sent
 
   -- A key whose payment was answered as paid has a row of its own in the till's book, with that amount and those numbers.
   abbrev pub PaidIsBooked : Type 0
@@ -107,6 +116,13 @@ module _ {D : Type 0} (seen : D → List ℕ) (may_leave : D → List ℕ → Ty
   -- How an order ended stays: whatever happens later, a client that asks again with the same key gets the same answer.
   abbrev pub AnswersStay : Type 0
   AnswersStay =
-      (moves : List Move) (old new : ServiceValue D) (sent : List (List ℕ)) (key : List ℕ) (one : PastOrder)
-      → IsWhole old → Lives moves old new sent → first_noted key old.past ≡ Some one
-      → (later : PastOrder) × (first_noted key new.past ≡ Some later) × StaysAs one later
+      (moves : List Move) (old new : ServiceValue D) (sent : List (List ℕ)) (key : List ℕ) (one : OrderIn)
+      → IsWhole old → Lives moves old new sent → found_by key old ≡ Some one
+      → (later : OrderIn) × (found_by key new ≡ Some later) × StaysIn one later
+
+  -- A verdict, once there, stays: what was settled about a payment is told again, whatever happens later.
+  abbrev pub VerdictsStay : Type 0
+  VerdictsStay =
+      (moves : List Move) (old new : ServiceValue D) (sent : List (List ℕ)) (key : List ℕ) (one : OrderIn) (verdict : Verdict)
+      → IsWhole old → Lives moves old new sent → found_by key old ≡ Some one → one.fate ≡ Settled verdict
+      → (later : OrderIn) × (found_by key new ≡ Some later) × (later.fate ≡ Settled verdict)

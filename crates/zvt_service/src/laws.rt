@@ -1,5 +1,5 @@
 //! Laws about the lives of a service. Each is stated as the contract of an empty function.
-ghost use Rattle.zvt_service.specs.Lives.{AnswersStay, PaidIsBooked, SentOnce};
+ghost use Rattle.zvt_service.specs.Lives.{AnswersStay, PaidIsBooked, SentOnce, VerdictsStay};
 
 use zvt_journal::Device;
 
@@ -12,6 +12,11 @@ pub fn sent_once<D: Device>()
 /// A key whose payment was answered as paid has a row in the till's book, with that amount and those numbers.
 pub fn paid_is_booked<D: Device>()
     ensures { PaidIsBooked D.seen D.may_leave D.moment D.left_since D.faults }
+{}
+
+/// What an ask settled about an unclear payment stays, over any calls and any ends of the process.
+pub fn verdicts_stay<D: Device>()
+    ensures { VerdictsStay D.seen D.may_leave D.moment D.left_since D.faults }
 {}
 
 /// How an order ended stays, over any calls and any ends of the process: a client that asks again with its key gets the

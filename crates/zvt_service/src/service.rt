@@ -1,21 +1,24 @@
 //! The service of one till.
 ghost use Rattle.std.specs.Prelude.{◌≡◌};
 
+use crate::books::Found;
 use std::alloc::{AllocError, Global};
 use std::marker::Model;
 use thiserror::Error;
 use zvt_apdu::ApduView;
 use zvt_journal::Device;
-use zvt_kept::{KeptTill, Note, PastOrder, PastOrders, RecoveryError, Reopened, Unbegun};
-use zvt_settle::Asker;
+use zvt_kept::{
+    KeptTill, Note, PastOrder, PastOrders, Recovered, RecoveryError, Reopened, Unbegun,
+};
+use zvt_settle::{Asker, SettlingTill};
 use zvt_stream::{Answers, Machine};
 use zvt_till::{BookFault, Keeper, Order, Outgoing, Till, TillSettings, Untaken};
 
 /// Why an order was not given to the till. Nothing may be sent.
 #[derive(Clone, Copy, Debug, Drop, PartialEq, Eq, Error)]
 pub enum Ungiven {
-    /// An order of the book has this key. [`Service::find`] returns it. Nothing changed.
-    #[error("the book has an order with this key")]
+    /// An order of one of the service's books has this key. [`Service::find`] returns it. Nothing changed.
+    #[error("a book has an order with this key")]
     Known,
     /// The till did not accept the order, or its record could not be added to the book.
     #[error("{0}")]
@@ -40,6 +43,8 @@ impl From<AllocError> for Ungiven {
 pub struct Service<D: Device> {
     kept: KeptTill<D>,
     orders: PastOrders,
+    /// The books of earlier days. Nothing is added to them.
+    earlier: Vec<Recovered>,
 }
 
 impl<D: Device> Model for Service<D> {
@@ -47,7 +52,7 @@ impl<D: Device> Model for Service<D> {
 
     ghost Value = { ServiceValue D };
 
-    ghost view = { λ s. record { kept = s.kept; past = s.orders } };
+    ghost view = { λ s. record { kept = s.kept; past = s.orders; earlier = s.earlier.items } };
 
     ghost invariant = { λ s. IsServed D.seen s.kept s.orders };
 }
@@ -71,7 +76,7 @@ impl<D: Device + Drop> Service<D> {
         device: D,
     ) -> Result<Service<D>, Unbegun<D>>
         requires { IsSettled (D.seen device) (D.may_leave device) 0 }
-        ensures none { IfOk result (λ service. service.past ≡ []) }
+        ensures none { IfOk result (λ service. (service.past ≡ []) × (service.earlier ≡ [])) }
         ensures whole { IfOk result (λ service. service.kept.failure ≡ None) }
         ensures any_moment { MatchResult result
             (λ service. Begins D.seen D.may_leave D.moment D.left_since D.faults (settings_of settings.now) device
@@ -87,6 +92,7 @@ impl<D: Device + Drop> Service<D> {
         Ok(Service {
             kept,
             orders: PastOrders::new(alloc),
+            earlier: Vec::new(alloc),
         })
     }
 
@@ -109,17 +115,36 @@ impl<D: Device + Drop> Service<D> {
             × (service.kept.standing.gate ≡ length text.now)) }
         ensures whole { IfOk result (λ service. service.kept.failure ≡ None) }
         ensures orders { IfOk result (λ service. HasOrders (settings_of settings.now) text.now service.past) }
+        ensures alone { IfOk result (λ service. service.earlier ≡ []) }
     {
         let Reopened { till, orders } = KeptTill::open(alloc, settings, device, text)?;
-        Ok(Service { kept: till, orders })
+        Ok(Service {
+            kept: till,
+            orders,
+            earlier: Vec::new(alloc),
+        })
     }
 }
 
 impl<D: Device> Service<D> {
-    ghost use Rattle.std.specs.Prelude.{is_some, option_map};
+    ghost use Rattle.std.specs.Prelude.{◌∷◌, ◌++◌, [], OnErr, OnOk, option_map};
     ghost use Rattle.zvt_kept.specs.KeptTill.{has_failed};
-    ghost use Rattle.zvt_kept.specs.PastOrders.{first_noted};
-    ghost use Rattle.zvt_service.specs.Service.{Asks, Connects, Gives, Loses, holder};
+    ghost use Rattle.zvt_service.specs.Books.{order_found};
+    ghost use Rattle.zvt_service.specs.Service.{Asks, Connects, Gives, Loses, found_by, is_held};
+    ghost use Rattle.zvt_settle.specs.Inside.{settling_of, till_inside};
+
+    /// Lets the service know a book of an earlier day. From then on its keys are known: [`Service::find`] finds them, and
+    /// no order is sent for them. Nothing is added to the book.
+    ///
+    /// Give the service all earlier books before its first order, and the same ones each time it is opened. Nothing
+    /// changes if an allocation fails.
+    pub fn remember(&mut self, book: Recovered) -> Result<(), AllocError>
+        ensures ok { OnOk result (self.new ≡ record self.old { earlier = self.old.earlier ++ book ∷ [] }) }
+        ensures err { OnErr result (self.new ≡ self.old) }
+    {
+        self.earlier.push(book)?;
+        Ok(())
+    }
 
     /// Returns the till.
     pub fn till(&self) -> &Till
@@ -146,7 +171,7 @@ impl<D: Device> Service<D> {
     /// Gives the till an order, and returns the message to send. By then the book contains the order's record with its
     /// note. The key of the order is the reference in the note; without one the order has no key.
     ///
-    /// Fails with `Known` if an order of the book has the key, and with `Till` if the till does not accept the order or
+    /// Fails with `Known` if an order of some book has the key, and with `Till` if the till does not accept the order or
     /// its record could not be made durable. After any error nothing may be sent.
     pub fn order(&mut self, alloc: Global, order: &Order, note: &Note) -> Result<Outgoing, Ungiven>
         ensures { Gives D.seen D.may_leave D.moment D.left_since D.faults order.now note.now self.old result self.new }
@@ -169,12 +194,12 @@ impl<D: Device> Service<D> {
         }
     }
 
-    /// Returns whether an order of the book has the key in this note.
+    /// Returns whether an order of some book has the key in this note.
     fn holds(&self, note: &Note) -> bool
-        ensures { result ≡ is_some (holder note.now self.now.past) }
+        ensures { result ≡ is_held note.now self.now }
     {
         match note.reference() {
-            Some(key) => self.orders.find(key).is_some(),
+            Some(key) => self.find(key).is_some(),
             None => false,
         }
     }
@@ -201,6 +226,14 @@ impl<D: Device> Service<D> {
         self.kept.connect(alloc)
     }
 
+    /// Returns the till that settles: what was settled, and which unclear order an answer of the terminal can settle.
+    pub fn settling(&self) -> &SettlingTill
+        ensures till { till_inside result.now ≡ self.now.kept.standing.till }
+        ensures settling { settling_of result.now ≡ self.now.kept.standing.settling }
+    {
+        self.kept.settling()
+    }
+
     /// Notifies the till that its line was lost, if it is up.
     fn lose_line(&mut self)
         ensures { Loses D.seen D.may_leave D.moment D.left_since D.faults self.old self.new }
@@ -211,11 +244,20 @@ impl<D: Device> Service<D> {
         }
     }
 
-    /// Returns the order with this key.
-    pub fn find(&self, key: &[u8]) -> Option<&PastOrder>
-        ensures { option_map (λ past. past.now) result ≡ first_noted key.now self.now.past }
+    /// Returns the order with this key. If several books have the key, the service's own book counts, or else the first
+    /// of the others.
+    pub fn find(&self, key: &[u8]) -> Option<Found<'_>>
+        ensures { option_map order_found result ≡ found_by key.now self.now }
     {
-        self.orders.find(key)
+        let own = Found::in_book(self.kept.settling(), &self.orders, key, true);
+        if own.is_some() {
+            return own;
+        }
+        let book = self
+            .earlier
+            .iter()
+            .find(|book| book.orders.find(key).is_some())?;
+        Found::in_book(&book.till, &book.orders, key, false)
     }
 }
 

@@ -40,6 +40,10 @@ needed_port_rule name = record (port_option_rule name) { required = true }
 abbrev pub needed_rule : Text → Rule
 needed_rule name = record (option_rule name) { required = true }
 
+-- an option with one value, which may be given several times
+abbrev pub repeated_rule : Text → Rule
+repeated_rule name = record (option_rule name) { action = Some Append }
+
 abbrev pub host_rule : Rule
 host_rule = record (option_rule (codes "host")) { defaults = codes "127.0.0.1" ∷ [] }
 
@@ -62,6 +66,7 @@ rule_for (option.Several name value text) = several_rule name.now
 rule_for (option.BookFiles text) = book_files_rule
 rule_for (option.Flag name text) = flag_rule name.now
 rule_for (option.Value name value text) = option_rule name.now
+rule_for (option.Repeated name value text) = repeated_rule name.now
 rule_for (option.Needed name value text) = needed_rule name.now
 rule_for (option.Port name text) = port_option_rule name.now
 rule_for (option.NeededPort name text) = needed_port_rule name.now

@@ -108,7 +108,7 @@ fn chosen<'a>(
         "till" => read_till(alloc, inner)?,
         "terminal" => read_terminal(inner),
         "tap" => read_tap(inner),
-        "serve" => read_serve(inner),
+        "serve" => read_serve(alloc, inner)?,
         "play" => read_play(inner),
         _ => check(alloc, name, inner)?,
     })

@@ -3,7 +3,7 @@ ghost use Rattle.std.specs.Prelude.{◌≡◌, false};
 ghost use Rattle.clap.specs.Words.{rule_of};
 ghost use Rattle.zvt_tool.specs.Options.{book_files_rule, connections_by, flag_rule, form_by, host_rule, lengths_by};
 ghost use Rattle.zvt_tool.specs.Options.{needed_port_rule, needed_rule, number_rule, option_rule, port_option_rule};
-ghost use Rattle.zvt_tool.specs.Options.{rule_for, several_rule, tid_rule};
+ghost use Rattle.zvt_tool.specs.Options.{repeated_rule, rule_for, several_rule, tid_rule};
 
 use clap::{Arg, ArgAction, value_parser};
 use std::alloc::Global;
@@ -31,6 +31,8 @@ pub enum CommandOption<'a> {
     Flag(&'a str, &'a str),
     /// An optional option with a value, and the name of the value in the help.
     Value(&'a str, &'a str, &'a str),
+    /// An option with a value that may be given several times, and the name of the value in the help.
+    Repeated(&'a str, &'a str, &'a str),
     /// A required option with a value, and the name of the value in the help.
     Needed(&'a str, &'a str, &'a str),
     /// An optional TCP port.
@@ -56,6 +58,7 @@ impl<'a> CommandOption<'a> {
             CommandOption::BookFiles(text) => book_files(alloc, text),
             CommandOption::Flag(name, text) => flag(alloc, name, text),
             CommandOption::Value(name, value, text) => value_of(alloc, name, value, text),
+            CommandOption::Repeated(name, value, text) => repeated(alloc, name, value, text),
             CommandOption::Needed(name, value, text) => needed(alloc, name, value, text),
             CommandOption::Port(name, text) => port(alloc, name, text),
             CommandOption::NeededPort(name, text) => needed_port(alloc, name, text),
@@ -161,6 +164,18 @@ fn needed<'a>(alloc: Global, name: &'a str, value: &'a str, text: &'a str) -> Ar
     Arg::new(alloc, name)
         .long(name)
         .required(true)
+        .value_name(value)
+        .help(text)
+}
+
+/// Returns an option with one value that may be given several times.
+fn repeated<'a>(alloc: Global, name: &'a str, value: &'a str, text: &'a str) -> Arg<'a>
+    ensures rule { rule_of result ≡ repeated_rule name.entry.now }
+    ensures local { result.global ≡ false }
+{
+    Arg::new(alloc, name)
+        .long(name)
+        .action(ArgAction::Append)
         .value_name(value)
         .help(text)
 }

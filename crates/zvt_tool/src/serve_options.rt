@@ -1,18 +1,20 @@
 //! The options of `serve`.
-ghost use Rattle.std.specs.Prelude.{◌≡◌, codes, Some};
+ghost use Rattle.std.specs.Prelude.{◌≡◌, codes, map, IfOk, Some};
 ghost use Rattle.clap.specs.Words.{found_of, rows_of};
 ghost use Rattle.zvt_tool.specs.Chosen.{MayBeChoiceOf};
+ghost use Rattle.zvt_tool.specs.Given.{words_of};
 ghost use Rattle.zvt_tool.specs.Options.{app_for};
 ghost use Rattle.zvt_tool.specs.ServeOptions.{serve_app};
 
 use crate::choices::Choice;
-use crate::given::{flag, number, text};
+use crate::given::{flag, number, text, words};
 use crate::help;
 use crate::options::{CommandOption, CommandRow};
 use clap::ArgMatches;
+use std::alloc::{AllocError, Global};
 
 /// The options of `serve`.
-#[derive(Clone, Copy)]
+#[derive(Drop)]
 pub struct ServeOptions<'a> {
     /// The port of the service. 0 picks a free one.
     pub port: u16,
@@ -21,6 +23,8 @@ pub struct ServeOptions<'a> {
     /// The address at which the terminal listens: `HOST:PORT`.
     pub terminal: &'a str,
     pub book: &'a str,
+    /// Books whose keys are answered, and not given again.
+    pub earlier: Vec<&'a str>,
     pub token_file: &'a str,
     /// A host name by which clients reach the service, beside its own.
     pub allow_host: Option<&'a str>,
@@ -31,6 +35,11 @@ pub struct ServeOptions<'a> {
     pub timeout: u16,
     /// The most clients at a time. The parser accepts 0; the program rejects it.
     pub clients: u16,
+    pub trace: Option<&'a str>,
+    /// Whether the trace has no time marks.
+    pub no_times: bool,
+    /// Whether the till does not ask by itself.
+    pub no_ask: bool,
     /// Whether lengths are accepted in any form.
     pub loose: bool,
     /// Whether the till goes on after an invalid message.
@@ -38,7 +47,7 @@ pub struct ServeOptions<'a> {
 }
 
 /// The options of `serve`, in the order of its help.
-const OPTIONS: [CommandOption<'static>; 13] = [
+const OPTIONS: [CommandOption<'static>; 17] = [
     CommandOption::NeededPort("port", "TCP port of the service; 0 picks a free one"),
     CommandOption::Host("Host name or address of the service"),
     CommandOption::Needed(
@@ -50,6 +59,11 @@ const OPTIONS: [CommandOption<'static>; 13] = [
         "book",
         "FILE",
         "Keep the till's book in FILE, which is created if it does not exist",
+    ),
+    CommandOption::Repeated(
+        "earlier",
+        "FILE",
+        "Also answer requests for keys of the earlier book FILE, and send no order for them; may be given several times",
     ),
     CommandOption::Needed(
         "token-file",
@@ -88,6 +102,13 @@ const OPTIONS: [CommandOption<'static>; 13] = [
         "64",
         "Serve at most N clients at a time, 1 to 1000",
     ),
+    CommandOption::Value("trace", "FILE", help::TRACE),
+    CommandOption::Flag("no-times", help::NO_TIMES),
+    CommandOption::Flag(
+        "no-ask",
+        "Do not ask the terminal for its last transaction after registering: some terminals print a copy of the receipt \
+            when asked",
+    ),
     CommandOption::Flag(
         "loose",
         "Accept padded lengths. Use this only for terminals known to send them.",
@@ -113,8 +134,20 @@ Example:
     }
 }
 
-/// What the words give `serve`.
-pub fn read_serve<'a>(inner: &ArgMatches<'a>) -> Option<Choice<'a>>
+/// Returns the choice from the arguments of `serve`.
+pub fn read_serve<'a>(
+    alloc: Global,
+    inner: &ArgMatches<'a>,
+) -> Result<Option<Choice<'a>>, AllocError>
+    ensures { IfOk result (MayBeChoiceOf (Some (codes "serve", rows_of (found_of inner.now)))) }
+{
+    let earlier = words(alloc, inner, "earlier")?;
+    Ok(serve_after(inner, earlier))
+}
+
+/// Returns the choice from the arguments of `serve`, of which the earlier books were read.
+fn serve_after<'a>(inner: &ArgMatches<'a>, earlier: Vec<&'a str>) -> Option<Choice<'a>>
+    requires { map (λ file. file.now) earlier.items ≡ words_of (codes "earlier") (rows_of (found_of inner.now)) }
     ensures { MayBeChoiceOf (Some (codes "serve", rows_of (found_of inner.now))) result }
 {
     let port = number(inner, "port")?;
@@ -129,6 +162,7 @@ pub fn read_serve<'a>(inner: &ArgMatches<'a>) -> Option<Choice<'a>>
         host,
         terminal,
         book,
+        earlier,
         token_file,
         allow_host: text(inner, "allow-host"),
         password: text(inner, "password"),
@@ -136,6 +170,9 @@ pub fn read_serve<'a>(inner: &ArgMatches<'a>) -> Option<Choice<'a>>
         currency: text(inner, "currency"),
         timeout,
         clients,
+        trace: text(inner, "trace"),
+        no_times: flag(inner, "no-times"),
+        no_ask: flag(inner, "no-ask"),
         loose: flag(inner, "loose"),
         reads_on: flag(inner, "open"),
     }))

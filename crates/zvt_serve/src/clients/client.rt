@@ -2,8 +2,9 @@
 
 mod serving;
 
-use crate::asks::{BookLines, Desk};
+use crate::asks::Desk;
 use crate::clock::Moment;
+use crate::host::Host;
 use bytes::BytesMut;
 use mio::net::TcpStream;
 use std::alloc::Global;
@@ -121,11 +122,11 @@ impl Client {
     }
 
     /// Reads, serves and writes. Returns `false` if the connection is over.
-    pub(crate) fn turn<C: Clock, D: Device, B: BookLines>(
+    pub(crate) fn turn<C: Clock, D: Device, H: Host>(
         &mut self,
         clock: &C,
         guards: &Guards,
-        desk: &mut Desk<'_, '_, D, B>,
+        desk: &mut Desk<'_, '_, D, H>,
         now: Moment,
     ) -> bool {
         self.settle(clock, guards, desk, now)

@@ -1,8 +1,9 @@
 //! Serves the requests of a client: answers them, or lets the client wait.
 
 use super::{AT_ONCE, Client, Waiting};
-use crate::asks::{BookLines, Desk, Reacted, Reaction};
+use crate::asks::{Desk, Reacted, Reaction};
 use crate::clock::Moment;
+use crate::host::Host;
 use crate::outcomes::{Answer, answer_for};
 use crate::troubles::Trouble;
 use std::rt::Clock;
@@ -17,11 +18,11 @@ const BEAT_MS: u64 = 15_000;
 
 impl Client {
     /// Answers a client whose order has ended, or whose request was held.
-    pub(super) fn settle<C: Clock, D: Device, B: BookLines>(
+    pub(super) fn settle<C: Clock, D: Device, H: Host>(
         &mut self,
         clock: &C,
         guards: &Guards,
-        desk: &mut Desk<'_, '_, D, B>,
+        desk: &mut Desk<'_, '_, D, H>,
         now: Moment,
     ) -> bool {
         match std::mem::replace(&mut self.waiting, Waiting::Nothing) {
@@ -45,11 +46,11 @@ impl Client {
     }
 
     /// Reacts again to a request that was held, unless it was held for too long.
-    fn resume<C: Clock, D: Device, B: BookLines>(
+    fn resume<C: Clock, D: Device, H: Host>(
         &mut self,
         clock: &C,
         guards: &Guards,
-        desk: &mut Desk<'_, '_, D, B>,
+        desk: &mut Desk<'_, '_, D, H>,
         request: Request,
         now: Moment,
     ) -> bool {
@@ -69,11 +70,11 @@ impl Client {
     }
 
     /// Serves the client's next requests, as long as it waits for nothing.
-    pub(super) fn serve<C: Clock, D: Device, B: BookLines>(
+    pub(super) fn serve<C: Clock, D: Device, H: Host>(
         &mut self,
         clock: &C,
         guards: &Guards,
-        desk: &mut Desk<'_, '_, D, B>,
+        desk: &mut Desk<'_, '_, D, H>,
         now: Moment,
     ) -> bool {
         for _step in 0..AT_ONCE {
@@ -95,11 +96,11 @@ impl Client {
     }
 
     /// Takes a step of the input.
-    fn take<C: Clock, D: Device, B: BookLines>(
+    fn take<C: Clock, D: Device, H: Host>(
         &mut self,
         clock: &C,
         guards: &Guards,
-        desk: &mut Desk<'_, '_, D, B>,
+        desk: &mut Desk<'_, '_, D, H>,
         step: Step,
         now: Moment,
     ) -> bool {
@@ -134,11 +135,11 @@ impl Client {
     }
 
     /// Answers a request, or begins to wait.
-    fn react<C: Clock, D: Device, B: BookLines>(
+    fn react<C: Clock, D: Device, H: Host>(
         &mut self,
         clock: &C,
         guards: &Guards,
-        desk: &mut Desk<'_, '_, D, B>,
+        desk: &mut Desk<'_, '_, D, H>,
         request: Request,
         now: Moment,
     ) -> bool {
@@ -204,17 +205,17 @@ impl Client {
     }
 
     /// Sends a listener the events that it has not been sent, and a sign of life from time to time.
-    pub(super) fn send_events<D: Device, B: BookLines>(
+    pub(super) fn send_events<D: Device, H: Host>(
         &mut self,
-        desk: &Desk<'_, '_, D, B>,
+        desk: &Desk<'_, '_, D, H>,
         now: Moment,
     ) -> bool {
         let Waiting::Events(first) = &self.waiting else {
             return true;
         };
-        let mut next = desk.log.oldest().max(*first);
+        let mut next = desk.watch.log.oldest().max(*first);
         for _event in 0..AT_ONCE {
-            let Some(line) = desk.log.get(next) else {
+            let Some(line) = desk.watch.log.get(next) else {
                 break;
             };
             if self

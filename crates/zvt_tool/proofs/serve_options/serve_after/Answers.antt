@@ -3,7 +3,7 @@ use Rattle.clap.specs.Matches.{found_of}
 use Rattle.clap.specs.Walk.{rows_of}
 use Rattle.zvt_tool.specs.Given.{IsNumberOf}
 use Rattle.zvt_tool.proofs.Lacking.{serve_without_clients, serve_without_port, serve_without_timeout}
-use Rattle.zvt_tool.proofs.serve_options.read_serve.Goals as goal
+use Rattle.zvt_tool.proofs.serve_options.serve_after.Goals as goal
 
 pub returns-in_err-port : goal.returns-in_err-port
 returns-in_err-port c =

@@ -1,0 +1,40 @@
+//! The orders of the books that a service knows.
+
+use crate::fates::Fate;
+use zvt_kept::{PastOrder, PastOrders};
+use zvt_settle::SettlingTill;
+use zvt_till::Entry;
+
+/// An order that was found by its key, what is known of it, and the entries of its book.
+#[derive(Clone, Copy)]
+pub struct Found<'s> {
+    pub past: &'s PastOrder,
+    pub fate: Fate,
+    pub entries: &'s [Entry],
+    /// Whether its book is the service's own. The other books are of earlier days.
+    pub is_own: bool,
+}
+
+impl<'s> Found<'s> {
+    ghost use Rattle.std.specs.Prelude.{◌≡◌, option_map};
+    ghost use Rattle.zvt_settle.specs.Inside.{both_of};
+    ghost use Rattle.zvt_service.specs.Books.{in_book, order_found};
+
+    /// Returns the order with this key in a book with this till and these orders.
+    pub(crate) fn in_book(
+        till: &'s SettlingTill,
+        orders: &'s PastOrders,
+        key: &[u8],
+        is_own: bool,
+    ) -> Option<Found<'s>>
+        ensures { option_map order_found result ≡ in_book key.now is_own (both_of till.now) orders.now }
+    {
+        let past = orders.find(key)?;
+        Some(Found {
+            past,
+            fate: Fate::of(past, key, orders.as_slice(), till.settled()),
+            entries: till.till().book(),
+            is_own,
+        })
+    }
+}
