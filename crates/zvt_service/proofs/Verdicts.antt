@@ -62,23 +62,23 @@ fate_stays key old new before after a b verdict stays rows grown is =
 
 module _ {D : Type 0} (seen : D → List ℕ) (may_leave : D → List ℕ → Type 0) (moment : D → ℕ) (left_since : D → ℕ → List ℕ → Type 0) (faults : D → ℕ) where
   module _ (only_now : (device : D) (file : List ℕ) → left_since device (moment device) file → may_leave device file) where
-    settled_of : ServiceValue D → List Settlement
+    abbrev settled_of : ServiceValue D → List Settlement
     settled_of s = s.kept.standing.settling.settled
 
     -- ---- one move
 
     settled_grow : (old new : ServiceValue D) → IsWhole seen may_leave moment left_since faults old → IsWhole seen may_leave moment left_since faults new → Grows seen may_leave moment left_since faults old new → Grown (settled_of old) (settled_of new)
-    settled_grow old new is then g =
+    settled_grow old new is whole g =
         let settings = (state_of old.kept).settings in
         let p = is.served is.whole in
-        let q = then.served then.whole in
-        let more = lived_more seen may_leave moment left_since faults only_now old new is then g in
+        let q = whole.served whole.whole in
+        let more = lived_more seen may_leave moment left_since faults only_now old new is whole g in
         let text_old = recovered (seen old.kept.standing.device) in
         let text = recovered (seen new.kept.standing.device) in
         let both = both_in new.kept.standing in
-        let recorded : StandsFor settings text then.kept.0 = subst (λ s. StandsFor s text then.kept.0) g.settings then.kept.1.recorded in
-        let settles : Settles settings text both = subst (λ s. Settles s text both) g.settings then.kept.1.settles in
-        let notes = notes_of settings text q.kept (state_of new.kept).line_up (then.kept.0, recorded) q.read in
+        let recorded : StandsFor settings text whole.kept.0 = subst (λ s. StandsFor s text whole.kept.0) g.settings whole.kept.1.recorded in
+        let settles : Settles settings text both = subst (λ s. Settles s text both) g.settings whole.kept.1.settles in
+        let notes = notes_of settings text q.kept (state_of new.kept).line_up (whole.kept.0, recorded) q.read in
         let split = each_split (Means settings.currency) (p.kept ++ unless_lost (state_of old.kept).line_up) more.0 notes.0 (subst (λ k. MeanAll settings.currency k notes.0) more.1 notes.1) in
         let first = Line Connected ∷ split.0 in
         let goes = fold_grows (both_after settings first) split.1 in (
@@ -88,10 +88,10 @@ module _ {D : Type 0} (seen : D → List ℕ) (may_leave : D → List ℕ → Ty
         )
 
     fixed : (old new : ServiceValue D) → IsWhole seen may_leave moment left_since faults old → IsWhole seen may_leave moment left_since faults new → Grows seen may_leave moment left_since faults old new → Fixed old.past new.past
-    fixed old new is then g =
-        let more = lived_more seen may_leave moment left_since faults only_now old new is then g in
+    fixed old new is whole g =
+        let more = lived_more seen may_leave moment left_since faults only_now old new is whole g in
         let p = is.served is.whole in
-        let q = then.served then.whole in
+        let q = whole.served whole.whole in
         let settings = (state_of old.kept).settings in
         all_fixed settings (p.kept ++ unless_lost (state_of old.kept).line_up) more.0 old.past new.past p.are
         (subst (λ k. ArePast settings k new.past) more.1 (subst (λ s. ArePast s (q.kept ++ unless_lost (state_of new.kept).line_up) new.past) g.settings q.are))
