@@ -18,7 +18,7 @@ pub struct Found<'s> {
 impl<'s> Found<'s> {
     ghost use Rattle.std.specs.Prelude.{◌≡◌, option_map};
     ghost use Rattle.zvt_settle.specs.Inside.{both_of};
-    ghost use Rattle.zvt_service.specs.Books.{in_book, order_found};
+    ghost use Rattle.zvt_service.specs.Books.{in_book, order_found, order_in};
 
     /// Returns the order with this key in a book with this till and these orders.
     pub(crate) fn in_book(
@@ -29,12 +29,26 @@ impl<'s> Found<'s> {
     ) -> Option<Found<'s>>
         ensures { option_map order_found result ≡ in_book key.now is_own (both_of till.now) orders.now }
     {
-        let past = orders.find(key)?;
-        Some(Found {
+        match orders.find(key) {
+            Some(past) => Some(Found::of(past, till, orders, key, is_own)),
+            None => None,
+        }
+    }
+
+    fn of(
+        past: &'s PastOrder,
+        till: &'s SettlingTill,
+        orders: &PastOrders,
+        key: &[u8],
+        is_own: bool,
+    ) -> Found<'s>
+        ensures { order_found result ≡ order_in key.now is_own (both_of till.now) orders.now past.now }
+    {
+        Found {
             past,
             fate: Fate::of(past, key, orders.as_slice(), till.settled()),
             entries: till.till().book(),
             is_own,
-        })
+        }
     }
 }
