@@ -1,31 +1,28 @@
 -- A verdict stays.
-use Rattle.std.specs.Prelude.{fold, if◌then◌else◌, option_map}
+use Rattle.std.specs.Prelude.{if◌then◌else◌, option_map}
 use Rattle.std.specs.Option.{option_or}
 use Rattle.std.proofs.Common.{◌≡◌, ℕ, Bool, true, false, ◌||◌, List, [], ◌∷◌, ◌++◌, Option, Some, None, is_some, refl, sym, ap, subst, ◌∙◌}
 use Rattle.std.proofs.lemmas.List.Sums.{fold-append}
 use Rattle.zvt_till.specs.declared.happenings.Happening.TheVariants.{Connected}
 use Rattle.zvt_till.specs.declared.outcomes.Outcome.{Outcome}
-use Rattle.zvt_till.specs.Sending.{Settings}
 use Rattle.zvt_settle.specs.declared.deciding.Settlement.{Settlement}
-use Rattle.zvt_settle.specs.Settling.{Both, Line, Note, both_after, new_both, take}
+use Rattle.zvt_settle.specs.Settling.{Both, Line, both_after, new_both, take}
 use Rattle.zvt_journal.specs.Text.{recovered}
 use Rattle.zvt_kept.specs.declared.past_orders.PastOrder.{PastOrder}
 use Rattle.zvt_kept.specs.KeptTill.{Settles, both_in}
 use Rattle.zvt_kept.specs.Logs.{MeanAll, Means, StandsFor}
 use Rattle.zvt_kept.specs.PastOrders.{ArePast, StaysAs, first_noted}
 use Rattle.zvt_kept.proofs.PastOrdersStay.{each_split}
-use Rattle.zvt_service.specs.declared.fates.Fate.{Fate}
-use Rattle.zvt_service.specs.declared.fates.Fate.TheVariants.{Ended, Running, Settled}
+use Rattle.zvt_service.specs.declared.fates.Fate.TheVariants.{Settled}
 use Rattle.zvt_service.specs.declared.fates.Verdict.{Verdict}
 use Rattle.zvt_service.specs.Books.{OrderIn, in_earlier, order_in}
 use Rattle.zvt_service.specs.Fates.{fate_as, fate_of, is_payment, is_unclear, is_unclear_payment, row_of, unclear_payments, verdict_in}
 use Rattle.zvt_service.specs.Service.{ServiceValue, found_by, is_known, state_of, unless_lost}
-use Rattle.zvt_service.specs.Lives.{IsWhole, Lives, Move, Moves, VerdictsStay}
+use Rattle.zvt_service.specs.Lives.{IsWhole, VerdictsStay}
 use Rattle.zvt_service.proofs.Rows.{Fixed, all_fixed, before_same}
 use Rattle.zvt_service.proofs.Sent.{Adds, any_has, known_is, moved, or-right, records}
 use Rattle.zvt_service.proofs.Settled.{Grown, fold_grows, found_more, notes_of, own_settled, settled_after}
 use Rattle.zvt_service.proofs.Stays.{EachStays, Grows, first_stays, lived_more, moved_grows, one_stays, same_found, still_none}
-use Rattle.std.proofs.Common.{true≢false}
 
 -- ---- one order
 
