@@ -141,6 +141,9 @@ all_fixed settings kept more old new a b index one next is then =
 
 -- ---- the orders before a key
 
+take_one : (n : ℕ) (x : PastOrder) (xs : List PastOrder) → take (1 + n) (x ∷ xs) ≡ x ∷ take n xs
+take_one n x xs = let e : 1 + n ≡ suc n = omega arith in ap (λ k. take k (x ∷ xs)) e
+
 pub before_same : (key : List ℕ) (old new : List PastOrder) (one : PastOrder) → EachStays old new → Fixed old new → first_noted key old ≡ Some one → before_first (is_noted_as key) new ≡ before_first (is_noted_as key) old
 before_same key [] new one each fixed is = absurd cc
 before_same key (x ∷ old) [] one each fixed is = let none : None ≡ Some (each 0 x refl).0 = (each 0 x refl).1 in absurd cc
@@ -157,6 +160,8 @@ before_same key (x ∷ old) (y ∷ new) one each fixed is =
     by_first : (p q : Bool) → p ≡ q → cond p (Some x) (first_noted key old) ≡ Some one → (first_noted key old ≡ Some one → before_first (is_noted_as key) new ≡ before_first (is_noted_as key) old)
         → take (cond (not q) (1 + position_or_len (is_noted_as key) new) 0) (y ∷ new) ≡ take (cond (not p) (1 + position_or_len (is_noted_as key) old) 0) (x ∷ old)
     by_first true true same found more = refl
-    by_first false false same found more = ap (λ z. z ∷ before_first (is_noted_as key) new) (same_here old refl found) ∙ ap (λ l. x ∷ l) (more found)
+    by_first false false same found more =
+        take_one (position_or_len (is_noted_as key) new) y new ∙ ap (λ z. z ∷ before_first (is_noted_as key) new) (same_here old refl found) ∙ ap (λ l. x ∷ l) (more found)
+        ∙ sym (take_one (position_or_len (is_noted_as key) old) x old)
     by_first true false same found more = absurd cc
     by_first false true same found more = absurd cc

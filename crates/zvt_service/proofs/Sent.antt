@@ -177,7 +177,7 @@ followed_adds old new sent is earlier none = adds_none old new sent (ap (map rec
 same_adds : {D : Type 0} (old new : ServiceValue D) (sent : List (List ℕ)) → new.past ≡ old.past → new.earlier ≡ old.earlier → sent ≡ [] → Adds old new sent
 same_adds old new sent is earlier none = adds_none old new sent (ap (map record_of) is) earlier none
 
-earlier_in : {D : Type 0} → ServiceValue D → List Recovered
+abbrev earlier_in : {D : Type 0} → ServiceValue D → List Recovered
 earlier_in s = s.earlier
 
 no_keys : IsDistinct bytes_eq []

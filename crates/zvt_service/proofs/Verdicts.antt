@@ -1,31 +1,28 @@
 -- A verdict stays.
-use Rattle.std.specs.Prelude.{fold, if◌then◌else◌, option_map}
+use Rattle.std.specs.Prelude.{if◌then◌else◌, option_map}
 use Rattle.std.specs.Option.{option_or}
 use Rattle.std.proofs.Common.{◌≡◌, ℕ, Bool, true, false, ◌||◌, List, [], ◌∷◌, ◌++◌, Option, Some, None, is_some, refl, sym, ap, subst, ◌∙◌}
 use Rattle.std.proofs.lemmas.List.Sums.{fold-append}
 use Rattle.zvt_till.specs.declared.happenings.Happening.TheVariants.{Connected}
 use Rattle.zvt_till.specs.declared.outcomes.Outcome.{Outcome}
-use Rattle.zvt_till.specs.Sending.{Settings}
 use Rattle.zvt_settle.specs.declared.deciding.Settlement.{Settlement}
-use Rattle.zvt_settle.specs.Settling.{Both, Line, Note, both_after, new_both, take}
+use Rattle.zvt_settle.specs.Settling.{Both, Line, both_after, new_both, take}
 use Rattle.zvt_journal.specs.Text.{recovered}
 use Rattle.zvt_kept.specs.declared.past_orders.PastOrder.{PastOrder}
 use Rattle.zvt_kept.specs.KeptTill.{Settles, both_in}
 use Rattle.zvt_kept.specs.Logs.{MeanAll, Means, StandsFor}
 use Rattle.zvt_kept.specs.PastOrders.{ArePast, StaysAs, first_noted}
 use Rattle.zvt_kept.proofs.PastOrdersStay.{each_split}
-use Rattle.zvt_service.specs.declared.fates.Fate.{Fate}
-use Rattle.zvt_service.specs.declared.fates.Fate.TheVariants.{Ended, Running, Settled}
+use Rattle.zvt_service.specs.declared.fates.Fate.TheVariants.{Settled}
 use Rattle.zvt_service.specs.declared.fates.Verdict.{Verdict}
 use Rattle.zvt_service.specs.Books.{OrderIn, in_earlier, order_in}
 use Rattle.zvt_service.specs.Fates.{fate_as, fate_of, is_payment, is_unclear, is_unclear_payment, row_of, unclear_payments, verdict_in}
 use Rattle.zvt_service.specs.Service.{ServiceValue, found_by, is_known, state_of, unless_lost}
-use Rattle.zvt_service.specs.Lives.{IsWhole, Lives, Move, Moves, VerdictsStay}
+use Rattle.zvt_service.specs.Lives.{IsWhole, VerdictsStay}
 use Rattle.zvt_service.proofs.Rows.{Fixed, all_fixed, before_same}
 use Rattle.zvt_service.proofs.Sent.{Adds, any_has, known_is, moved, or-right, records}
 use Rattle.zvt_service.proofs.Settled.{Grown, fold_grows, found_more, notes_of, own_settled, settled_after}
 use Rattle.zvt_service.proofs.Stays.{EachStays, Grows, first_stays, lived_more, moved_grows, one_stays, same_found, still_none}
-use Rattle.std.proofs.Common.{true≢false}
 
 -- ---- one order
 
@@ -62,23 +59,23 @@ fate_stays key old new before after a b verdict stays rows grown is =
 
 module _ {D : Type 0} (seen : D → List ℕ) (may_leave : D → List ℕ → Type 0) (moment : D → ℕ) (left_since : D → ℕ → List ℕ → Type 0) (faults : D → ℕ) where
   module _ (only_now : (device : D) (file : List ℕ) → left_since device (moment device) file → may_leave device file) where
-    settled_of : ServiceValue D → List Settlement
+    abbrev settled_of : ServiceValue D → List Settlement
     settled_of s = s.kept.standing.settling.settled
 
     -- ---- one move
 
     settled_grow : (old new : ServiceValue D) → IsWhole seen may_leave moment left_since faults old → IsWhole seen may_leave moment left_since faults new → Grows seen may_leave moment left_since faults old new → Grown (settled_of old) (settled_of new)
-    settled_grow old new is then g =
+    settled_grow old new is whole g =
         let settings = (state_of old.kept).settings in
         let p = is.served is.whole in
-        let q = then.served then.whole in
-        let more = lived_more seen may_leave moment left_since faults only_now old new is then g in
+        let q = whole.served whole.whole in
+        let more = lived_more seen may_leave moment left_since faults only_now old new is whole g in
         let text_old = recovered (seen old.kept.standing.device) in
         let text = recovered (seen new.kept.standing.device) in
         let both = both_in new.kept.standing in
-        let recorded : StandsFor settings text then.kept.0 = subst (λ s. StandsFor s text then.kept.0) g.settings then.kept.1.recorded in
-        let settles : Settles settings text both = subst (λ s. Settles s text both) g.settings then.kept.1.settles in
-        let notes = notes_of settings text q.kept (state_of new.kept).line_up (then.kept.0, recorded) q.read in
+        let recorded : StandsFor settings text whole.kept.0 = subst (λ s. StandsFor s text whole.kept.0) g.settings whole.kept.1.recorded in
+        let settles : Settles settings text both = subst (λ s. Settles s text both) g.settings whole.kept.1.settles in
+        let notes = notes_of settings text q.kept (state_of new.kept).line_up (whole.kept.0, recorded) q.read in
         let split = each_split (Means settings.currency) (p.kept ++ unless_lost (state_of old.kept).line_up) more.0 notes.0 (subst (λ k. MeanAll settings.currency k notes.0) more.1 notes.1) in
         let first = Line Connected ∷ split.0 in
         let goes = fold_grows (both_after settings first) split.1 in (
@@ -88,10 +85,10 @@ module _ {D : Type 0} (seen : D → List ℕ) (may_leave : D → List ℕ → Ty
         )
 
     fixed : (old new : ServiceValue D) → IsWhole seen may_leave moment left_since faults old → IsWhole seen may_leave moment left_since faults new → Grows seen may_leave moment left_since faults old new → Fixed old.past new.past
-    fixed old new is then g =
-        let more = lived_more seen may_leave moment left_since faults only_now old new is then g in
+    fixed old new is whole g =
+        let more = lived_more seen may_leave moment left_since faults only_now old new is whole g in
         let p = is.served is.whole in
-        let q = then.served then.whole in
+        let q = whole.served whole.whole in
         let settings = (state_of old.kept).settings in
         all_fixed settings (p.kept ++ unless_lost (state_of old.kept).line_up) more.0 old.past new.past p.are
         (subst (λ k. ArePast settings k new.past) more.1 (subst (λ s. ArePast s (q.kept ++ unless_lost (state_of new.kept).line_up) new.past) g.settings q.are))

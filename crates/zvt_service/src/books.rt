@@ -1,7 +1,9 @@
 //! The orders of the books that a service knows.
+ghost use Rattle.std.specs.Prelude.{◌≡◌, find, option_copied};
+ghost use Rattle.zvt_service.specs.Books.{has_key};
 
 use crate::fates::Fate;
-use zvt_kept::{PastOrder, PastOrders};
+use zvt_kept::{PastOrder, PastOrders, Recovered};
 use zvt_settle::SettlingTill;
 use zvt_till::Entry;
 
@@ -18,7 +20,7 @@ pub struct Found<'s> {
 impl<'s> Found<'s> {
     ghost use Rattle.std.specs.Prelude.{◌≡◌, option_map};
     ghost use Rattle.zvt_settle.specs.Inside.{both_of};
-    ghost use Rattle.zvt_service.specs.Books.{in_book, order_found};
+    ghost use Rattle.zvt_service.specs.Books.{in_book, in_earlier, order_found, order_in};
 
     /// Returns the order with this key in a book with this till and these orders.
     pub(crate) fn in_book(
@@ -29,12 +31,43 @@ impl<'s> Found<'s> {
     ) -> Option<Found<'s>>
         ensures { option_map order_found result ≡ in_book key.now is_own (both_of till.now) orders.now }
     {
-        let past = orders.find(key)?;
-        Some(Found {
+        match orders.find(key) {
+            Some(past) => Some(Found::of(past, till, orders, key, is_own)),
+            None => None,
+        }
+    }
+
+    /// Returns the order with this key in the first of these books that has one.
+    pub(crate) fn in_earlier(earlier: &'s [Recovered], key: &[u8]) -> Option<Found<'s>>
+        ensures { option_map order_found result ≡ in_earlier key.now earlier.now }
+    {
+        match book_with(earlier, key) {
+            Some(book) => Found::in_book(&book.till, &book.orders, key, false),
+            None => None,
+        }
+    }
+
+    fn of(
+        past: &'s PastOrder,
+        till: &'s SettlingTill,
+        orders: &PastOrders,
+        key: &[u8],
+        is_own: bool,
+    ) -> Found<'s>
+        ensures { order_found result ≡ order_in key.now is_own (both_of till.now) orders.now past.now }
+    {
+        Found {
             past,
             fate: Fate::of(past, key, orders.as_slice(), till.settled()),
             entries: till.till().book(),
             is_own,
-        })
+        }
     }
+}
+
+/// Returns the first of these books that has an order with this key.
+fn book_with<'s>(earlier: &'s [Recovered], key: &[u8]) -> Option<&'s Recovered>
+    ensures { option_copied result ≡ find (has_key key.now) earlier.now }
+{
+    earlier.iter().find(|book| book.orders.find(key).is_some())
 }

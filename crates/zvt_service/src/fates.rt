@@ -1,5 +1,5 @@
 //! What is known of an order: how it ended, and what an ask of the till settled later.
-ghost use Rattle.std.specs.Prelude.{◌≡◌};
+ghost use Rattle.std.specs.Prelude.{◌≡◌, find, length, option_copied};
 ghost use Rattle.std.specs.List.{before_first};
 ghost use Rattle.zvt_kept.specs.PastOrders.{is_noted_as};
 ghost use Rattle.zvt_service.specs.Fates.{is_about, is_unclear_payment, row_of, unclear_payments, verdict_in};
@@ -86,11 +86,16 @@ fn row_of(orders: &[PastOrder], key: &[u8]) -> usize
 fn orders_before<'s>(orders: &'s [PastOrder], key: &[u8]) -> &'s [PastOrder]
     ensures { result.now ≡ before_first (is_noted_as key.now) orders.now }
 {
-    let count = orders
+    &orders[..count_before(orders, key)]
+}
+
+fn count_before(orders: &[PastOrder], key: &[u8]) -> usize
+    ensures { result ≡ length (before_first (is_noted_as key.now) orders.now) }
+{
+    orders
         .iter()
         .take_while(|past| !past.note.has_reference(key))
-        .count();
-    &orders[..count]
+        .count()
 }
 
 /// Returns the number of these orders that are unclear payments.
@@ -107,8 +112,17 @@ fn unclear_payments(orders: &[PastOrder]) -> usize
 fn verdict_in(settled: &[Settlement], row: usize) -> Option<Verdict>
     ensures { result ≡ verdict_in row settled.now }
 {
-    let settlement = settled.iter().find(|settlement| is_about(settlement, row))?;
-    verdict_of(settlement)
+    match settlement_of(settled, row) {
+        Some(settlement) => verdict_of(settlement),
+        None => None,
+    }
+}
+
+/// Returns the settlement that is about the unclear payment at this index.
+fn settlement_of(settled: &[Settlement], row: usize) -> Option<&Settlement>
+    ensures { option_copied result ≡ find (is_about row) settled.now }
+{
+    settled.iter().find(|settlement| is_about(settlement, row))
 }
 
 /// Returns whether a settlement is about the unclear payment at this index.

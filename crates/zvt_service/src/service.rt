@@ -127,9 +127,9 @@ impl<D: Device + Drop> Service<D> {
 }
 
 impl<D: Device> Service<D> {
-    ghost use Rattle.std.specs.Prelude.{◌∷◌, ◌++◌, [], OnErr, OnOk, option_map};
-    ghost use Rattle.zvt_kept.specs.KeptTill.{has_failed};
-    ghost use Rattle.zvt_service.specs.Books.{order_found};
+    ghost use Rattle.std.specs.Prelude.{◌∷◌, ◌++◌, [], OnErr, OnOk, option_map, true};
+    ghost use Rattle.zvt_kept.specs.KeptTill.{both_in, has_failed};
+    ghost use Rattle.zvt_service.specs.Books.{in_book, order_found};
     ghost use Rattle.zvt_service.specs.Service.{Asks, Connects, Gives, Loses, found_by, is_held};
     ghost use Rattle.zvt_settle.specs.Inside.{settling_of, till_inside};
 
@@ -249,15 +249,17 @@ impl<D: Device> Service<D> {
     pub fn find(&self, key: &[u8]) -> Option<Found<'_>>
         ensures { option_map order_found result ≡ found_by key.now self.now }
     {
-        let own = Found::in_book(self.kept.settling(), &self.orders, key, true);
-        if own.is_some() {
-            return own;
+        match self.find_own(key) {
+            Some(found) => Some(found),
+            None => Found::in_earlier(self.earlier.as_slice(), key),
         }
-        let book = self
-            .earlier
-            .iter()
-            .find(|book| book.orders.find(key).is_some())?;
-        Found::in_book(&book.till, &book.orders, key, false)
+    }
+
+    /// Returns the order with this key in the service's own book.
+    fn find_own(&self, key: &[u8]) -> Option<Found<'_>>
+        ensures { option_map order_found result ≡ in_book key.now true (both_in self.now.kept.standing) self.now.past }
+    {
+        Found::in_book(self.kept.settling(), &self.orders, key, true)
     }
 }
 
