@@ -12,6 +12,12 @@ APPROVED = "040F{size:02X}270004{amount}0B{trace:06d}87{receipt:04d}490978"
 REGISTER, PAY, REVERSE, CLOSE, REPEAT = b"\x06\x00", b"\x06\x01", b"\x06\x30", b"\x06\x50", b"\x06\x20"
 
 
+def free_port():
+    """A port at which nothing listens now."""
+    with socket.create_server(("127.0.0.1", 0)) as free:
+        return free.getsockname()[1]
+
+
 class Answer:
     def __init__(self, status, headers, body):
         self.status, self.headers, self.text = status, headers, body.decode()
@@ -25,12 +31,13 @@ class Answer:
 
 
 class Service:
-    """A `zvt serve` with its book and its token in a folder. It can be killed and started again."""
+    """A `zvt serve` with its book and its token in a folder. It can be killed and started again, on the same port if `own_port`."""
 
-    def __init__(self, program, folder, terminal, *words):
+    def __init__(self, program, folder, terminal, *words, own_port=False, before=()):
         folder = pathlib.Path(folder)
         self.book, self.token_file = folder / "day.book", folder / "till.token"
-        self.words = [program, "serve", "--port", "0", "--terminal", f"127.0.0.1:{terminal}", "--book", self.book, "--token-file", self.token_file, *words]
+        port = free_port() if own_port else 0
+        self.words = [*before, program, "serve", "--port", port, "--terminal", f"127.0.0.1:{terminal}", "--book", self.book, "--token-file", self.token_file, *words]
         self.process = None
         self.start()
 
