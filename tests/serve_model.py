@@ -45,6 +45,7 @@ MOODS = {
     "silent": {(424, "unclear")},
 }
 NAMES = list(MOODS)
+OFFLINE = {(409, "Offline"), (409, "NotRegistered")}
 COMMON = ["approves"] * 12 + ["declines"] * 3 + ["refuses", "late", "twice", "unapproved"]
 RARE = ["another amount", "malformed", "breaks", "silent"]
 
@@ -64,10 +65,10 @@ class Moody(Terminal):
     def say(self, line, *texts):
         line.sendall(bytes.fromhex("".join(texts)))
 
-    def approval(self, amount):
-        """The status of a transaction with the next numbers."""
+    def approval(self, amount, taken=None):
+        """The status of a transaction with the next numbers, and the trace number of the payment that it takes back."""
         self.count += 1
-        fields = f"270004{digits(amount, 12)}0B{digits(self.count, 6)}87{digits(self.count % 10000, 4)}490978"
+        fields = f"270004{digits(amount, 12)}0B{digits(self.count, 6)}87{digits(self.count % 10000, 4)}490978" + (f"37{digits(taken, 6)}" if taken else "")
         return f"040F{len(fields) // 2:02X}{fields}"
 
     def hear(self, line, message):
@@ -89,12 +90,12 @@ class Moody(Terminal):
         return True
 
     def takes_back(self, line, receipt):
-        amount = next(amount for amount, (_, number) in self.approved.items() if number == receipt)
+        amount, trace = next((amount, trace) for amount, (trace, number) in self.approved.items() if number == receipt)
         if self.refuses_next:
             self.say(line, "800000", "061E016C")
             return
         self.taken.append(amount)
-        self.last = self.approval(amount)
+        self.last = self.approval(amount, trace)
         self.say(line, "800000", self.last, "060F00")
 
     def pays(self, line, amount):
@@ -158,7 +159,7 @@ class Round:
     def __init__(self, folder, count):
         self.terminal = Moody()
         self.service = Service(ZVT, folder, self.terminal.port, "--timeout", "1")
-        self.left, self.orders, self.serial, self.kinds = count, {}, 0, collections.Counter()
+        self.count, self.left, self.orders, self.serial, self.amounts, self.kinds = count, count, {}, 0, 0, collections.Counter()
         self.line, self.breaks, self.kills = None, 0, 0
         self.settle_line()
 
@@ -197,7 +198,9 @@ class Round:
         return random.choice(["sale-{:08d}-model", "{:08x}.Model_test-key-of-all-signs._-", "{:016d}"]).format(self.serial)
 
     def amount(self, mood):
-        return (self.serial + 1) * 100 + NAMES.index(mood)
+        """An amount that no other request has."""
+        self.amounts += 1
+        return self.amounts * 100 + NAMES.index(mood)
 
     def known(self, paid=False):
         keys = [key for key, order in self.orders.items() if order.status and (order.is_paid or not paid)]
@@ -258,7 +261,7 @@ class Round:
     # ---- what a client does
 
     def pays(self):
-        is_rare = self.breaks * 300 < REQUESTS - self.left and random.random() < 0.03
+        is_rare = self.breaks * 300 < self.count - self.left and random.random() < 0.03
         mood = random.choice(RARE if is_rare else COMMON)
         self.breaks += is_rare
         amount = self.amount(mood)
@@ -406,8 +409,12 @@ class Round:
                 random.choice([self.repeats_one, self.looks, self.reuses])()
             elif deed == 6:
                 self.expects("ask while it runs", self.call("POST", "/ask"), {(409, "Busy")})
-            elif not was_broken:
-                was_broken = random.random() < 0.5 and summary(self.call("POST", "/cancel")) == (202, None)
+            elif random.random() < 0.5:
+                answer = self.call("POST", "/cancel")
+                self.expects("cancel", answer, {(202, None), (409, "NothingToCancel")})
+                was_broken = summary(answer) == (202, None)
+                if was_broken:
+                    break
         if was_broken:
             order.allowed = {(402, "aborted"), (402, "declined"), (200, "paid")}
         elif random.random() < 0.05:
@@ -429,10 +436,10 @@ class Round:
         return answer
 
     def asks(self):
-        self.expects("ask", self.call("POST", "/ask"), {(202, None), (409, "Busy")})
+        self.expects("ask", self.call("POST", "/ask"), {(202, None), (409, "Busy"), *OFFLINE})
 
     def cancels(self):
-        self.expects("cancel while nothing runs", self.call("POST", "/cancel"), {(409, "NothingToCancel")})
+        self.expects("cancel while nothing runs", self.call("POST", "/cancel"), {(409, "NothingToCancel"), *OFFLINE})
 
     def reads_status(self):
         status = self.call("GET", "/status")

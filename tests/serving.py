@@ -113,6 +113,7 @@ class Terminal:
 
     def talk(self, line):
         line.settimeout(0.1)
+        line.setsockopt(socket.IPPROTO_TCP, socket.TCP_NODELAY, 1)
         held = b""
         while not self.stopped.is_set():
             try:
