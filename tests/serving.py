@@ -55,8 +55,15 @@ class Service:
         self.book, self.token_file = folder / "day.book", folder / "till.token"
         port = free_port() if own_port else 0
         self.words = [*before, program, "serve", "--port", port, "--terminal", f"127.0.0.1:{terminal}", "--book", self.book, "--token-file", self.token_file, *words]
-        self.process = None
         self.start()
+
+    @classmethod
+    def of(cls, words, token_file):
+        """The service that a command starts."""
+        service = cls.__new__(cls)
+        service.words, service.token_file = words, pathlib.Path(token_file)
+        service.start()
+        return service
 
     def start(self):
         self.process = subprocess.Popen([str(word) for word in self.words], stdout=subprocess.PIPE, stderr=subprocess.PIPE)
