@@ -36,7 +36,10 @@ check = Checks()
 
 def terminal_at(trace):
     process = subprocess.Popen([ZVT, "terminal", "--port", "0", "--connections", "0", "--no-times", "--trace", str(trace)], stderr=subprocess.PIPE, text=True)
-    return process, int(re.search(r":(\d+)$", process.stderr.readline())[1])
+    port = int(re.search(r":(\d+)$", process.stderr.readline())[1])
+    # (it reports each connection that breaks, and would wait for a full pipe)
+    threading.Thread(target=process.stderr.read, daemon=True).start()
+    return process, port
 
 
 def key_of(at):
@@ -138,7 +141,7 @@ def main():
             check(key, again and (again.status, again.text), (answer.status, answer.text))
         service.kill()
         terminal.kill()
-        terminal.communicate()
+        terminal.wait()
         sent = [int(digits) for digits in re.findall(r"^> 06010A04(\d{12})", trace.read_text(), re.M)]
         check("no order was sent twice", len(sent), len(set(sent)))
         check("each order at the terminal has an answer", sorted(sent), sorted(amount for amount in sent if key_of(amount - FIRST) in answers))
