@@ -1,10 +1,12 @@
 #!/usr/bin/env python3
-"""Sends `zvt serve` HTTP as it comes off a wire: cut at each byte, cut off there, malformed, pipelined, and by clients that retry.
+"""Sends `zvt serve` HTTP as it comes off a wire: cut at each byte, cut off there, malformed, pipelined, and by clients that
+retry or give up.
 
 serve_http.py [PROGRAM]: the program of `rt ci` without a word. The status is 1 where a request that is sent in two pieces is answered
 otherwise than whole, where one that was not whole or not valid reached the terminal, or where an answer has another status than
 docs/SERVE.md says. Without curl or the module requests, their clients are left out.
 """
+import concurrent.futures
 import json
 import pathlib
 import shutil
@@ -17,7 +19,7 @@ import threading
 import time
 
 from common import Checks, program
-from serving import Answer, Service, Terminal
+from serving import NAMES, Answer, Moody, Service, Terminal
 
 try:
     import requests
@@ -396,12 +398,32 @@ def retrying(folder):
     return time.monotonic() - service_is_down
 
 
+def given_up(folder):
+    """Clients that give up while their order is running make room for others."""
+    folder.mkdir()
+    terminal = Moody()
+    service = Service(ZVT, folder, terminal.port)
+    key, amount = "given-up-00000001", 100 + NAMES.index("held")
+    service.until((200,), "given-up-registers", 100)
+    for _ in range(100):
+        wire = Wire(service)
+        wire.send(payment(service, key, amount))
+        time.sleep(PAUSE)
+        wire.close()
+    check("a look beside 100 clients that gave up", summary(service.call("GET", f"/payments/{key}")), (202, "running"))
+    check("and a break", summary(service.call("POST", "/cancel")), (202, None))
+    check("ends the order", summary(service.until((402,), key, amount, seconds=5)), (402, "aborted"))
+    check("which was sent once", terminal.sent, [100, amount])
+    terminal.release.set()
+    service.kill()
+    terminal.stop()
+
+
 def main():
     root = "/dev/shm" if pathlib.Path("/dev/shm").is_dir() else None
-    with tempfile.TemporaryDirectory(dir=root) as folder:
+    with tempfile.TemporaryDirectory(dir=root) as folder, concurrent.futures.ThreadPoolExecutor() as pool:
         folder = pathlib.Path(folder)
-        others = threading.Thread(target=retrying, args=(folder / "retrying",))
-        others.start()
+        others = pool.submit(retrying, folder / "retrying")
         terminal = Terminal()
         service = Service(ZVT, folder, terminal.port)
         check("the first payment", summary(service.until((200,), "first-payment-001", 1)), (200, "paid"))
@@ -412,7 +434,8 @@ def main():
         bad = no_requests(service, terminal)
         unusual(service, terminal)
         pipelined(service, terminal)
-        others.join()
+        given_up(folder / "given-up")
+        others.result()
         answer = service.call("POST", "/stop")
         check("it stops", (answer and answer.status, service.ended()), (202, 0))
         terminal.stop()

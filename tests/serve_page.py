@@ -217,7 +217,7 @@ def other_pages(browser, service, terminal):
         server.shutdown()
     # The name of another site that leads to this machine: its pages would have the origin of the service.
     browser.opens(f"http://evil.example:{service.port}/")
-    check("another name is refused", json.loads(browser.value("document.body.innerText"))["error"], "host")
+    check("another name is refused", browser.value("""document.body.innerText.includes('"error":"host"')"""), True)
     found = browser.value(f"fetch('/payments', {{ method: 'POST', headers: {{ Authorization: 'Bearer {service.token}', 'Idempotency-Key': 'another-name-0001' }}, "
         "body: '{\"amount\":100}' }).then((answer) => answer.status)")
     check("and cannot pay", found, 421)
