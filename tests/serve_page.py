@@ -237,11 +237,14 @@ def main():
         service.until((200,), "page-is-registered", amount(10, "approves"))
         terminal.sent.clear()
         browser = Browser(folder / "chromium")
-        own_page(browser, service, terminal)
-        other_pages(browser, service, terminal)
-        browser.ends()
-        service.kill()
-        terminal.stop()
+        try:
+            own_page(browser, service, terminal)
+            other_pages(browser, service, terminal)
+        finally:
+            browser.ends()
+            service.kill()
+            terminal.release.set()
+            terminal.stop()
     print(f"{check.verdict}: the page, {check.count} comparisons")
     return check.status
 
