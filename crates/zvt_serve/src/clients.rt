@@ -50,11 +50,11 @@ impl Clients {
         true
     }
 
-    /// Gives a new connection a place. If all are taken, the oldest client that has shown no token goes. If all have
-    /// shown it, the new connection is refused.
+    /// Gives a new connection a place. If all are taken, the oldest client goes that has shown no token, or that sends
+    /// nothing more, as one that gave up while its order is running. If there is none, the new connection is refused.
     fn admit(&mut self, poll: &Poll, mut socket: TcpStream, now: Moment) {
         let _ = socket.set_nodelay(true);
-        let Some(at) = self.free_place().or(self.stranger()) else {
+        let Some(at) = self.free_place().or(self.replaceable()) else {
             refuse(self.alloc, &mut socket);
             return;
         };
@@ -76,12 +76,12 @@ impl Clients {
         self.places.iter().position(|place| place.is_none())
     }
 
-    /// Returns the place of the oldest client that has shown no token.
-    fn stranger(&self) -> Option<usize> {
+    /// Returns the place of the oldest client that may be replaced.
+    fn replaceable(&self) -> Option<usize> {
         let mut oldest: Option<(usize, Moment)> = None;
         for (at, place) in self.places.iter().enumerate() {
             if let Some(client) = place
-                && let Some(came) = client.stranger_since()
+                && let Some(came) = client.came_if_replaceable()
                 && is_older(came, &oldest)
             {
                 oldest = Some((at, came));

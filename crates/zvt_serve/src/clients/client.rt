@@ -85,9 +85,9 @@ impl Client {
         }
     }
 
-    /// Returns when the client came, if it has shown no token yet.
-    pub(crate) fn stranger_since(&self) -> Option<Moment> {
-        if self.is_trusted {
+    /// Returns when the client came, if it has shown no token yet, or sends nothing more.
+    pub(crate) fn came_if_replaceable(&self) -> Option<Moment> {
+        if self.is_trusted && !self.has_ended {
             None
         } else {
             Some(self.came)
