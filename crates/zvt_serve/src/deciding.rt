@@ -126,8 +126,8 @@ impl Decision {
 
     /// Decides about a request with this key, which asks for this order, or says why it asks for none.
     ///
-    /// An order is given only if no order of the service's books has the key, and the till is ready. An order that was given before
-    /// is answered or waited for only if it is the one that the request asks for.
+    /// An order is given only if no order of the service's books has the key, and the till is ready. An order that was
+    /// given before is answered or waited for only if it is the one that the request asks for.
     pub fn about<D: Device>(
         service: &Service<D>,
         is_stopping: bool,

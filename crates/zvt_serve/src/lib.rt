@@ -1,7 +1,8 @@
 //! One loop over the sockets of HTTP clients and of one card terminal.
 //!
-//! A [`Server`] gives the orders of its clients to a [`Service`](zvt_service::Service), which sends the order of a key at
-//! most once. The program around it is its [`Host`]. [`Decision`] says what becomes of a request, and [`put_answer`] what a client is told about its order.
+//! A [`Server`] gives the orders of its clients to a [`Service`](zvt_service::Service), which sends the order of a key
+//! at most once. The program around it is its [`Host`]. [`Decision`] says what becomes of a request, and [`put_answer`]
+//! what a client is told about its order.
 #![tactic(auto)]
 
 mod answers;

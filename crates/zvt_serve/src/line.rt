@@ -287,7 +287,7 @@ impl Line {
         Ok(())
     }
 
-    /// Lets the till ask its terminal for the last transaction. If the message cannot be sent at once, the line is lost.
+    /// Lets the till ask its terminal for the last transaction. The line is lost if the message cannot be sent at once.
     pub(crate) fn ask<D: Device, H: Host>(
         &mut self,
         alloc: Global,

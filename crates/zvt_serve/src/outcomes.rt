@@ -3,8 +3,8 @@ ghost use Rattle.std.specs.Prelude.{◌≡◌, IfOk, option_map};
 ghost use Rattle.zvt_kept.specs.KeptTill.{has_failed};
 ghost use Rattle.zvt_service.specs.Books.{order_found};
 ghost use Rattle.zvt_service.specs.Service.{found_by, is_known, state_of};
-ghost use Rattle.zvt_serve.specs.Outcomes.{TellsKey, TellsNow, TellsOrder, is_reversed, paid_trace, payment, place_in, reversal};
-ghost use Rattle.zvt_serve.specs.Outcomes.{event_of, is_taken_back, trouble_of};
+ghost use Rattle.zvt_serve.specs.Outcomes.{TellsKey, TellsNow, TellsOrder, event_of, is_reversed, is_taken_back};
+ghost use Rattle.zvt_serve.specs.Outcomes.{paid_trace, payment, place_in, reversal, trouble_of};
 
 use crate::answers::{outcome_status, put_answer, put_end};
 use crate::troubles::Trouble;

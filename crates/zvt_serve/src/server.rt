@@ -78,7 +78,7 @@ impl Server {
         self.listener.local_addr()
     }
 
-    /// Serves clients that pass the guards, until one sends `POST /stop`, or the host cannot record what passes on the line
+    /// Serves clients that pass the guards until one sends `POST /stop`, or the host cannot record what passes on the line
     /// to the terminal. After `POST /stop` the running order ends first. What is unsent is sent.
     ///
     /// Fails if the system cannot say what is ready, or what time it is. Orders that were sent are in the book, so
