@@ -1,11 +1,9 @@
 -- No key is sent twice.
-use Rattle.std.specs.Prelude.{Ok, Err, option_map}
-use Rattle.std.specs.Option.{option_or}
-use Rattle.std.proofs.Common.{◌≡◌, ◌⊎◌, ⊎_elim, inl, inr, ℕ, Bool, true, false, cond, ◌||◌, ◌-◌, List, [], ◌∷◌, ◌++◌, All, append-nil, length, map, Option, Some, None, is_some, Result, slice_get, slice_set, refl, sym, ap, subst, ◌∙◌, append_assoc, true≢false}
-use Rattle.std.specs.List.{AllByRecursion, IsDistinct, list_any}
+use Rattle.std.specs.Prelude.{Ok, Err}
+use Rattle.std.proofs.Common.{◌≡◌, ◌⊎◌, ⊎_elim, inl, inr, ℕ, Bool, true, false, cond, ◌||◌, ◌-◌, List, [], ◌∷◌, ◌++◌, All, append-nil, length, map, Option, Some, None, Result, slice_get, slice_set, refl, sym, ap, subst, ◌∙◌, append_assoc, true≢false}
+use Rattle.std.specs.List.{AllByRecursion, IsDistinct}
 use Rattle.std.specs.Str.{bytes_eq}
 use Rattle.std.proofs.lemmas.List.Elements.{All-cons, All-nil}
-use Rattle.std.proofs.lemmas.List.Folds.{list_any-append}
 use Rattle.std.proofs.lemmas.Map.Keys.{IsDistinct-cons}
 use mathlib.Core.List.{map-append}
 use Rattle.std.proofs.lemmas.Slice.Eq.{bytes_eq-Decides}
@@ -22,10 +20,10 @@ use Rattle.zvt_journal.specs.declared.device.DeviceError.{DeviceError}
 use Rattle.zvt_journal.specs.Text.{recovered, IsSettled}
 use Rattle.zvt_kept.specs.declared.past_orders.PastOrder.{PastOrder}
 use Rattle.zvt_kept.specs.declared.recovery.Recovered.{Recovered}
-use Rattle.zvt_kept.specs.KeptTill.{Connects as KeptConnects, Hears as KeptHears, KeptValue, Standing, Writes, both_in, has_failed, with_note}
+use Rattle.zvt_kept.specs.KeptTill.{Connects as KeptConnects, Hears as KeptHears, KeptValue, Standing, Writes, has_failed, with_note}
 use Rattle.zvt_kept.specs.Keeping.{kept_asks, kept_connects, kept_orders}
-use Rattle.zvt_kept.specs.Notes.{is_noted_by, reference_in}
-use Rattle.zvt_kept.specs.PastOrders.{ended, first_noted, followed, held, record_of, runs, starting, starts}
+use Rattle.zvt_kept.specs.Notes.{reference_in}
+use Rattle.zvt_kept.specs.PastOrders.{ended, followed, held, record_of, runs, starting, starts}
 use Rattle.zvt_kept.specs.Records.{Kept, IsRecordOf, ordered, asked, heard, lost, kept_in}
 use Rattle.zvt_kept.proofs.Logged.{whole_text}
 use Rattle.zvt_kept.proofs.Made.{records_are_kept}
@@ -33,8 +31,7 @@ use Rattle.zvt_kept.proofs.PastOrderLemmas.{map_set, starting_one}
 use Rattle.zvt_kept.proofs.Steps.{asked_up, taken_up}
 use Rattle.zvt_service.specs.declared.service.Ungiven.{Ungiven}
 use Rattle.zvt_service.specs.declared.service.Ungiven.TheVariants.{Known, Memory, Till as TillRefused}
-use Rattle.zvt_service.specs.Books.{in_earlier, order_in}
-use Rattle.zvt_service.specs.Service.{Asks, Gives, ServiceValue, is_any_known, is_held, is_known, state_of, unless_failed}
+use Rattle.zvt_service.specs.Service.{Asks, Gives, ServiceValue, is_held, is_known, state_of, unless_failed}
 use Rattle.zvt_service.proofs.Living.{starting_while}
 use Rattle.zvt_service.specs.Lives.{Call, gives, asks, hears, loses, connects, Move, returns, ends_in, ends, IsKnown, IsWhole, Lives, Moves, Reopens, Returns, SentOnce, keys_in, keys_of, one_or_none}
 use Rattle.zvt_service.proofs.Keys.{IsFresh, any_has, any_last, any_more, has_key, is_earlier, keyless, known_by_record, known_is, not_known, or-only, or-right, or-split, order_fresh, own_key, records}
