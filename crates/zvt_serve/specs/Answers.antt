@@ -1,6 +1,6 @@
 -- The answers of orders: their statuses and their JSON.
 use Rattle.std.specs.Prelude.{◌≡◌, refl, ℕ, Bool, true, false, Option, Some, None, List, [], ◌∷◌, ◌++◌, codes, if◌then◌else◌, ◌==◌, ◌||◌}
-use Rattle.std.specs.Fmt.{decimal}
+use Rattle.std.specs.Fmt.{decimal, digits}
 use Rattle.std.specs.List.{flat_map}
 use Rattle.hex.specs.Hex.{encode_upper, encode_with}
 use Rattle.zvt_text.specs.Meanings.{meaning_of}
@@ -136,11 +136,11 @@ event_text key fate =
 a_settled_payment :
     answer_text (Some (codes "sale-2026-000017")) (Pay 1234) (Settled (SettledPaid 7 (Some (0 ∷ 9 ∷ [])))) false
     ≡ codes "{\"amount\":1234,\"key\":\"sale-2026-000017\",\"order\":\"pay\",\"outcome\":\"paid\",\"receipt\":\"0009\",\"reversed\":false,\"settled\":true,\"trace\":7}\n"
-unfolding answer_text encode_with first_members names_part
+unfolding answer_text digits encode_with first_members names_part
 a_settled_payment = refl
 
 no_payment :
     answer_text (Some (codes "sale-2026-000017")) (Pay 1234) (Settled NotPaid) false
     ≡ codes "{\"amount\":1234,\"key\":\"sale-2026-000017\",\"order\":\"pay\",\"outcome\":\"not paid\",\"settled\":true}\n"
-unfolding answer_text encode_with first_members names_part
+unfolding answer_text digits encode_with first_members names_part
 no_payment = refl

@@ -1,3 +1,4 @@
+mod Keys
 pub mod Living
 mod Paid
 mod Rows

@@ -34,7 +34,8 @@ use Rattle.zvt_settle.specs.Settling.{Both}
 use Rattle.zvt_service.specs.Books.{OrderIn, in_earlier, order_in}
 use Rattle.zvt_service.specs.Service.{Asks, Gives, ServiceValue, found_by, is_known, state_of, unless_lost}
 use Rattle.zvt_service.proofs.Living.{heard_settings}
-use Rattle.zvt_service.proofs.Sent.{Adds, Leaves, any_has, at_rest, has_key, known_is, moved, noted_any, one_text, or-right, records, returned_leaves}
+use Rattle.zvt_service.proofs.Keys.{any_has, has_key, known_is, noted_any, or-right, records}
+use Rattle.zvt_service.proofs.Sent.{Adds, Leaves, at_rest, moved, one_text, returned_leaves}
 use Rattle.zvt_service.specs.Lives.{AnswersStay, StaysIn, Call, gives, asks, hears, loses, connects, Move, returns, ends_in, ends, IsWhole, Moves, Reopens, Returns}
 
 -- ---- the first order with a key

@@ -20,7 +20,8 @@ use Rattle.zvt_service.specs.Fates.{fate_as, fate_of, is_payment, is_unclear, is
 use Rattle.zvt_service.specs.Service.{ServiceValue, found_by, is_known, state_of, unless_lost}
 use Rattle.zvt_service.specs.Lives.{IsWhole, VerdictsStay}
 use Rattle.zvt_service.proofs.Rows.{Fixed, all_fixed, before_same}
-use Rattle.zvt_service.proofs.Sent.{Adds, any_has, known_is, moved, or-right, records}
+use Rattle.zvt_service.proofs.Keys.{any_has, known_is, or-right, records}
+use Rattle.zvt_service.proofs.Sent.{Adds, moved}
 use Rattle.zvt_service.proofs.Settled.{Grown, fold_grows, found_more, notes_of, own_settled, settled_after}
 use Rattle.zvt_service.proofs.Stays.{EachStays, Grows, first_stays, lived_more, moved_grows, one_stays, same_found, still_none}
 
