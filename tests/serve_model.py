@@ -39,11 +39,17 @@ class Order:
 
     def __init__(self, wanted, allowed):
         self.wanted, self.allowed, self.text, self.status = wanted, allowed, None, None
-        self.reversed = False
+        self.reversed = self.settled = False
 
     @property
     def is_paid(self):
-        return self.status == 200 and self.wanted[0] == "pay"
+        """Whether the book has it as a payment."""
+        return self.status == 200 and self.wanted[0] == "pay" and not self.settled
+
+    @property
+    def is_unclear(self):
+        """Whether the book has it as an unclear payment, which an ask may have settled."""
+        return self.wanted[0] == "pay" and (self.status == 424 or self.settled)
 
 
 def summary(answer):
@@ -119,7 +125,9 @@ class Round:
         return True
 
     def repeats(self, name, answer, order, replays=True):
-        """The answer of an order that was answered before."""
+        """The answer of an order that was answered before. If it was unclear, an ask of the till may have settled it since."""
+        if order.is_unclear and not order.settled and answer and answer.json and answer.json.get("settled"):
+            self.settles(name, answer, order)
         wanted = {**json.loads(order.text), **({"reversed": order.reversed} if order.is_paid else {})}
         check.count += 1
         if not answer or (answer.status, answer.json) != (order.status, wanted):
@@ -127,9 +135,20 @@ class Round:
         elif replays and answer.headers.get("Idempotent-Replayed") != "true":
             check.differs(name, f"without the header of a repeat: {answer.headers}")
 
+    def settles(self, name, answer, order):
+        """The verdict about an unclear payment: it agrees with the terminal, and stays from now on."""
+        numbers = self.terminal.approved.get(order.wanted[1])
+        words = {"amount": order.wanted[1], "key": answer.json.get("key"), "order": "pay", "settled": True}
+        paid = (200, {**words, "outcome": "paid", "receipt": f"{numbers[1]:04}", "reversed": False, "trace": numbers[0]} if numbers else None)
+        check(f"settled {name}", (answer.status, answer.json), paid if numbers else (402, {**words, "outcome": "not paid"}))
+        order.status, order.text, order.settled = answer.status, answer.text, True
+
     def ends(self, name, answer, key, order):
         """The first answer of an order: from now on it stays."""
-        if self.expects(name, answer, order.allowed):
+        if answer and answer.json and answer.json.get("settled") and (424, "unclear") in order.allowed:
+            check(f"{name}: its key", answer.json.get("key"), key)
+            self.settles(name, answer, order)
+        elif self.expects(name, answer, order.allowed):
             order.status, order.text = answer.status, answer.text
             members = answer.json
             if members["key"] != key or members.get("amount") != (order.wanted[1] if order.wanted[0] == "pay" else None):
@@ -351,7 +370,7 @@ class Round:
         unclear = {row["unclear"]["ref"]: row["unclear"]["amount"] for row in rows if "unclear" in row}
         wanted = {key: (order.wanted[1], json.loads(order.text)["trace"], order.reversed) for key, order in self.orders.items() if order.is_paid}
         check("the book's payments", booked, wanted)
-        check("the book's unclear payments", unclear, {key: order.wanted[1] for key, order in self.orders.items() if order.status == 424 and order.wanted[0] == "pay"})
+        check("the book's unclear payments", unclear, {key: order.wanted[1] for key, order in self.orders.items() if order.is_unclear})
 
     def kills_it(self):
         self.kills += 1
@@ -408,7 +427,7 @@ def main():
             round.run()
             left -= A_BOOK
             sent, kills = sent + len(round.terminal.sent), kills + round.kills
-            outcomes.update(json.loads(order.text)["outcome"] for order in round.orders.values() if order.text)
+            outcomes.update(("settled as " if order.settled else "") + json.loads(order.text)["outcome"] for order in round.orders.values() if order.text)
     print(f"{check.verdict}: {REQUESTS} requests, {check.count} comparisons, {sent} payments at the terminal, {kills} kills, answers {dict(outcomes)}, {time.monotonic() - began:.0f} s")
     return check.status
 
