@@ -41,24 +41,24 @@ pub(crate) struct Reacted {
 
 /// The till, its line to the terminal, and what is seen of the line.
 #[derive(Drop)]
-pub(crate) struct Desk<'s, 'h, D: Device, H> {
+pub(crate) struct Desk<'s, 'w, 'h, D: Device, H> {
     pub(crate) alloc: Global,
     pub(crate) service: &'s mut Service<D>,
     pub(crate) line: Line,
-    pub(crate) watch: Watch<'h, H>,
+    pub(crate) watch: &'w mut Watch<'h, H>,
     /// The number of orders whose ends are in the log.
     reported: usize,
     /// A client asked the service to stop.
     was_stopped: bool,
 }
 
-impl<'s, 'h, D: Device, H: Host> Desk<'s, 'h, D, H> {
+impl<'s, 'w, 'h, D: Device, H: Host> Desk<'s, 'w, 'h, D, H> {
     pub(crate) fn new(
         alloc: Global,
         service: &'s mut Service<D>,
         line: Line,
-        watch: Watch<'h, H>,
-    ) -> Desk<'s, 'h, D, H> {
+        watch: &'w mut Watch<'h, H>,
+    ) -> Desk<'s, 'w, 'h, D, H> {
         let reported = service.orders().len();
         Desk {
             alloc,
@@ -151,7 +151,8 @@ impl<'s, 'h, D: Device, H: Host> Desk<'s, 'h, D, H> {
         now: Moment,
     ) -> Result<Reaction, AllocError> {
         let wanted = self.wanted(ask);
-        match Decision::about(self.service, self.is_stopping(), key, wanted) {
+        let is_stopping = self.is_stopping();
+        match Decision::about(self.service, is_stopping, key, wanted) {
             Decision::Refuse(trouble) => self.refused(trouble),
             Decision::Replay => self.replayed(key),
             Decision::Join => self.joined(key, is_async),
@@ -174,7 +175,10 @@ impl<'s, 'h, D: Device, H: Host> Desk<'s, 'h, D, H> {
         let Some(note) = keyed_note(clock, key) else {
             return Err(Trouble::UnknownKey);
         };
-        match self.line.order(self.alloc, self.service, &mut self.watch, order, &note, now) {
+        match self
+            .line
+            .order(self.alloc, self.service, self.watch, order, &note, now)
+        {
             Ok(()) => Ok(()),
             Err(why) => Err(trouble_of(why)),
         }
@@ -215,7 +219,7 @@ impl<'s, 'h, D: Device, H: Host> Desk<'s, 'h, D, H> {
         let note = timed_note(clock);
         match self
             .line
-            .ask(self.alloc, self.service, &mut self.watch, &note, now)
+            .ask(self.alloc, self.service, self.watch, &note, now)
         {
             Ok(()) => self.accepted(),
             Err(why) => self.refused(trouble_of(Ungiven::Till(why))),
@@ -227,7 +231,7 @@ impl<'s, 'h, D: Device, H: Host> Desk<'s, 'h, D, H> {
         match self.line.order(
             self.alloc,
             self.service,
-            &mut self.watch,
+            self.watch,
             &Order::Cancel,
             &note,
             now,
@@ -269,7 +273,7 @@ impl<'s, 'h, D: Device, H: Host> Desk<'s, 'h, D, H> {
 
     /// Gives up the line to the terminal.
     pub(crate) fn close(&mut self) {
-        self.line.close(self.service, &mut self.watch);
+        self.line.close(self.service, self.watch);
     }
 
     /// Returns whether an order runs whose end somebody may wait for.

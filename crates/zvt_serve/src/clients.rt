@@ -108,7 +108,7 @@ impl Clients {
         &mut self,
         clock: &C,
         guards: &Guards,
-        desk: &mut Desk<'_, '_, D, H>,
+        desk: &mut Desk<'_, '_, '_, D, H>,
         now: Moment,
     ) {
         for place in self.places.iter_mut() {

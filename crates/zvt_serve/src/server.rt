@@ -91,8 +91,9 @@ impl Server {
         host: &mut H,
     ) -> io::Result<()> {
         let stopwatch = Stopwatch::start(rt)?;
-        let watch = Watch::new(self.alloc, self.terminal.form, host);
-        let mut desk = Desk::new(self.alloc, service, Line::new(self.terminal), watch);
+        let terminal = self.terminal;
+        let mut watch = Watch::new(self.alloc, terminal.form, host);
+        let mut desk = Desk::new(self.alloc, service, Line::new(terminal), &mut watch);
         let ended = self.serve(rt, guards, &mut desk, &stopwatch);
         desk.close();
         ended
@@ -103,11 +104,12 @@ impl Server {
         &mut self,
         rt: &R,
         guards: &Guards,
-        desk: &mut Desk<'_, '_, D, H>,
+        desk: &mut Desk<'_, '_, '_, D, H>,
         stopwatch: &Stopwatch,
     ) -> io::Result<()> {
         for _turn in 0..u64::MAX {
-            self.wait(&mut desk.line, desk.watch.log.last())?;
+            let last = desk.watch.log.last();
+            self.wait(&mut desk.line, last)?;
             let now = stopwatch.now(rt)?;
             self.turn(rt, guards, desk, now);
             if self.is_done(desk, now) {
@@ -140,26 +142,20 @@ impl Server {
         &mut self,
         rt: &R,
         guards: &Guards,
-        desk: &mut Desk<'_, '_, D, H>,
+        desk: &mut Desk<'_, '_, '_, D, H>,
         now: Moment,
     ) {
         if self.has_arrivals {
             self.has_arrivals = self.clients.accept(&self.poll, &self.listener, now);
         }
-        desk.line.turn(
-            rt,
-            self.alloc,
-            &self.poll,
-            desk.service,
-            &mut desk.watch,
-            now,
-        );
+        desk.line
+            .turn(rt, self.alloc, &self.poll, desk.service, desk.watch, now);
         desk.report_ends();
         self.clients.turn(rt, guards, desk, now);
     }
 
     /// Returns whether the service stops now: no order is running, and each client has its answer or had time for it.
-    fn is_done<D: Device, H: Host>(&mut self, desk: &Desk<'_, '_, D, H>, now: Moment) -> bool {
+    fn is_done<D: Device, H: Host>(&mut self, desk: &Desk<'_, '_, '_, D, H>, now: Moment) -> bool {
         if !desk.is_stopping() || desk.has_running() {
             return false;
         }

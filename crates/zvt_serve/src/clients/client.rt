@@ -126,7 +126,7 @@ impl Client {
         &mut self,
         clock: &C,
         guards: &Guards,
-        desk: &mut Desk<'_, '_, D, H>,
+        desk: &mut Desk<'_, '_, '_, D, H>,
         now: Moment,
     ) -> bool {
         self.settle(clock, guards, desk, now)

@@ -22,7 +22,7 @@ impl Client {
         &mut self,
         clock: &C,
         guards: &Guards,
-        desk: &mut Desk<'_, '_, D, H>,
+        desk: &mut Desk<'_, '_, '_, D, H>,
         now: Moment,
     ) -> bool {
         match std::mem::replace(&mut self.waiting, Waiting::Nothing) {
@@ -50,7 +50,7 @@ impl Client {
         &mut self,
         clock: &C,
         guards: &Guards,
-        desk: &mut Desk<'_, '_, D, H>,
+        desk: &mut Desk<'_, '_, '_, D, H>,
         request: Request,
         now: Moment,
     ) -> bool {
@@ -74,7 +74,7 @@ impl Client {
         &mut self,
         clock: &C,
         guards: &Guards,
-        desk: &mut Desk<'_, '_, D, H>,
+        desk: &mut Desk<'_, '_, '_, D, H>,
         now: Moment,
     ) -> bool {
         for _step in 0..AT_ONCE {
@@ -100,7 +100,7 @@ impl Client {
         &mut self,
         clock: &C,
         guards: &Guards,
-        desk: &mut Desk<'_, '_, D, H>,
+        desk: &mut Desk<'_, '_, '_, D, H>,
         step: Step,
         now: Moment,
     ) -> bool {
@@ -139,7 +139,7 @@ impl Client {
         &mut self,
         clock: &C,
         guards: &Guards,
-        desk: &mut Desk<'_, '_, D, H>,
+        desk: &mut Desk<'_, '_, '_, D, H>,
         request: Request,
         now: Moment,
     ) -> bool {
@@ -207,7 +207,7 @@ impl Client {
     /// Sends a listener the events that it has not been sent, and a sign of life from time to time.
     pub(super) fn send_events<D: Device, H: Host>(
         &mut self,
-        desk: &Desk<'_, '_, D, H>,
+        desk: &Desk<'_, '_, '_, D, H>,
         now: Moment,
     ) -> bool {
         let Waiting::Events(first) = &self.waiting else {
