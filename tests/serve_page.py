@@ -178,6 +178,8 @@ def own_page(browser, service, terminal):
     browser.shows("and gets the answer", browser.text("outcome"), "Paid.")
     browser.pays(amount(15, "approves"))
     browser.shows("and pays again", "document.querySelectorAll('#book tr').length", 5)
+    browser.shows("the slip has the line that the terminal printed", browser.text("slip") + ".trim()", f"APPROVED {amount(15, 'approves')}")
+    browser.shows("the dialogue ends with the till's answer", "document.querySelector('#dialogue li:last-child').textContent", "till: Ack")
     wanted = [amount(11, "approves"), amount(12, "declines"), amount(13, "malformed"), amount(14, "held"), amount(15, "approves")]
     check("one order for each at the terminal", (terminal.sent, len(terminal.taken)), (wanted, 1))
     # (the console has a line for each answer from 400 on)
@@ -233,6 +235,7 @@ def main():
     with tempfile.TemporaryDirectory(ignore_cleanup_errors=True) as folder:
         folder = pathlib.Path(folder)
         terminal = Moody()
+        terminal.prints = True
         service = Service(ZVT, folder, terminal.port)
         service.until((200,), "page-is-registered", amount(10, "approves"))
         terminal.sent.clear()

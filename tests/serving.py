@@ -188,6 +188,7 @@ class Moody(Terminal):
     def __init__(self):
         self.sent, self.approved, self.taken, self.closed = [], {}, [], 0
         self.release, self.refuses_next, self.last, self.repeats = threading.Event(), False, None, True
+        self.prints = False  # whether it sends a line to print for each approval
         super().__init__()
 
     def say(self, line, *texts):
@@ -249,6 +250,9 @@ class Moody(Terminal):
         self.say(line, status, *([status] if mood == "twice" else []))
         if mood == "breaks":
             return False
+        if self.prints:
+            text = f"\0APPROVED {amount}".encode()
+            self.say(line, f"06D1{len(text):02X}{text.hex()}")
         self.say(line, "060F00")
         return True
 
